@@ -1,0 +1,5 @@
+pub mod Filling
+pub mod FrameSize
+pub mod Placing
+pub mod BufInside
+pub mod Lending

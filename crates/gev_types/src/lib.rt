@@ -1,0 +1,18 @@
+//! Frames, records of filled buffers, and the limits that the whole stack keeps.
+#![tactic(auto)]
+
+mod block_record;
+mod buf;
+mod bytes;
+mod frame;
+mod limits;
+mod memory;
+mod peer;
+
+pub use block_record::Record;
+pub use buf::Buf;
+pub use bytes::Bytes;
+pub use frame::{Frame, Shape, frame_size};
+pub use limits::{MAX_BUFFER_SIZE, MAX_PACKET_ID, MAX_PAYLOAD_SIZE, MIN_PAYLOAD_SIZE, PLACES};
+pub use memory::NoMemory;
+pub use peer::Peer;
