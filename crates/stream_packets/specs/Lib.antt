@@ -1,0 +1,3 @@
+pub mod Packets
+pub mod FramePackets
+pub mod Sent
