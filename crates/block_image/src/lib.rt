@@ -1,0 +1,2 @@
+//! Which packets of a block are kept, and what they give in its buffer.
+#![tactic(auto)]
