@@ -1,0 +1,18 @@
+-- What an object of the outside tells of its bytes. None means that it tells nothing.
+use Rattle.std.specs.Prelude.{◌≡◌, ⊤, ℕ, List, [], ◌++◌, Option, Some, None}
+
+-- These bytes came from the front of what was left.
+abbrev pub Gives : Option (List ℕ) → Option (List ℕ) → List ℕ → Type 0
+Gives None new bytes = ⊤
+Gives (Some old) None bytes = ⊥
+Gives (Some old) (Some new) bytes = old ≡ bytes ++ new
+
+-- nothing was left
+abbrev pub IsSpent : Option (List ℕ) → Type 0
+IsSpent None = ⊤
+IsSpent (Some left) = left ≡ []
+
+-- These bytes were written after what stood there.
+abbrev pub Appends : Option (List ℕ) → Option (List ℕ) → List ℕ → Type 0
+Appends None new bytes = ⊤
+Appends (Some old) new bytes = new ≡ Some (old ++ bytes)
