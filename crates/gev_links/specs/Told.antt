@@ -1,9 +1,9 @@
--- What an object of the outside tells of its bytes. None means that it tells nothing.
+-- What an object of the outside tells of its bytes. None means that it tells nothing, then or later.
 use Rattle.std.specs.Prelude.{◌≡◌, ⊤, ℕ, List, [], ◌++◌, Option, Some, None}
 
 -- These bytes came from the front of what was left.
 abbrev pub Gives : Option (List ℕ) → Option (List ℕ) → List ℕ → Type 0
-Gives None new bytes = ⊤
+Gives None new bytes = new ≡ None
 Gives (Some old) None bytes = ⊥
 Gives (Some old) (Some new) bytes = old ≡ bytes ++ new
 
@@ -14,5 +14,5 @@ IsSpent (Some left) = left ≡ []
 
 -- These bytes were written after what stood there.
 abbrev pub Appends : Option (List ℕ) → Option (List ℕ) → List ℕ → Type 0
-Appends None new bytes = ⊤
+Appends None new bytes = new ≡ None
 Appends (Some old) new bytes = new ≡ Some (old ++ bytes)

@@ -1,0 +1,16 @@
+pub mod Places
+pub mod Boards
+pub mod Counts
+pub mod Keeps
+pub mod Runs
+pub mod Handouts
+pub mod Others
+pub mod Ended
+pub mod Generations
+pub mod Rising
+pub mod Room
+pub mod Forms
+pub mod Answers
+pub mod Prefixes
+pub mod Handed
+pub mod Worked

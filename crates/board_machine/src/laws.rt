@@ -1,0 +1,111 @@
+//! What the definitions promise: each function here does nothing, and its contract is a law.
+
+ghost use Rattle.board_machine.specs.Laws.{EachActHasOneAnswer, NoOtherActHasAnswer, OwnersAreCounted, EachActKeepsOwners};
+ghost use Rattle.board_machine.specs.Laws.{RunsAreOwned, RunsAreLegal, RunsHandOut, TakesHandFirst};
+ghost use Rattle.board_machine.specs.Laws.{ActsLeaveOthers, SplitsAddActors, SplitsAreCounted, JoinsEndActors, EndedActorsDoNothing, LoneActorsActNext};
+ghost use Rattle.board_machine.specs.Laws.{GenerationsNeverFall, PlacesRise, ClaimsAreLowest, HandsHoldPlaces};
+ghost use Rattle.board_machine.specs.Machine.{empty_board};
+ghost use Rattle.board_machine.specs.Owners.{IsOwned};
+ghost use Rattle.board_machine.specs.Histories.{Run};
+ghost use Rattle.board_machine.specs.Worked.{worked};
+
+/// Each act that may stand in a state of the board has exactly one answer there.
+pub fn each_act_has_one_answer()
+    ensures { EachActHasOneAnswer }
+{}
+
+/// An act that may not stand in a state of the board has no answer there.
+pub fn no_other_act_has_an_answer()
+    ensures { NoOtherActHasAnswer }
+{}
+
+/// One owner for each place, said by cases and said by counting, are the same.
+pub fn owners_are_counted()
+    ensures { OwnersAreCounted }
+{}
+
+/// On the board before any act each place has one owner: nobody.
+pub fn empty_board_has_owners()
+    ensures { IsOwned empty_board }
+{}
+
+/// Each act keeps one owner for each place.
+pub fn each_act_keeps_owners()
+    ensures { EachActKeepsOwners }
+{}
+
+/// After each prefix of a run each place has one owner.
+pub fn runs_are_owned()
+    ensures { RunsAreOwned }
+{}
+
+/// In a run the buffers leave the output in the order of their fills, and after a close none is
+/// filled or taken.
+pub fn runs_are_legal()
+    ensures { RunsAreLegal }
+{}
+
+/// The output holds what was filled and not yet removed, with the content that each fill gave it.
+pub fn runs_hand_out()
+    ensures { RunsHandOut }
+{}
+
+/// A take hands out the output's first buffer, with the bytes and the record of its fill.
+pub fn takes_hand_first()
+    ensures { TakesHandFirst }
+{}
+
+/// An act of one actor leaves the hands of every other, and the words of the places in them.
+pub fn acts_leave_others()
+    ensures { ActsLeaveOthers }
+{}
+
+/// A split adds an actor with empty hands, under a number that was no actor's.
+pub fn splits_add_actors()
+    ensures { SplitsAddActors }
+{}
+
+/// One number is given out for the first actor, and one for each split.
+pub fn splits_are_counted()
+    ensures { SplitsAreCounted }
+{}
+
+/// An actor that is joined into another has ended.
+pub fn joins_end_actors()
+    ensures { JoinsEndActors }
+{}
+
+/// An ended actor does nothing more.
+pub fn ended_actors_do_nothing()
+    ensures { EndedActorsDoNothing }
+{}
+
+/// Where an actor is the only one, the next entry of any run is its own.
+pub fn lone_actors_act_next()
+    ensures { LoneActorsActNext }
+{}
+
+/// A place's generation never falls, and each generation has one size.
+pub fn generations_never_fall()
+    ensures { GenerationsNeverFall }
+{}
+
+/// The pool and the hands of each actor list their places lowest first, each once.
+pub fn places_rise()
+    ensures { PlacesRise }
+{}
+
+/// A claim gets the lowest place of the pool.
+pub fn claims_are_lowest()
+    ensures { ClaimsAreLowest }
+{}
+
+/// What is in an actor's hands is one of the 15 places.
+pub fn hands_hold_places()
+    ensures { HandsHoldPlaces }
+{}
+
+/// The history of `specs/Worked.antt`, with every kind of act and most of the refusals, is a run.
+pub fn worked_history_runs()
+    ensures { Run worked }
+{}

@@ -1,0 +1,28 @@
+//! Laws of the definitions. Each function only carries its statement.
+
+ghost use Rattle.gvsp_wire.specs.Laws.{OneAnswer, ReadingIsExact, PlainIsRead, PlainIsOne, PacketsHaveSpellings};
+
+/// Any bytes are exactly one packet or have exactly one refusal, and never both.
+pub fn one_answer()
+    ensures { OneAnswer }
+{}
+
+/// `reading` computes what the relations `Stream` and `Refused` say.
+pub fn reading_is_exact()
+    ensures { ReadingIsExact }
+{}
+
+/// The plain spelling of a packet is a datagram of that packet.
+pub fn plain_is_read()
+    ensures { PlainIsRead }
+{}
+
+/// Two packets with one plain spelling are one.
+pub fn plain_is_one()
+    ensures { PlainIsOne }
+{}
+
+/// Each packet that some bytes are has a plain spelling.
+pub fn packets_have_spellings()
+    ensures { PacketsHaveSpellings }
+{}

@@ -1,0 +1,23 @@
+//! The packets of an image stream on the wire: GVSP with extended identifiers.
+//!
+//! `specs/Wire.antt` says which bytes are which packet, and which refusal they have where they are
+//! none. `specs/Reading.antt` computes the same answer, `specs/Plain.antt` has the one plain spelling
+//! of each packet, and `specs/View.antt` says what packet value a lent packet stands for.
+#![tactic(auto)]
+
+mod fields;
+mod flags;
+mod form;
+mod header;
+pub mod laws;
+mod packet;
+mod reading;
+#[cfg(test)]
+mod tests;
+mod wire_error;
+
+pub use flags::HeadFlags;
+pub use packet::Packet;
+pub use reading::parse;
+pub use stream_packets::{Head, LeaderInfo};
+pub use wire_error::WireError;
