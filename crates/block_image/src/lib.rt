@@ -1,2 +1,24 @@
 //! Which packets of a block are kept, and what they give in its buffer.
+//!
+//! `specs/Kept.antt` says which packets are kept, and `specs/Image.antt` what they give. The laws
+//! say of both, in words of their own, what the layers above rest on. `block_image` is the plain,
+//! slow program of the same definitions, with which later ones are compared.
 #![tactic(auto)]
+
+mod keeping;
+mod laws;
+mod looking;
+mod plain;
+mod records;
+#[cfg(test)]
+mod tests;
+
+pub use keeping::{does_fit, is_kept, kept_packets};
+pub use laws::{
+    all_packets_agree, all_packets_complete, bytes_are_in_place, complete_is_frame,
+    ignores_leader_info, keeps_in_order, keeps_no_id_twice, keeps_one_trailer, keeps_the_first,
+    keeps_what_fits, misses_nothing, packets_agree,
+};
+pub use looking::is_refusal;
+pub use plain::block_image;
+pub use records::{count_payloads, has_its_bytes, start_of_payload};

@@ -1,13 +1,31 @@
-// A library with one function.
+//! The program's top call: what `gevacq` does with its words, its input and its output.
 #![tactic(auto)]
 
-ghost use Rattle.std.specs.Prelude.{◌≡◌};
-ghost use Rattle.gev_top.specs.Echo.{echo_of};
+mod accepted;
+mod acquisition;
+mod assembling;
+mod assembly;
+mod counts;
+mod feeding;
+mod finishing;
+mod form;
+mod hearing;
+mod line;
+mod packets;
+mod reader;
+mod reading;
+mod report;
+mod running;
+mod script;
+mod sending;
+mod span;
+mod stage;
+mod status;
+mod text;
+mod top;
+mod usage;
+mod verdict;
+mod writing;
 
-// The `ensures` clause is the contract: what `echo` returns is `echo_of` of its argument, a definition
-// in `specs/Echo.antt`, which a caller's clause can cite too.
-pub fn echo(x: usize) -> usize
-    ensures { result ≡ echo_of x }
-{
-    x
-}
+pub use status::Status;
+pub use top::gevacq_top;

@@ -1,0 +1,15 @@
+pub mod Bools
+pub mod Lists
+pub mod Covering
+pub mod KeptLemmas
+pub mod IsKept
+pub mod ImageLemmas
+pub mod CountLemmas
+pub mod Completeness
+pub mod Members
+pub mod KeptLawLemmas
+pub mod FramePieces
+pub mod FrameKept
+pub mod OneBlockLemmas
+pub mod AllPacketsLemmas
+pub mod PlainSteps

@@ -1,0 +1,13 @@
+pub mod Numbers
+pub mod Judged
+pub mod Tellings
+pub mod Weights
+pub mod Scripts
+pub mod Assemblies
+pub mod Finishes
+pub mod ReadPackets
+pub mod Accounts
+pub mod Joins
+pub mod Sendings
+pub mod Headlines
+pub mod Exacts

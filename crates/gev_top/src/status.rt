@@ -1,0 +1,53 @@
+use std::fmt;
+
+/// How a run of the program ended.
+#[derive(Clone, Copy, Debug, PartialEq, Eq)]
+pub enum Status {
+    /// The script was read to its `end` line, and its report was written.
+    Done,
+    /// The words aren't a command line.
+    Usage {
+        /// The place, from 0, of the first word that isn't understood, or the number of words where
+        /// more are wanted.
+        place: u32,
+    },
+    /// Reading failed.
+    ReadFault,
+    /// Writing failed.
+    WriteFault,
+    /// Memory ran out.
+    NoMemory,
+    /// A line of the script isn't of the form that is built.
+    Unbuilt {
+        /// The line's number, from 1.
+        line: u64,
+    },
+}
+
+impl Status {
+    /// The exit status of the program.
+    pub fn number(&self) -> u8 {
+        match self {
+            Status::Done => 0,
+            Status::Usage { .. } => 2,
+            Status::ReadFault => 4,
+            Status::WriteFault => 5,
+            Status::NoMemory => 7,
+            Status::Unbuilt { .. } => 8,
+        }
+    }
+}
+
+/// The text of a fault, as it stands on standard error. `Done` has no text there.
+impl fmt::Display for Status {
+    fn fmt<W: fmt::Write>(&self, f: &mut fmt::Formatter<W>) -> fmt::Result {
+        match self {
+            Status::Done => write!(f, "done"),
+            Status::Usage { place } => write!(f, "word {place} isn't understood"),
+            Status::ReadFault => write!(f, "reading failed"),
+            Status::WriteFault => write!(f, "writing failed"),
+            Status::NoMemory => write!(f, "out of memory"),
+            Status::Unbuilt { line } => write!(f, "line {line} isn't built yet"),
+        }
+    }
+}

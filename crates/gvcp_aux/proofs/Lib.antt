@@ -1,0 +1,3 @@
+pub mod Resends
+pub mod Pendings
+pub mod Written

@@ -1,0 +1,85 @@
+-- What is read of the body of PENDING is what the relation says.
+use Rattle.std.specs.Prelude.{◌↔◌}
+use Rattle.std.proofs.Common.{◌≡◌, ℕ, Bool, true, false, ◌&&◌, cond, eqb, List, [], ◌∷◌, ◌++◌, length, Option, Some, None, refl, ap, subst, ◌∙◌, arith, inl, inr}
+use Rattle.std.proofs.lemmas.Bool.{cond_both, and_parts, and_cases, eqb-true, eqb-false, eq-eqb, ne_eqb}
+use Rattle.gvcp_wire.specs.Messages.{PlainAck}
+use Rattle.gvcp_wire.specs.Reading.{number_at}
+use Rattle.gvcp_wire.proofs.Pieces.{two_of}
+use Rattle.gvcp_aux.specs.Bodies.{IsPendingBody, IsPending, IsNoPending, no_pending, no_pending_size}
+use Rattle.gvcp_aux.specs.Reading.{pending_reading}
+use Rattle.gvcp_aux.specs.Laws.{ReadsPending}
+
+-- ---- the body
+
+body_at : (body : List ℕ) → length body ≡ 4 → IsPendingBody body (number_at 2 2 body)
+body_at [] h = absurd (omega arith)
+body_at (a ∷ []) h = absurd (omega arith)
+body_at (a ∷ b ∷ time) h = record { reserved = a ∷ b ∷ []; time_field = time; pieces = refl; free = refl; time_is = record { wide = omega arith; holds = refl } }
+
+record HasParts (body : List ℕ) (time : ℕ) : Type 0 where
+  pub whole : length body ≡ 4
+  pub time_is : number_at 2 2 body ≡ time
+
+body_cells : (xs time : List ℕ) (a b : ℕ) → xs ≡ a ∷ b ∷ [] → xs ++ time ≡ a ∷ b ∷ time
+body_cells xs time a b p = rw p refl
+
+parts_of : (body : List ℕ) (time : ℕ) → IsPendingBody body time → HasParts body time
+parts_of body time h =
+    let x = two_of h.reserved h.free in
+    let e : body ≡ x.0 ∷ x.1 ∷ h.time_field = h.pieces ∙ body_cells h.reserved h.time_field x.0 x.1 x.2 in
+    record { whole = omega (arith, ap length e, h.time_is.wide); time_is = ap (number_at 2 2) e ∙ h.time_is.holds }
+
+-- ---- the reading
+
+abbrev Says : PlainAck → Option ℕ → Type 0
+Says ack (Some time) = IsPending ack time
+Says ack None = IsNoPending ack
+
+says : (ack : PlainAck) → Says ack (pending_reading ack)
+says ack =
+    let code = eqb ack.code 137 in
+    let size = eqb (length ack.body) 4 in
+    cond_both (code && size) (Some (number_at 2 2 ack.body)) None (Says ack)
+    (λ e.
+    let t = and_parts code size e in
+    record { code = eqb-true ack.code 137 t.0; spelled = body_at ack.body (eqb-true (length ack.body) 4 t.1) })
+    (λ e. elim (and_cases code size e) [
+      | inl c ↦ no_pending (eqb-false ack.code 137 c)
+      | inr s ↦ no_pending_size (eqb-false (length ack.body) 4 s)
+    ])
+
+abbrev read_if : Bool → Bool → ℕ → Option ℕ
+read_if code size time = cond (code && size) (Some time) None
+
+reads : (ack : PlainAck) (time : ℕ) → IsPending ack time → pending_reading ack ≡ Some time
+reads ack time h =
+    let p = parts_of ack.body time h.spelled in
+    let size = eqb (length ack.body) 4 in
+    ap (λ (b : Bool). read_if b size (number_at 2 2 ack.body)) (eq-eqb ack.code 137 h.code)
+    ∙ ap (λ (b : Bool). read_if true b (number_at 2 2 ack.body)) (eq-eqb (length ack.body) 4 p.whole)
+    ∙ ap (read_if true true) p.time_is
+
+none_without_size : (code : Bool) (time : ℕ) → read_if code false time ≡ None
+none_without_size true time = refl
+none_without_size false time = refl
+
+reads_none : (ack : PlainAck) → IsNoPending ack → pending_reading ack ≡ None
+reads_none ack (no_pending n) = rw (ne_eqb ack.code 137 n) refl
+reads_none ack (no_pending_size n) =
+    let code = eqb ack.code 137 in
+    ap (λ (b : Bool). read_if code b (number_at 2 2 ack.body)) (ne_eqb (length ack.body) 4 n) ∙ none_without_size code (number_at 2 2 ack.body)
+
+-- ---- the law
+
+pub reads_pending : (ack : PlainAck) → ReadsPending ack
+reads_pending ack = record {
+  given = λ time. (λ e. subst (Says ack) e (says ack), reads ack time);
+  none = (λ e. subst (Says ack) e (says ack), reads_none ack);
+}
+
+-- what a function gave whose answer is the reading
+pub given_by : (ack : PlainAck) (r : Option ℕ) → r ≡ pending_reading ack → (time : ℕ) → (r ≡ Some time) ↔ IsPending ack time
+given_by ack r e time = rw e ((reads_pending ack).given time)
+
+pub none_by : (ack : PlainAck) (r : Option ℕ) → r ≡ pending_reading ack → (r ≡ None) ↔ IsNoPending ack
+none_by ack r e = rw e (reads_pending ack).none

@@ -1,0 +1,5 @@
+pub mod Pieces
+pub mod Forms
+pub mod Commands
+pub mod Answers
+pub mod Written

@@ -1,0 +1,62 @@
+-- Which bytes are which acknowledge, and which bytes are none (GigE Vision 2.0, GVCP acknowledge header).
+use Rattle.std.specs.Prelude.{◌≡◌, ◌≢◌, ℕ, ◌-◌, ◌^◌, ◌<◌, ◌≤◌, List, ◌++◌, length, min}
+use Rattle.byteorder.specs.Endian.{big_bytes}
+use Rattle.gvcp_wire.specs.declared.message.ControlError.{ControlError}
+use Rattle.gvcp_wire.specs.declared.message.ControlError.TheVariants.{Short, Key, ZeroReq, Length, Form}
+use Rattle.gvcp_wire.specs.Fields.{IsField}
+use Rattle.gvcp_wire.specs.Messages.{PlainAck}
+
+-- The bytes are the acknowledge's header, with this length, and its body.
+pub record IsAnswerOf (bytes : List ℕ) (ack : PlainAck) (len : ℕ) : Type 0 where
+  pub status_field : List ℕ
+  pub code_field : List ℕ
+  pub length_field : List ℕ
+  pub request_field : List ℕ
+  pub pieces : bytes ≡ status_field ++ code_field ++ length_field ++ request_field ++ ack.body
+  pub status_is : IsField 2 ack.status status_field
+  pub code_is : IsField 2 ack.code code_field
+  pub length_is : IsField 2 len length_field
+  pub request_is : IsField 2 ack.req request_field
+
+-- ---- the wire relation of acknowledges
+
+pub record Answer (bytes : List ℕ) (ack : PlainAck) : Type 0 where
+  pub header : IsAnswerOf bytes ack (length ack.body)
+  pub request : 1 ≤ ack.req
+
+-- ---- refusals, each where the earlier ones don't hold
+
+pub record AnswersNoRequest (bytes : List ℕ) : Type 0 where
+  pub ack : PlainAck
+  pub len : ℕ
+  pub header : IsAnswerOf bytes ack len
+  pub zero : ack.req ≡ 0
+
+-- The number of bytes after the header is told up to the largest of 32 bits.
+pub record AnswersOtherLength (bytes : List ℕ) (field real : ℕ) : Type 0 where
+  pub ack : PlainAck
+  pub header : IsAnswerOf bytes ack field
+  pub request : 1 ≤ ack.req
+  pub wrong : field ≢ length ack.body
+  pub told : real ≡ min (length ack.body) (2 ^ 32 - 1)
+
+abbrev pub AnswerRefused : List ℕ → ControlError → Type 0
+AnswerRefused bytes (Short len) = (length bytes < 8) × (len ≡ length bytes)
+AnswerRefused bytes (Key key) = ⊥
+AnswerRefused bytes ZeroReq = AnswersNoRequest bytes
+AnswerRefused bytes (Length field real) = AnswersOtherLength bytes field real
+AnswerRefused bytes (Form head) = ⊥
+
+-- ---- the plain spelling
+
+abbrev pub plain_ack : PlainAck → List ℕ
+plain_ack ack =
+    big_bytes 2 ack.status ++ big_bytes 2 ack.code ++ big_bytes 2 (length ack.body) ++ big_bytes 2 ack.req ++ ack.body
+
+-- The numbers are within their fields, the length's too.
+pub record IsAck (ack : PlainAck) : Type 0 where
+  pub status : ack.status < 2 ^ 16
+  pub code : ack.code < 2 ^ 16
+  pub req : ack.req < 2 ^ 16
+  pub request : 1 ≤ ack.req
+  pub fits : length ack.body < 2 ^ 16

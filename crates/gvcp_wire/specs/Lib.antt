@@ -1,0 +1,10 @@
+pub mod Codes
+pub mod Flags
+pub mod Status
+pub mod Fields
+pub mod Messages
+pub mod Control
+pub mod Answer
+pub mod Reading
+pub mod Laws
+pub mod Writing

@@ -1,0 +1,28 @@
+//! The messages of GVCP, the control protocol of GigE Vision 2.0: commands and acknowledges as
+//! bytes and as values, both ways.
+//!
+//! `specs/Control.antt` says which bytes are which command and which bytes are none, and
+//! `specs/Answer.antt` says the same of acknowledges. `specs/Reading.antt` computes what a parser
+//! gives, and the functions of `laws` tie the two. No call takes memory: bodies are lent.
+#![tactic(auto)]
+
+pub mod codes;
+mod flags;
+mod laws;
+mod message;
+mod reading;
+mod status;
+mod writing;
+
+pub use flags::{CommandFlags, has_extended_ids};
+pub use laws::{
+    ack_reading_is_the_relation, bytes_are_one_ack_or_refused, bytes_are_one_command_or_refused,
+    command_reading_is_the_relation, written_ack_is_read, written_command_is_read,
+};
+pub use message::{Ack, Command, CommandHead, ControlError};
+pub use reading::{parse_ack, parse_command};
+pub use status::Status;
+pub use writing::{write_ack, write_command};
+
+#[cfg(test)]
+mod tests;
