@@ -1,3 +1,6 @@
+ghost use Rattle.std.specs.Prelude.{◌≡◌};
+ghost use Rattle.gev_top.specs.ExitStatus.{exit_status};
+
 use std::fmt;
 
 /// How a run of the program ended.
@@ -26,7 +29,9 @@ pub enum Status {
 
 impl Status {
     /// The exit status of the program.
-    pub fn number(&self) -> u8 {
+    pub fn number(&self) -> u8
+        ensures { result ≡ exit_status self.now }
+    {
         match self {
             Status::Done => 0,
             Status::Usage { .. } => 2,

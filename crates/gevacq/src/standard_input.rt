@@ -1,4 +1,4 @@
-ghost use Rattle.std.specs.Prelude.{None};
+ghost use Rattle.std.specs.Prelude.{◌≡◌, None};
 
 use gev_links::{Failed, Source};
 use std::io::Read;
@@ -11,7 +11,9 @@ pub struct StandardInput<R: Read + Drop> {
 }
 
 impl<R: Read + Drop> StandardInput<R> {
-    pub fn new(reader: R) -> StandardInput<R> {
+    pub fn new(reader: R) -> StandardInput<R>
+        ensures { result.faults ≡ 0 }
+    {
         StandardInput { reader, faults: 0 }
     }
 }

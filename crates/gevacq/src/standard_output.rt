@@ -1,4 +1,4 @@
-ghost use Rattle.std.specs.Prelude.{None};
+ghost use Rattle.std.specs.Prelude.{◌≡◌, None};
 
 use gev_links::{Failed, Sink};
 use std::io::Write;
@@ -11,7 +11,9 @@ pub struct StandardOutput<W: Write + Drop> {
 }
 
 impl<W: Write + Drop> StandardOutput<W> {
-    pub fn new(writer: W) -> StandardOutput<W> {
+    pub fn new(writer: W) -> StandardOutput<W>
+        ensures { result.faults ≡ 0 }
+    {
         StandardOutput { writer, faults: 0 }
     }
 }
