@@ -21,6 +21,7 @@ pub fn head(packet: &Packet<'_>) -> Head
 }
 
 /// Whether the packet is a trailer.
+/// Whether the packet is a trailer.
 pub fn ends_block(packet: &Packet<'_>) -> bool
     ensures { result ≡ is_trailer (view packet.now) }
 {
@@ -28,6 +29,7 @@ pub fn ends_block(packet: &Packet<'_>) -> bool
 }
 
 /// Whether the packet is a notice, by which the camera says that it can't send a packet again.
+/// Whether the packet is a camera's notice that it can't send one.
 pub fn is_refusal(packet: &Packet<'_>) -> bool
     ensures { result ≡ is_notice (view packet.now) }
 {

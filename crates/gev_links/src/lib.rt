@@ -11,6 +11,8 @@ mod memory_source;
 mod sink;
 mod source;
 mod steady_source;
+#[cfg(test)]
+mod tests;
 
 pub use failed::Failed;
 pub use memory_sink::MemorySink;

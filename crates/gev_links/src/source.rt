@@ -9,7 +9,8 @@ pub trait Source {
     /// The bytes that are left, where the source tells.
     ghost left: { Self → Option (List ℕ) };
 
-    /// How many calls failed; it never falls, and stands still at the counter's end.
+    /// How many calls failed. It rises in a call that fails and in no other, and stands still at the
+    /// counter's end.
     ghost faults: { Self → ℕ };
 
     /// Puts bytes that are left into the front of `out`, and answers how many. 0 for an `out` that
@@ -18,6 +19,7 @@ pub trait Source {
         ensures count { IfOk result (λ n. n ≤ length out.old) }
         ensures given { IfOk result (λ n. Gives (left self.old) (left self.new) (take n out.new)) }
         ensures spent { IfOk result (λ n. n ≡ 0 → 0 < length out.old → IsSpent (left self.old)) }
+        ensures no_fault { IfOk result (λ _. faults self.new ≡ faults self.old) }
         ensures failed { OnErr result (Rose (faults self.old) (faults self.new)) }
         ensures untaken { OnErr result (left self.new ≡ left self.old) }
         ensures never_falls { faults self.old ≤ faults self.new };

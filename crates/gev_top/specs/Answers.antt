@@ -20,12 +20,6 @@ IsGoing (going place) = ⊤
 IsGoing (whole script) = ⊥
 IsGoing (refused line) = ⊥
 
--- of the form up to the `end` line, and P holds of the script
-abbrev pub IfWhole : Judged → (Script → Type 0) → Type 0
-IfWhole (going place) P = ⊥
-IfWhole (whole script) P = P script
-IfWhole (refused line) P = ⊥
-
 -- This line is the first that isn't of the form, or the one that has begun where nothing is left.
 abbrev pub IsUnbuilt : Judged → ℕ → Option (List ℕ) → Type 0
 IsUnbuilt (going place) line left = (place.line ≡ line) × IsSpent left

@@ -8,6 +8,8 @@ mod frame;
 mod limits;
 mod memory;
 mod peer;
+#[cfg(test)]
+mod tests;
 
 pub use block_record::Record;
 pub use buf::Buf;
