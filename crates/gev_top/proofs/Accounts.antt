@@ -6,14 +6,13 @@ use Rattle.std.specs.Prelude.{not, map, if◌then◌else◌}
 use Rattle.stream_packets.specs.Packets.{StreamPacket, is_notice}
 use Rattle.gvsp_wire.specs.Reading.{packet_of}
 use Rattle.block_image.specs.Kept.{fits, takes, keep, kept}
-use Rattle.block_image.specs.Image.{is_complete, leader_in, image}
+use Rattle.block_image.specs.Image.{is_complete, leader_in}
 use Rattle.block_image.proofs.KeptLemmas.{kept-push}
-use Rattle.gev_top.specs.declared.accepted.Accepted.{Accepted}
 use Rattle.gev_top.specs.declared.accepted.Accepted.TheVariants.{Kept, Repeat, Misfit, Notice}
 use Rattle.gev_top.specs.declared.acquisition.Acquisition.{Acquisition}
 use Rattle.gev_top.specs.declared.counts.Counts.{Counts}
 use Rattle.gev_top.specs.Account.{Account, counted, settled, hear, account_after, opening}
-use Rattle.gev_top.specs.Acquisition.{Stands, GoesOn, count_as}
+use Rattle.gev_top.specs.Acquisition.{Stands, count_as}
 use Rattle.gev_top.specs.Assembly.{IsAssembly, kept_of, accepted, SameSizes}
 
 count_by_tests : (a b c : Bool) (counts : Counts)

@@ -1,11 +1,10 @@
 -- What an assembly keeps along stays right with one more kept packet.
-use Rattle.std.proofs.Common.{◌≡◌, ◌≢◌, ℕ, ◌+◌, ◌-◌, ◌*◌, ◌<◌, ◌≤◌, ◌^◌, Bool, true, false, cond, min, max, List, [], ◌∷◌, ◌++◌, length, take, drop, replicate, Option, Some, None, refl, ap, sym, ◌∙◌, arith, subst}
-use Rattle.std.specs.Prelude.{⊤, ◌==◌, ◌||◌, ◌&&◌, nat_lt, nat_le, if◌then◌else◌}
-use Rattle.std.specs.List.{AllByRecursion}
+use Rattle.std.proofs.Common.{◌≡◌, ℕ, ◌+◌, ◌-◌, ◌<◌, ◌≤◌, ◌^◌, Bool, true, false, min, max, List, [], ◌∷◌, ◌++◌, length, take, drop, replicate, Option, Some, None, refl, ap, sym, ◌∙◌, arith, subst}
+use Rattle.std.specs.Prelude.{◌==◌, ◌||◌, ◌&&◌, nat_lt, nat_le, if◌then◌else◌}
 use Rattle.gev_types.specs.Placing.{put_at}
 use Rattle.stream_packets.specs.declared.fields.Head.{Head}
 use Rattle.stream_packets.specs.declared.fields.LeaderInfo.{LeaderInfo}
-use Rattle.stream_packets.specs.Packets.{StreamPacket, leader, payload, trailer, notice, head_of}
+use Rattle.stream_packets.specs.Packets.{StreamPacket, leader, payload, trailer, notice}
 use Rattle.stream_packets.specs.FramePackets.{payload_count, payload_start}
 use Rattle.gvsp_wire.specs.declared.packet.Packet.{Packet}
 use Rattle.gvsp_wire.specs.View.{view, views}
@@ -18,7 +17,7 @@ use Rattle.std.proofs.lemmas.List.{append-nil, take-append-drop}
 use Rattle.std.proofs.Math.ListN.{drop_of_length-le}
 use native.Mathlib.Decide.{dec_le}
 use Rattle.block_image.proofs.KeptLemmas.{has_trailer_at-push, reaches_past-push, reaches_past-append, leader_in-push_first, leader_in-push_payload, leader_in-push_trailer, leader_in-none}
-use Rattle.block_image.proofs.IsKept.{AllByRecursion-push, IsKept-push, IsKept-nil, Takes, takes_parts}
+use Rattle.block_image.proofs.IsKept.{AllByRecursion-push, IsKept-push, IsKept-nil, takes_parts}
 use Rattle.block_image.proofs.ImageLemmas.{length-image_bytes, image_bytes-nil, image_bytes-push_payload, image_bytes-push_leader, image_bytes-push_trailer}
 use Rattle.block_image.proofs.CountLemmas.{placed_count-nil, placed_count-le, placed_end-nil, placed_count-push_payload, placed_count-push_leader, placed_count-push_trailer, placed_end-push_payload, placed_end-push_leader, placed_end-push_trailer, end_inside}
 use Rattle.block_image.proofs.Completeness.{good_count-push_payload, good_count-append}

@@ -1,12 +1,10 @@
 -- Where the source tells what it holds, these bytes decide.
-use Rattle.std.proofs.Common.{◌≡◌, ℕ, List, [], ◌∷◌, ◌++◌, Option, Some, None, Result, Ok, Err, refl, ap, sym, ◌∙◌, subst}
-use Rattle.std.specs.Prelude.{⊤}
-use Rattle.std.proofs.lemmas.List.{append-nil}
-use Rattle.gev_links.specs.Told.{Gives, IsSpent, Appends}
+use Rattle.std.proofs.Common.{◌≡◌, ℕ, List, ◌++◌, Option, Some, None, Ok, Err, refl, ap, sym, ◌∙◌, subst}
+use Rattle.gev_links.specs.Told.{Gives}
 use Rattle.gev_top.specs.declared.status.Status.{Status}
 use Rattle.gev_top.specs.declared.status.Status.TheVariants.{Done, Usage, ReadFault, WriteFault, NoMemory, Unbuilt}
 use Rattle.gev_top.specs.Script.{Script}
-use Rattle.gev_top.specs.Judging.{Judged, Place, going, whole, refused, judged, judged_after, script_of, script_or_line, start_place}
+use Rattle.gev_top.specs.Judging.{Judged, going, whole, refused, judged, judged_after, script_of, script_or_line, start_place}
 use Rattle.gev_top.specs.Answers.{Reads, ReadsScript, HoldsScript, HoldsNone, IsUnbuilt, Replays, AnswersContent, IfTold}
 use Rattle.gev_top.specs.Headline.{KeepsFrames}
 use Rattle.gev_top.proofs.Judged.{judged_after-append, judged_after-whole, judged_after-refused}

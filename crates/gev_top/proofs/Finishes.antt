@@ -1,6 +1,6 @@
 -- What an assembly says of its block in the end.
-use Rattle.std.proofs.Common.{◌≡◌, ℕ, ◌+◌, ◌≤◌, Bool, true, false, nat_eq, List, length, Option, Some, None, refl, ap, sym, ◌∙◌, arith, subst}
-use Rattle.std.specs.Prelude.{◌==◌, ◌&&◌, nat_le}
+use Rattle.std.proofs.Common.{◌≡◌, ℕ, ◌+◌, true, nat_eq, length, Some, refl, ap, sym, ◌∙◌, subst}
+use Rattle.std.specs.Prelude.{nat_le}
 use Rattle.stream_packets.specs.declared.fields.LeaderInfo.{LeaderInfo}
 use Rattle.stream_packets.specs.FramePackets.{payload_count}
 use Rattle.block_image.specs.Counting.{good_count}

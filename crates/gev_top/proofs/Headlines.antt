@@ -1,6 +1,6 @@
 -- Each script keeps the frames that its datagrams carry.
-use Rattle.std.proofs.Common.{◌≡◌, ℕ, ◌+◌, ◌<◌, ◌≤◌, Bool, true, false, cond, List, [], ◌∷◌, ◌++◌, length, Option, Some, None, refl, ap, sym, ◌∙◌, subst, append_assoc, arith, length-append}
-use Rattle.std.specs.Prelude.{⊤, IsSome, IfSome, if◌then◌else◌}
+use Rattle.std.proofs.Common.{◌≡◌, ℕ, ◌+◌, ◌≤◌, Bool, true, false, List, [], ◌∷◌, ◌++◌, length, Option, Some, None, refl, ap, sym, ◌∙◌, subst, append_assoc, arith, length-append}
+use Rattle.std.specs.Prelude.{IsSome, IfSome, if◌then◌else◌}
 use Rattle.std.proofs.lemmas.List.{append-nil, get_or_append_left}
 use Rattle.gev_types.specs.declared.frame.Frame.{Frame}
 use Rattle.stream_packets.specs.Packets.{StreamPacket}
@@ -8,11 +8,10 @@ use Rattle.stream_packets.specs.Sent.{IsSent}
 use Rattle.gvsp_wire.specs.Reading.{packet_of}
 use Rattle.block_image.specs.Image.{image}
 use Rattle.block_image.specs.AllPackets.{HasAllPackets}
-use Rattle.block_image.specs.OneBlock.{AreSent, HoldsFrame}
+use Rattle.block_image.specs.OneBlock.{AreSent}
 use Rattle.block_image.proofs.OneBlockLemmas.{complete_is_frame, all_packets_complete}
-use Rattle.gev_top.specs.declared.counts.Counts.{Counts}
 use Rattle.gev_top.specs.Script.{Script}
-use Rattle.gev_top.specs.Account.{Account, hear, settled, counted, account_after, account_of, taken_from, taken_of, opening}
+use Rattle.gev_top.specs.Account.{Account, hear, settled, counted, account_after, account_of, opening}
 use Rattle.gev_top.specs.Headline.{with_packet, packets_in, IsWholeFrame, KeepsFrames}
 
 -- What an account says: until the block retires it has heard all packets, and then it has heard a front

@@ -1,12 +1,12 @@
 -- How judging goes on over lists of bytes.
-use Rattle.std.proofs.Common.{◌≡◌, ◌≢◌, ℕ, suc, ◌+◌, ◌*◌, ◌<◌, ◌≤◌, Bool, true, false, cond, List, [], ◌∷◌, ◌++◌, length, get_or, refl, ap, sym, ◌∙◌, arith, append_assoc, length-append, nat_eq}
-use Rattle.std.specs.Prelude.{◌==◌, nat_lt, if◌then◌else◌, slice_index}
+use Rattle.std.proofs.Common.{◌≡◌, ◌≢◌, ℕ, suc, ◌+◌, ◌<◌, ◌≤◌, false, cond, List, [], ◌∷◌, ◌++◌, length, refl, ap, sym, ◌∙◌, arith, append_assoc, length-append}
+use Rattle.std.specs.Prelude.{◌==◌, nat_lt, if◌then◌else◌}
 use Rattle.std.proofs.lemmas.List.{append-nil}
 use Rattle.std.proofs.lemmas.Bool.{lt-ltb, le-ltb}
 use Rattle.std.proofs.lemmas.Bool.Decides.{nat_tests}
 use native.Mathlib.Decide.{dec_lt}
 use Rattle.gev_top.specs.Script.{Script}
-use Rattle.gev_top.specs.Form.{Line, goes_on, finishes, not_built, read_line}
+use Rattle.gev_top.specs.Form.{read_line}
 use Rattle.gev_top.specs.Judging.{Judged, Place, going, whole, refused, judge_byte, judged_after, next_place}
 use Rattle.gev_top.specs.Reading.{HasNoLineFeed}
 use Rattle.gev_top.specs.declared.verdict.Verdict.{Verdict}

@@ -1,5 +1,5 @@
 -- Numbers of at most eight decimal digits.
-use Rattle.std.proofs.Common.{◌≡◌, ℕ, ◌+◌, ◌-◌, ◌*◌, ◌<◌, ◌≤◌, ◌^◌, arith, pow-add, ap, sym, ◌∙◌}
+use Rattle.std.proofs.Common.{◌≡◌, ℕ, ◌+◌, ◌-◌, ◌*◌, ◌<◌, ◌≤◌, ◌^◌, arith, pow-add, ap, ◌∙◌}
 use Rattle.std.proofs.Math.Pow.{pow_mono}
 
 -- a bound on the value of i digits, any bytes being taken for digits

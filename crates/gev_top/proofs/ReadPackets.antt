@@ -1,9 +1,9 @@
 -- What is known of a packet that was read.
-use Rattle.std.proofs.Common.{◌≡◌, ℕ, Bool, true, false, List, refl, ap, sym, ◌∙◌}
+use Rattle.std.proofs.Common.{◌≡◌, ℕ, Bool, true, false, List, refl}
 use Rattle.std.specs.Prelude.{◌==◌, ◌&&◌, not}
-use Rattle.stream_packets.specs.Packets.{StreamPacket, leader, payload, trailer, notice, head_of, is_notice, is_trailer}
+use Rattle.stream_packets.specs.Packets.{StreamPacket, leader, payload, trailer, notice, head_of, is_notice}
 use Rattle.gvsp_wire.specs.Wire.{Stream}
-use Rattle.block_image.specs.Kept.{takes, fits, has_id, has_trailer}
+use Rattle.block_image.specs.Kept.{takes, fits}
 use Rattle.gev_top.specs.Assembly.{IsRead}
 
 pub read_as : (bytes : List ℕ) (x : StreamPacket) → Stream bytes x → IsRead x

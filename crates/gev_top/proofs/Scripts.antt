@@ -1,8 +1,7 @@
 -- What a reading loop has read, turn by turn.
-use Rattle.std.proofs.Common.{◌≡◌, ◌≢◌, ◌⊎◌, inl, inr, ℕ, ◌+◌, ◌-◌, ◌*◌, ◌<◌, ◌≤◌, ◌^◌, List, [], ◌∷◌, ◌++◌, length, Option, Some, None, refl, ap, sym, ◌∙◌, arith, subst}
-use Rattle.std.specs.Prelude.{⊤}
+use Rattle.std.proofs.Common.{◌≡◌, inl, inr, ℕ, ◌+◌, ◌-◌, ◌<◌, ◌≤◌, List, [], ◌++◌, length, Option, refl, ap, sym, ◌∙◌, arith, subst}
 use Rattle.std.proofs.lemmas.List.{append-nil}
-use Rattle.gev_links.specs.Told.{Gives, IsSpent}
+use Rattle.gev_links.specs.Told.{Gives}
 use Rattle.gev_links.specs.Faults.{Rose}
 use Rattle.gev_top.specs.declared.reading.Reading.{Reading}
 use Rattle.gev_top.specs.declared.stage.Stage.{Stage}
@@ -13,9 +12,9 @@ use Rattle.gev_top.specs.declared.status.Status.TheVariants.{Done, Usage, ReadFa
 use Rattle.gev_top.specs.Script.{IsScript}
 use Rattle.gev_top.specs.Judging.{Judged, Place, going, whole, refused, judged_after, judged, start_place}
 use Rattle.gev_top.specs.Reading.{place_of, IsReading}
-use Rattle.gev_top.specs.Seen.{verdict_seen, script_seen, rank}
+use Rattle.gev_top.specs.Seen.{script_seen, rank}
 use Rattle.gev_top.specs.Turns.{IsJudged, CauseOfHalt}
-use Rattle.gev_top.specs.Answers.{Reads, IsGoing, IsPrompt, IsUnbuilt, CauseOfStop, HoldsScript, HoldsNone}
+use Rattle.gev_top.specs.Answers.{Reads, IsGoing, IsPrompt, IsUnbuilt, HoldsScript, HoldsNone}
 use Rattle.gev_top.proofs.Judged.{judged_after-append}
 use Rattle.gev_top.proofs.Tellings.{Gives-append, Gives-same}
 use Rattle.gev_top.proofs.Weights.{weight, weight_grows}

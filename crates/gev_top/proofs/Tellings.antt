@@ -1,5 +1,5 @@
 -- What is told of bytes, from call to call.
-use Rattle.std.proofs.Common.{◌≡◌, ℕ, ◌+◌, ◌≤◌, List, [], ◌∷◌, ◌++◌, length, Option, Some, None, refl, ap, sym, ◌∙◌, append_assoc, subst}
+use Rattle.std.proofs.Common.{ℕ, List, [], ◌++◌, Option, Some, None, refl, ap, sym, ◌∙◌, append_assoc, subst}
 use Rattle.gev_links.specs.Told.{Gives, IsSpent, Appends}
 
 -- where nothing came, what was spent still is

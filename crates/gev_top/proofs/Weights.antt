@@ -1,8 +1,7 @@
 -- A reader that goes on comes nearer to the end of the longest script.
-use Rattle.std.proofs.Common.{◌≡◌, ◌≢◌, ℕ, suc, ◌+◌, ◌-◌, ◌*◌, ◌<◌, ◌≤◌, Bool, true, false, cond, List, [], ◌∷◌, ◌++◌, length, refl, ap, sym, ◌∙◌, arith, length-append, subst}
-use Rattle.std.specs.Prelude.{◌==◌, nat_lt, if◌then◌else◌, ⊤}
+use Rattle.std.proofs.Common.{◌≡◌, ℕ, ◌+◌, ◌*◌, ◌<◌, ◌≤◌, Bool, true, false, cond, List, [], ◌∷◌, ◌++◌, length, refl, ap, sym, ◌∙◌, arith, length-append}
+use Rattle.std.specs.Prelude.{◌==◌, nat_lt, ⊤}
 use Rattle.std.proofs.lemmas.Bool.{ltb-true}
-use Rattle.gev_top.specs.Script.{Script}
 use Rattle.gev_top.specs.Form.{Line, goes_on, finishes, not_built, read_line}
 use Rattle.gev_top.specs.Judging.{Judged, Place, going, whole, refused, judge_byte, judged_after, next_place}
 use Rattle.gev_top.proofs.Judged.{judged_after-whole, judged_after-refused, with_begun}

@@ -1,5 +1,5 @@
 -- What the image of a script's take is, where its datagrams come from a camera.
-use Rattle.std.specs.Prelude.{◌≡◌, ⊤, ℕ, ◌≤◌, true, List, [], ◌∷◌, length, Option, Some, None, IsSome, IfSome}
+use Rattle.std.specs.Prelude.{◌≡◌, ℕ, ◌≤◌, true, List, [], ◌∷◌, length, Option, Some, None, IsSome, IfSome}
 use Rattle.gev_types.specs.declared.frame.Frame.{Frame}
 use Rattle.gev_types.specs.Filling.{Filling}
 use Rattle.stream_packets.specs.Packets.{StreamPacket}

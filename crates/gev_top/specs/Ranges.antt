@@ -1,5 +1,5 @@
 -- The numbers of a script are in range as soon as they were read.
-use Rattle.std.specs.Prelude.{⊤, ℕ}
+use Rattle.std.specs.Prelude.{⊤}
 use Rattle.block_image.specs.Sizes.{IsPayloadSize, IsBufferSize}
 use Rattle.gev_top.specs.declared.stage.Stage.{Stage}
 use Rattle.gev_top.specs.declared.stage.Stage.TheVariants.{Header, Announce, Queue, Start, Datagrams, End}

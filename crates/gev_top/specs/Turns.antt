@@ -1,5 +1,5 @@
 -- One turn of the reading loop.
-use Rattle.std.specs.Prelude.{◌≡◌, ⊤, ℕ, ◌≤◌, List, [], length, Option}
+use Rattle.std.specs.Prelude.{◌≡◌, ℕ, ◌≤◌, List, [], length, Option}
 use Rattle.gev_links.specs.Faults.{Rose}
 use Rattle.gev_links.specs.Told.{Gives, IsSpent}
 use Rattle.gev_top.specs.declared.reading.Reading.{Reading}

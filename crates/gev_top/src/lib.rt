@@ -21,6 +21,8 @@ mod sending;
 mod span;
 mod stage;
 mod status;
+#[cfg(test)]
+mod tests;
 mod text;
 mod top;
 mod usage;

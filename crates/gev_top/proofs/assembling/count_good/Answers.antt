@@ -1,4 +1,4 @@
-use Rattle.std.proofs.Common.{◌≡◌, ◌≤◌, ◌+◌, ap, ◌∙◌, sym, length, take, arith}
+use Rattle.std.proofs.Common.{◌+◌, ap, ◌∙◌, sym, take, arith}
 use Rattle.std.proofs.lemmas.List.{take_more}
 use Rattle.stream_packets.specs.FramePackets.{payload_count}
 use Rattle.gvsp_wire.specs.View.{views}

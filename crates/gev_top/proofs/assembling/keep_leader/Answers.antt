@@ -1,4 +1,4 @@
-use Rattle.std.proofs.Common.{◌≡◌, ◌≤◌, ap, ◌∙◌, sym, length, arith}
+use Rattle.std.proofs.Common.{ap, ◌∙◌, length, arith}
 use Rattle.stream_packets.specs.FramePackets.{payload_count}
 use Rattle.gvsp_wire.specs.View.{views}
 use Rattle.block_image.specs.Counting.{good_count}

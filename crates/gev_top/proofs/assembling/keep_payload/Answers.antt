@@ -1,4 +1,4 @@
-use Rattle.std.proofs.Common.{◌≡◌, ◌≤◌, ◌+◌, ap, ◌∙◌, sym, length, length-append, arith, refl, max, Bool, true, false}
+use Rattle.std.proofs.Common.{◌≡◌, ◌+◌, ap, ◌∙◌, sym, length, length-append, arith, refl, max}
 use Rattle.std.specs.Prelude.{◌||◌}
 use Rattle.gev_types.specs.Placing.{put_at}
 use Rattle.gvsp_wire.specs.View.{views}

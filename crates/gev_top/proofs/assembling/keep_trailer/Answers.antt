@@ -1,4 +1,4 @@
-use Rattle.std.proofs.Common.{◌≡◌, ap, ◌∙◌, length, arith, length-append}
+use Rattle.std.proofs.Common.{ap, ◌∙◌, length, length-append}
 use Rattle.gvsp_wire.specs.View.{views}
 use Rattle.gev_top.proofs.Assemblies.{trailer_kept, views_push}
 use Rattle.gev_top.proofs.assembling.keep_trailer.Goals as goal

@@ -1,4 +1,4 @@
-use Rattle.std.proofs.Common.{◌≡◌, ap, refl}
+use Rattle.std.proofs.Common.{ap, refl}
 use Rattle.gvsp_wire.specs.View.{views}
 use Rattle.gev_top.proofs.Assemblies.{nothing_kept}
 use Rattle.gev_top.proofs.assembling.new_assembly.Goals as goal

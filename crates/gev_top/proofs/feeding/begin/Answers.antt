@@ -1,4 +1,4 @@
-use Rattle.std.proofs.Common.{◌≡◌, ◌++◌, arith, sym, ap, ◌∙◌, refl}
+use Rattle.std.proofs.Common.{◌≡◌, ◌++◌, arith, sym, ap, ◌∙◌}
 use Rattle.gev_top.specs.Judging.{going}
 use Rattle.gev_top.specs.Reading.{place_of}
 use Rattle.gev_top.proofs.Judged.{judged_after-begun, judged_after-long, with_begun}

@@ -1,8 +1,7 @@
-use Rattle.std.proofs.Common.{◌≡◌, ◌++◌, ◌∷◌, ap, sym, ◌∙◌, refl, cond, true, false}
+use Rattle.std.proofs.Common.{◌≡◌, ◌∷◌, ap, sym, ◌∙◌}
 use Rattle.gev_top.specs.Judging.{going, refused, judged_after, next_place}
 use Rattle.gev_top.specs.Form.{read_line}
-use Rattle.gev_top.specs.Reading.{place_of, IsReading}
-use Rattle.gev_top.specs.Seen.{verdict_seen}
+use Rattle.gev_top.specs.Reading.{place_of}
 use Rattle.gev_top.proofs.Judged.{refused_on, judged_after-feed, decided_on}
 use Rattle.gev_top.proofs.feeding.feed.Goals as goal
 

@@ -1,4 +1,4 @@
-use Rattle.std.proofs.Common.{◌≤◌, arith}
+use Rattle.std.proofs.Common.{arith}
 use Rattle.block_image.proofs.CountLemmas.{placed_count-le}
 use Rattle.gev_top.specs.Assembly.{kept_of}
 use Rattle.gev_top.proofs.Finishes.{buffer_size}

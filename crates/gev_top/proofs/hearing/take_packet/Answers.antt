@@ -1,4 +1,4 @@
-use Rattle.std.proofs.Common.{◌≡◌, ap, ◌∙◌}
+use Rattle.std.proofs.Common.{ap, ◌∙◌}
 use Rattle.gvsp_wire.specs.View.{view}
 use Rattle.gev_top.specs.Acquisition.{count_as}
 use Rattle.gev_top.proofs.Accounts.{stands_on}

@@ -1,4 +1,4 @@
-use Rattle.std.proofs.Common.{◌≡◌, refl, arith}
+use Rattle.std.proofs.Common.{refl, arith}
 use Rattle.gev_top.proofs.Tellings.{spent_after}
 use Rattle.gev_top.proofs.reader.read_piece.Goals as goal
 

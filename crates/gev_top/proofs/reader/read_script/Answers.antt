@@ -1,7 +1,5 @@
-use Rattle.std.proofs.Common.{◌≡◌, ◌≤◌, ◌∙◌, length, arith}
-use Rattle.gev_top.specs.Reading.{place_of, IsReading}
-use Rattle.gev_top.specs.Turns.{IsJudged}
-use Rattle.gev_top.specs.Answers.{Reads}
+use Rattle.std.proofs.Common.{arith}
+use Rattle.gev_top.specs.Reading.{place_of}
 use Rattle.gev_top.proofs.Scripts.{begins, reads_on, reads_whole, reads_refused, reads_halted, nearer}
 use Rattle.gev_top.proofs.reader.read_script.Goals as goal
 

@@ -1,4 +1,4 @@
-use Rattle.std.proofs.Common.{◌≡◌, ◌-◌, ◌≤◌, ℕ, vec_len}
+use Rattle.std.proofs.Common.{◌≡◌, ◌-◌, ◌≤◌, vec_len}
 use Rattle.gev_top.specs.Answers.{Reads}
 use Rattle.gev_top.proofs.Scripts.{StandsAt}
 use Rattle.gev_top.specs.Reading.{place_of, IsReading}

@@ -1,7 +1,4 @@
-use Rattle.std.proofs.Common.{◌≡◌, ◌≤◌, ◌+◌, ℕ, List, take, length, get_or, ap, ◌∙◌, sym, arith}
-use Rattle.std.specs.Prelude.{map}
-use Rattle.gev_top.specs.Account.{account_after, opening, hear}
-use Rattle.gvsp_wire.specs.Reading.{packet_of}
+use Rattle.std.proofs.Common.{length, get_or, ap, ◌∙◌, arith}
 use Rattle.gev_top.proofs.Accounts.{heard_one_more}
 use Rattle.gev_top.proofs.running.acquire.Goals as goal
 

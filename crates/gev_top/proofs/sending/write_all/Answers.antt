@@ -1,4 +1,4 @@
-use Rattle.std.proofs.Common.{◌≤◌, arith}
+use Rattle.std.proofs.Common.{arith}
 use Rattle.gev_top.proofs.Sendings.{sent_slice}
 use Rattle.gev_top.proofs.sending.write_all.Goals as goal
 

@@ -1,4 +1,4 @@
-use Rattle.std.proofs.Common.{◌≡◌, ◌<◌, ◌^◌, length, ℕ, ◌+◌, ◌-◌, ◌*◌, take}
+use Rattle.std.proofs.Common.{◌≡◌, ◌<◌, take}
 use Rattle.gev_top.specs.Texts.{value_of}
 use Rattle.gev_top.proofs.Numbers.{bound}
 use Rattle.gev_top.proofs.text.value_of.Given as goal

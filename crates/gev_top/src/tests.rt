@@ -1,0 +1,79 @@
+use crate::{Status, gevacq_top};
+use gev_links::{MemorySink, SteadySource};
+use std::alloc::Global;
+use std::test::Fail;
+
+mod blocks;
+mod faults;
+mod forms;
+mod words;
+
+/// The leader of block 1: Mono8, three pixels in one line.
+const LEADER: &str =
+    "0000000081000000000000000000000100000000000000010000000000000000010800010000000300000001000000000000000000000000";
+
+/// Payload 1 of block 1, with the bytes `abc`.
+const PAYLOAD: &str = "0000000083000000000000000000000100000001616263";
+
+/// The trailer of block 1, with packet id 2.
+const TRAILER: &str = "00000000820000000000000000000001000000020000000100000001";
+
+/// The script of `LEADER`, `PAYLOAD` and `TRAILER`.
+const SCRIPT: &str = "\
+gevacq 1 528 1 1000 100 2
+announce 3
+queue 0.1
+start
+d 0000000081000000000000000000000100000000000000010000000000000000010800010000000300000001000000000000000000000000
+d 0000000083000000000000000000000100000001616263
+d 00000000820000000000000000000001000000020000000100000001
+take
+end
+";
+
+/// Its report.
+const REPORT: &str = "\
+announce 0.1
+queue ok
+start ok
+take 0.1 block=1 complete=1 larger=0 leader=1 len=3 filled=3 sha256=ba7816bf8f01cfea414140de5dae2223b00361a396177a9cb410ff61f20015ad
+end taken=1 fills=1 complete=1 underrun=0 requests=0 foreign=0 late=0 repeat=0 misfit=0 starved=0 notice=0 idle=0
+";
+
+/// A vector of these words.
+fn word_list(alloc: Global, words: &[&str]) -> Result<Vec<String>, Fail> {
+    let mut all = Vec::new(alloc);
+    for word in words {
+        all.push(String::from_str(alloc, word)?)?;
+    }
+    Ok(all)
+}
+
+/// The answer to a script, and what was written.
+fn replay(alloc: Global, script: &[u8]) -> Result<(Status, Vec<u8>), Fail> {
+    let words = word_list(alloc, &["replay"])?;
+    let mut source = SteadySource::new(script, 1000);
+    let mut sink = MemorySink::new(alloc, 1000, &[]);
+    let status = gevacq_top(alloc, &words, &mut source, &mut sink);
+    let written = sink.written().to_vec(alloc)?;
+    Ok((status, written))
+}
+
+/// The script of these datagrams, in hex, over one buffer of `size` bytes, at this payload size.
+fn script_of(
+    alloc: Global,
+    payload_size: u32,
+    size: u32,
+    datagrams: &[&str],
+) -> Result<String, Fail> {
+    let mut text = format!(in alloc;
+        "gevacq 1 {payload_size} 1 1000 100 2\nannounce {size}\nqueue 0.1\nstart\n"
+    )?;
+    for datagram in datagrams {
+        text.push_str("d ")?;
+        text.push_str(datagram)?;
+        text.push_str("\n")?;
+    }
+    text.push_str("take\nend\n")?;
+    Ok(text)
+}
