@@ -2,7 +2,17 @@
 #![tactic(auto)]
 
 mod board;
+mod calls_announce;
+mod calls_buffers;
+mod calls_fill;
+mod calls_flush;
+mod calls_info;
+mod calls_parts;
+mod calls_run;
+#[cfg(test)]
+mod calls_tests;
 mod ends;
+mod event_calls;
 mod hands;
 mod laws;
 mod looks;

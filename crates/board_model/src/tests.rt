@@ -7,7 +7,7 @@ use std::alloc::Global;
 use std::process::Abort;
 use std::test::Fail;
 
-fn word(state: State, size: u32, generation: u32) -> Word {
+pub(crate) fn word(state: State, size: u32, generation: u32) -> Word {
     Word {
         state,
         size,
@@ -15,7 +15,7 @@ fn word(state: State, size: u32, generation: u32) -> Word {
     }
 }
 
-fn split(rt: &impl Abort, board: &mut PlainBoard) -> u8 {
+pub(crate) fn split(rt: &impl Abort, board: &mut PlainBoard) -> u8 {
     assert!(rt; board.is_actor(0));
     assert!(rt; board.can_split());
     board.split(0)
@@ -67,26 +67,32 @@ fn lay(rt: &impl Abort, board: &mut PlainBoard, actor: u8, place: u8) {
     board.lay(actor, place);
 }
 
-fn pool(rt: &impl Abort, board: &mut PlainBoard, actor: u8, place: u8) {
+pub(crate) fn pool(rt: &impl Abort, board: &mut PlainBoard, actor: u8, place: u8) {
     assert!(rt; board.is_actor(actor));
     assert!(rt; board.holds(actor, place));
     assert!(rt; board.has_buf(place));
     board.pool(actor, place);
 }
 
-fn lift(rt: &impl Abort, board: &mut PlainBoard, actor: u8, place: u8) -> Buf {
+pub(crate) fn lift(rt: &impl Abort, board: &mut PlainBoard, actor: u8, place: u8) -> Buf {
     assert!(rt; board.is_actor(actor));
     assert!(rt; board.holds(actor, place));
     assert!(rt; board.has_buf(place));
     board.lift(actor, place)
 }
 
-fn claim(rt: &impl Abort, board: &mut PlainBoard, actor: u8) -> Option<u8> {
+pub(crate) fn claim(rt: &impl Abort, board: &mut PlainBoard, actor: u8) -> Option<u8> {
     assert!(rt; board.is_actor(actor));
     board.claim(actor)
 }
 
-fn fill(rt: &impl Abort, board: &mut PlainBoard, actor: u8, place: u8, buf: Buf) -> FillEnd
+pub(crate) fn fill(
+    rt: &impl Abort,
+    board: &mut PlainBoard,
+    actor: u8,
+    place: u8,
+    buf: Buf,
+) -> FillEnd
     requires { place < 15 }
 {
     assert!(rt; board.is_actor(actor));
@@ -96,7 +102,7 @@ fn fill(rt: &impl Abort, board: &mut PlainBoard, actor: u8, place: u8, buf: Buf)
     board.fill(actor, place, buf)
 }
 
-fn take(rt: &impl Abort, board: &mut PlainBoard, actor: u8) -> TakeEnd {
+pub(crate) fn take(rt: &impl Abort, board: &mut PlainBoard, actor: u8) -> TakeEnd {
     assert!(rt; board.is_actor(actor));
     board.take(actor)
 }
