@@ -221,8 +221,13 @@ fn flushes_move_what_no_other_actor_has(rt: HostRuntime) -> Result<(), Fail> {
         (Call::Revoke(id(0, 1)), Ok(Answer::Revoked(3))),
     ];
     run_calls(&rt, rt.alloc(), &mut board, &rows);
+    Ok(())
+}
 
-    // A buffer with a record comes out of the pool with the empty one, and with its bytes.
+#[test]
+fn flushed_buffers_keep_bytes_without_a_record(rt: HostRuntime) -> Result<(), Fail> {
+    let mut board = PlainBoard::new(rt.alloc())?;
+    announce_each(&rt, rt.alloc(), &mut board, 2);
     pool_of(&rt, rt.alloc(), &mut board, id(1, 1));
     assert_eq!(rt; claim(&rt, &mut board, 0), Some(1));
     let mut buf = lift(&rt, &mut board, 0, 1);
@@ -238,7 +243,7 @@ fn flushes_move_what_no_other_actor_has(rt: HostRuntime) -> Result<(), Fail> {
     assert!(rt; matches!(fill(&rt, &mut board, 0, 1, buf), FillEnd::Filled));
     let rows = [
         (Call::Get, Ok(Answer::Loan(1, record))),
-        (Call::Flush(3), Ok(Answer::Done)),
+        (Call::Queue(id(1, 1)), Ok(Answer::Done)),
         (Call::Flush(0), Ok(Answer::Done)),
         (Call::Get, Ok(Answer::Loan(1, Record::default()))),
     ];
@@ -297,16 +302,25 @@ fn close_comes_between_claim_and_fill(rt: HostRuntime) -> Result<(), Fail> {
     board.set_down(filler, 0, back);
     assert!(rt; board.is_actor(filler));
     board.ds_return(filler, 0);
+    let revoked = (Call::Revoke(id(0, 1)), Ok(Answer::Revoked(3)));
+    run_calls(&rt, rt.alloc(), &mut board, &[revoked]);
+    Ok(())
+}
 
-    // What comes into the pool after the close is laid by the flush that would have filled it.
+// A buffer that comes into the pool after the close is laid by the flush that would have filled it.
+#[test]
+fn flush_after_the_close_gives_back(rt: HostRuntime) -> Result<(), Fail> {
+    let mut board = PlainBoard::new(rt.alloc())?;
+    announce_each(&rt, rt.alloc(), &mut board, 1);
+    let close = (Call::Close, Ok(Answer::Done));
+    run_calls(&rt, rt.alloc(), &mut board, &[close]);
     assert!(rt; board.is_actor(0));
-    assert_eq!(rt; board.grab(0, 2, 1), Ok(()));
-    pool(&rt, &mut board, 0, 2);
+    assert_eq!(rt; board.grab(0, 0, 1), Ok(()));
+    pool(&rt, &mut board, 0, 0);
     let rows = [
         (Call::Info(1000), Ok(Answer::Value(1))),
         (Call::Flush(0), Ok(Answer::Done)),
         (Call::Info(5), Ok(Answer::Value(0))),
-        (Call::Revoke(id(2, 1)), Ok(Answer::Revoked(3))),
         (Call::Revoke(id(0, 1)), Ok(Answer::Revoked(3))),
         (Call::Info(3), Ok(Answer::Value(0))),
     ];
