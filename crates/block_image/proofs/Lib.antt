@@ -1,3 +1,4 @@
+pub mod Carried
 pub mod Bools
 pub mod Lists
 pub mod Covering

@@ -1,5 +1,6 @@
 -- Which packets of a block are kept, in whatever order they came.
 use Rattle.std.specs.Prelude.{ℕ, ◌==◌, ◌&&◌, ◌||◌, not, nat_le, List, [], ◌∷◌, ◌++◌, length, Bool, true, false, if◌then◌else◌}
+use Rattle.gev_types.specs.Limits.{max_packet_id}
 use Rattle.stream_packets.specs.Packets.{StreamPacket, leader, payload, trailer, notice, head_of, is_trailer, is_notice}
 
 -- sent first, or sent again
@@ -15,7 +16,7 @@ fits_payload p (notice h) = true
 
 -- A packet fits by its status, its packet id and the length of its payload.
 abbrev pub fits : ℕ → StreamPacket → Bool
-fits p x = is_good_status (head_of x).status && nat_le (head_of x).id 131073 && fits_payload p x
+fits p x = is_good_status (head_of x).status && nat_le (head_of x).id max_packet_id && fits_payload p x
 
 abbrev pub has_id : ℕ → List StreamPacket → Bool
 has_id k [] = false

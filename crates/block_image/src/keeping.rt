@@ -4,7 +4,7 @@ ghost use Rattle.std.specs.Prelude.{◌≡◌, ◌≤◌, IfOk};
 ghost use Rattle.gvsp_wire.specs.View.{view, views};
 ghost use Rattle.block_image.specs.Kept.{is_good_status, fits_payload, fits, takes, kept};
 
-use crate::looking::{contains_id, contains_trailer, ends_block, head, is_refusal};
+use crate::looking::{contains_id, contains_trailer};
 use gev_types::{MAX_PACKET_ID, NoMemory};
 use gvsp_wire::Packet;
 use std::alloc::Global;
@@ -17,14 +17,13 @@ fn is_stream_status(status: u16) -> bool
 }
 
 /// Whether the packet, if it is a payload, has at most `p` bytes.
+#[tactic(auto, using(crate::proofs::Carried::fits_bytes, crate::proofs::Carried::fits_none))]
 fn has_room(p: u32, packet: &Packet<'_>) -> bool
     ensures { result ≡ fits_payload p (view packet.now) }
 {
-    match *packet {
-        Packet::Payload(_, bytes) => bytes.len() <= p as usize,
-        Packet::Leader(_, _) => true,
-        Packet::Trailer(_, _) => true,
-        Packet::Notice(_) => true,
+    match packet.payload() {
+        Some(bytes) => bytes.len() <= p as usize,
+        None => true,
     }
 }
 
@@ -32,7 +31,7 @@ fn has_room(p: u32, packet: &Packet<'_>) -> bool
 pub fn does_fit(p: u32, packet: &Packet<'_>) -> bool
     ensures { result ≡ fits p (view packet.now) }
 {
-    let head = head(packet);
+    let head = packet.head();
     is_stream_status(head.status) && head.id <= MAX_PACKET_ID && has_room(p, packet)
 }
 
@@ -40,12 +39,12 @@ pub fn does_fit(p: u32, packet: &Packet<'_>) -> bool
 pub fn is_kept(p: u32, block: u64, before: &[Packet<'_>], packet: &Packet<'_>) -> bool
     ensures { result ≡ takes p block (views before.now) (view packet.now) }
 {
-    let head = head(packet);
+    let head = packet.head();
     head.block == block
-        && !is_refusal(packet)
+        && !packet.is_notice()
         && does_fit(p, packet)
         && !contains_id(head.id, before)
-        && !(ends_block(packet) && contains_trailer(before))
+        && !(packet.is_trailer() && contains_trailer(before))
 }
 
 /// The packets that are kept of the block, in order of arrival. `p` is the stream's payload size in

@@ -15,14 +15,13 @@ use gvsp_wire::Packet;
 use std::alloc::Global;
 
 /// The byte that the packet puts at this position of the image, if it does.
+#[tactic(auto, using(crate::proofs::Carried::byte_bytes, crate::proofs::Carried::byte_none))]
 fn byte_of(p: u32, packet: &Packet<'_>, position: u32) -> Option<u8>
     requires { IsPayloadSize p }
     ensures { result ≡ byte_from p (view packet.now) position }
 {
-    let Packet::Payload(head, bytes) = *packet else {
-        return None;
-    };
-    let start = start_of_payload(p, head.id);
+    let bytes = packet.payload()?;
+    let start = start_of_payload(p, packet.head().id);
     let position = u64::from(position);
     if position < start || position - start >= bytes.len() as u64 {
         return None;

@@ -66,18 +66,16 @@ fn contains_payloads(p: u32, len: u32, n: u64, kept: &[Packet<'_>]) -> bool
 }
 
 /// Whether the packet is payload `k` and is as long as it has to be.
+#[tactic(auto, using(crate::proofs::Carried::payload_bytes, crate::proofs::Carried::payload_none))]
 fn is_payload(p: u32, len: u32, k: u64, packet: &Packet<'_>) -> bool
     requires { IsPayloadSize p }
     ensures { result ≡ has_payload p len k (view packet.now ∷ []) }
 {
-    match *packet {
-        Packet::Payload(head, bytes) => {
-            u64::from(head.id) == k && has_its_bytes(p, len, head.id, bytes.len())
-        }
-        Packet::Leader(_, _) => false,
-        Packet::Trailer(_, _) => false,
-        Packet::Notice(_) => false,
-    }
+    let Some(bytes) = packet.payload() else {
+        return false;
+    };
+    let id = packet.head().id;
+    u64::from(id) == k && has_its_bytes(p, len, id, bytes.len())
 }
 
 /// Whether the whole image of `len` bytes was kept and goes into the buffer.
@@ -101,19 +99,16 @@ pub fn completes(p: u32, size: u32, kept: &[Packet<'_>], leader: Option<LeaderIn
 }
 
 /// Whether the packet is a payload that reaches past the buffer.
+#[tactic(auto, using(crate::proofs::Carried::past_bytes, crate::proofs::Carried::past_none))]
 fn ends_past(p: u32, size: u32, packet: &Packet<'_>) -> bool
     requires { IsPayloadSize p }
     ensures { result ≡ reaches_past p size (view packet.now ∷ []) }
 {
-    match *packet {
-        Packet::Payload(head, bytes) => {
-            let start = start_of_payload(p, head.id);
-            u64::from(size) < start || u64::from(size) - start < bytes.len() as u64
-        }
-        Packet::Leader(_, _) => false,
-        Packet::Trailer(_, _) => false,
-        Packet::Notice(_) => false,
-    }
+    let Some(bytes) = packet.payload() else {
+        return false;
+    };
+    let start = start_of_payload(p, packet.head().id);
+    u64::from(size) < start || u64::from(size) - start < bytes.len() as u64
 }
 
 /// Whether some payload reaches past the buffer.

@@ -1,3 +1,5 @@
+use std::fmt;
+
 /// Who owns the buffer of a place.
 #[derive(Clone, Copy, Debug, PartialEq, Eq)]
 pub enum State {
@@ -9,6 +11,16 @@ pub enum State {
     Away,
 }
 
+impl fmt::Display for State {
+    fn fmt<W: fmt::Write>(&self, f: &mut fmt::Formatter<W>) -> fmt::Result {
+        match self {
+            State::Vacant => write!(f, "vacant"),
+            State::Held => write!(f, "held"),
+            State::Away => write!(f, "away"),
+        }
+    }
+}
+
 /// The ownership word of a place.
 #[derive(Clone, Copy, Debug, PartialEq, Eq)]
 pub struct Word {
@@ -18,4 +30,13 @@ pub struct Word {
     pub size: u32,
     /// How many buffers were announced at the place so far.
     pub generation: u32,
+}
+
+impl fmt::Display for Word {
+    fn fmt<W: fmt::Write>(&self, f: &mut fmt::Formatter<W>) -> fmt::Result {
+        let state = self.state;
+        let size = self.size;
+        let generation = self.generation;
+        write!(f, "{state}, size {size}, generation {generation}")
+    }
 }

@@ -16,3 +16,10 @@ IsSpent (Some left) = left ≡ []
 abbrev pub Appends : Option (List ℕ) → Option (List ℕ) → List ℕ → Type 0
 Appends None new bytes = new ≡ None
 Appends (Some old) new bytes = new ≡ Some (old ++ bytes)
+
+-- A front of this text was written, and no more of it.
+pub record WritesFront (written written_after : Option (List ℕ)) (text : List ℕ) : Type 0 where
+  pub front : List ℕ
+  pub rest : List ℕ
+  pub parts : text ≡ front ++ rest
+  pub appended : Appends written written_after front

@@ -13,6 +13,7 @@ mod source;
 mod steady_source;
 #[cfg(test)]
 mod tests;
+mod writing;
 
 pub use failed::Failed;
 pub use memory_sink::MemorySink;
@@ -20,3 +21,4 @@ pub use memory_source::MemorySource;
 pub use sink::Sink;
 pub use source::Source;
 pub use steady_source::SteadySource;
+pub use writing::write_all;

@@ -102,6 +102,24 @@ fn a_sink_that_takes_none(rt: HostRuntime) {
     assert_eq!(rt; sink.faults(), 2);
 }
 
+// The calls that fail, the answer to a text of five bytes in pieces of two, what was written of it,
+// and the faults.
+#[test]
+fn whole_texts(rt: HostRuntime) {
+    let rows: [(&[u64], Result<(), Failed>, &[u8], u64); 4] = [
+        (&[], Ok(()), &[1, 2, 3, 4, 5], 0),
+        (&[1], Err(Failed), &[], 1),
+        (&[3], Err(Failed), &[1, 2, 3, 4], 1),
+        (&[4], Ok(()), &[1, 2, 3, 4, 5], 0),
+    ];
+    for (failing, want, written, faults) in rows {
+        let mut sink = MemorySink::new(rt.alloc(), 2, failing);
+        assert_eq!(rt; write_all(&mut sink, &[1, 2, 3, 4, 5]), want);
+        assert_eq!(rt; sink.written(), written);
+        assert_eq!(rt; sink.faults(), faults);
+    }
+}
+
 #[test]
 fn text_of_failed(rt: HostRuntime) -> Result<(), Fail> {
     let text = format!(in rt.alloc(); "{Failed}")?;

@@ -1,5 +1,6 @@
 -- The size of an image by the public GVSP standard, over numbers without a bound.
 use Rattle.std.specs.Prelude.{◌≡◌, ℕ, ◌+◌, ◌*◌, ◌/◌, ◌%◌, ◌^◌, ◌<◌, ◌≤◌, length}
+use Rattle.gev_types.specs.Limits.{max_buffer_size}
 use Rattle.gev_types.specs.declared.frame.Frame.{Frame}
 
 -- bits 16 to 23 of a pixel format's code: how many bits one pixel takes
@@ -13,7 +14,7 @@ image_size pixel size_x size_y padding_x padding_y =
 
 -- what a frame may have: at least one byte, and no more than 64 MiB
 abbrev pub IsImageSize : ℕ → Type 0
-IsImageSize size = (0 < size) × (size ≤ 2 ^ 26)
+IsImageSize size = (0 < size) × (size ≤ max_buffer_size)
 
 -- a valid frame has as many bytes as its fields say, and a size that a frame may have
 pub record IsFrame (frame : Frame) : Type 0 where

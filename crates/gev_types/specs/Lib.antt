@@ -1,3 +1,4 @@
+pub mod Limits
 pub mod Filling
 pub mod FrameSize
 pub mod Placing

@@ -1,5 +1,6 @@
-ghost use Rattle.std.specs.Prelude.{◌≡◌, ◌≤◌, ◌^◌, length, replicate, IfOk};
+ghost use Rattle.std.specs.Prelude.{◌≡◌, ◌≤◌, length, replicate, IfOk};
 ghost use Rattle.gev_types.specs.Filling.{empty_record};
+ghost use Rattle.gev_types.specs.Limits.{max_buffer_size};
 ghost use Rattle.gev_types.specs.Placing.{put_at};
 
 use crate::block_record::Record;
@@ -10,7 +11,7 @@ use std::marker::Model;
 /// An image buffer: 1 byte to 64 MiB, and the record of the block that it holds.
 ///
 /// Contracts see its bytes and its record, whose `data_len` and `filled` are at most its size.
-#[derive(Drop)]
+#[derive(Debug, Drop)]
 pub struct Buf {
     bytes: Vec<u8>,
     rec: Record,
@@ -31,7 +32,7 @@ impl Buf {
     /// A buffer of `size` bytes, all of them zero, with the empty record.
     pub fn new(alloc: Global, size: u32) -> Result<Buf, NoMemory>
         requires some { 1 ≤ size }
-        requires in_limits { size ≤ 2 ^ 26 }
+        requires in_limits { size ≤ max_buffer_size }
         ensures bytes { IfOk result (λ buf. buf.bytes ≡ replicate size 0) }
         ensures rec { IfOk result (λ buf. buf.rec ≡ empty_record) }
     {
@@ -46,7 +47,7 @@ impl Buf {
     pub fn bytes(&self) -> &[u8]
         ensures value { result.now ≡ self.now.bytes }
         ensures some { 1 ≤ length self.now.bytes }
-        ensures in_limits { length self.now.bytes ≤ 2 ^ 26 }
+        ensures in_limits { length self.now.bytes ≤ max_buffer_size }
     {
         self.bytes.as_slice()
     }

@@ -5,6 +5,7 @@ mod block_record;
 mod buf;
 mod bytes;
 mod frame;
+pub mod laws;
 mod limits;
 mod memory;
 mod peer;

@@ -104,3 +104,8 @@ fn text_of_no_memory(rt: HostRuntime) -> Result<(), Fail> {
     assert_eq!(rt; text.as_str(), "out of memory");
     Ok(())
 }
+
+#[test]
+fn the_law_can_be_called(_rt: HostRuntime) {
+    laws::constants_are_the_limits();
+}

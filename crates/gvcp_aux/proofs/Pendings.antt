@@ -1,33 +1,32 @@
 -- What is read of the body of PENDING is what the relation says.
 use Rattle.std.specs.Prelude.{◌↔◌}
-use Rattle.std.proofs.Common.{◌≡◌, ℕ, Bool, true, false, ◌&&◌, cond, eqb, List, [], ◌∷◌, ◌++◌, length, Option, Some, None, refl, ap, subst, ◌∙◌, arith, inl, inr}
+use Rattle.std.proofs.Common.{◌≡◌, ℕ, Bool, true, false, ◌&&◌, cond, eqb, List, [], length, Option, Some, None, refl, ap, subst, ◌∙◌, arith, inl, inr, length-drop, drop_of_length-le}
 use Rattle.std.proofs.lemmas.Bool.{cond_both, and_parts, and_cases, eqb-true, eqb-false, eq-eqb, ne_eqb}
+use Rattle.wire_fields.specs.Fields.{number_at}
+use Rattle.wire_fields.proofs.InOrder.{fields_read, fields_made}
 use Rattle.gvcp_wire.specs.Messages.{PlainAck}
-use Rattle.gvcp_wire.specs.Reading.{number_at}
-use Rattle.gvcp_wire.proofs.Pieces.{two_of}
-use Rattle.gvcp_aux.specs.Bodies.{IsPendingBody, IsPending, IsNoPending, no_pending, no_pending_size}
+use Rattle.gvcp_aux.specs.Bodies.{pending_fields, IsPendingBody, IsPending, IsNoPending, no_pending, no_pending_size}
 use Rattle.gvcp_aux.specs.Reading.{pending_reading}
 use Rattle.gvcp_aux.specs.Laws.{ReadsPending}
 
 -- ---- the body
 
 body_at : (body : List ℕ) → length body ≡ 4 → IsPendingBody body (number_at 2 2 body)
-body_at [] h = absurd (omega arith)
-body_at (a ∷ []) h = absurd (omega arith)
-body_at (a ∷ b ∷ time) h = record { reserved = a ∷ b ∷ []; time_field = time; pieces = refl; free = refl; time_is = record { wide = omega arith; holds = refl } }
+body_at body whole = record {
+  reserved = number_at 0 2 body;
+  fields =
+      fields_made 0 (pending_fields (number_at 0 2 body) (number_at 2 2 body)) [] body
+      (omega arith, refl, (omega arith, refl, drop_of_length-le body {i = 4} (omega arith)));
+}
 
 record HasParts (body : List ℕ) (time : ℕ) : Type 0 where
   pub whole : length body ≡ 4
   pub time_is : number_at 2 2 body ≡ time
 
-body_cells : (xs time : List ℕ) (a b : ℕ) → xs ≡ a ∷ b ∷ [] → xs ++ time ≡ a ∷ b ∷ time
-body_cells xs time a b p = rw p refl
-
 parts_of : (body : List ℕ) (time : ℕ) → IsPendingBody body time → HasParts body time
 parts_of body time h =
-    let x = two_of h.reserved h.free in
-    let e : body ≡ x.0 ∷ x.1 ∷ h.time_field = h.pieces ∙ body_cells h.reserved h.time_field x.0 x.1 x.2 in
-    record { whole = omega (arith, ap length e, h.time_is.wide); time_is = ap (number_at 2 2) e ∙ h.time_is.holds }
+    let (reserved_fits, reserved_is, (time_fits, time_is, rest_is)) = fields_read 0 (pending_fields h.reserved time) [] body h.fields in
+    record { whole = omega (arith, time_fits, ap length rest_is, length-drop 4 body); time_is = time_is }
 
 -- ---- the reading
 

@@ -1,44 +1,24 @@
 -- What is read of the body of PACKETRESEND is what the relation says.
 use Rattle.std.specs.Prelude.{◌↔◌}
-use Rattle.std.proofs.Common.{◌≡◌, ◌⊎◌, ℕ, Bool, true, false, ◌&&◌, cond, eqb, List, [], ◌∷◌, ◌++◌, length, Option, Some, None, refl, sym, ap, subst, ◌∙◌, arith, inl, inr}
+use Rattle.std.proofs.Common.{◌≡◌, ◌⊎◌, ℕ, Bool, true, false, ◌&&◌, cond, eqb, List, [], length, Option, Some, None, refl, ap, subst, ◌∙◌, arith, inl, inr, length-drop, drop_of_length-le}
 use Rattle.std.proofs.lemmas.Bool.{cond_both, eqb-true, eqb-false, eq-eqb, ne_eqb}
-use Rattle.byteorder.specs.Endian.{big_number}
+use Rattle.wire_fields.specs.Fields.{number_at}
+use Rattle.wire_fields.proofs.InOrder.{fields_read, fields_made}
 use Rattle.gvcp_wire.specs.declared.message.CommandHead.{CommandHead}
 use Rattle.gvcp_wire.specs.Flags.{has_flag}
-use Rattle.gvcp_wire.specs.Reading.{number_at}
-use Rattle.gvcp_wire.proofs.Pieces.{two_of, four_of}
 use Rattle.gvcp_aux.specs.declared.resend.Resend.{Resend}
-use Rattle.gvcp_aux.specs.Bodies.{IsResendBody, IsResend, IsNoResend, no_resend, standard_ids, no_resend_size}
+use Rattle.gvcp_aux.specs.Bodies.{resend_fields, IsResendBody, IsResend, IsNoResend, no_resend, standard_ids, no_resend_size}
 use Rattle.gvcp_aux.specs.Reading.{resend_at, resend_reading}
 use Rattle.gvcp_aux.specs.Laws.{ReadsResend}
 
 -- ---- the body
 
 body_at : (body : List ℕ) → length body ≡ 20 → IsResendBody body (resend_at body)
-body_at [] h = absurd (omega arith)
-body_at (a ∷ []) h = absurd (omega arith)
-body_at (a ∷ b ∷ []) h = absurd (omega arith)
-body_at (a ∷ b ∷ c ∷ []) h = absurd (omega arith)
-body_at (a ∷ b ∷ c ∷ d ∷ []) h = absurd (omega arith)
-body_at (a ∷ b ∷ c ∷ d ∷ e ∷ []) h = absurd (omega arith)
-body_at (a ∷ b ∷ c ∷ d ∷ e ∷ f ∷ []) h = absurd (omega arith)
-body_at (a ∷ b ∷ c ∷ d ∷ e ∷ f ∷ g ∷ []) h = absurd (omega arith)
-body_at (a ∷ b ∷ c ∷ d ∷ e ∷ f ∷ g ∷ i ∷ []) h = absurd (omega arith)
-body_at (a ∷ b ∷ c ∷ d ∷ e ∷ f ∷ g ∷ i ∷ j ∷ []) h = absurd (omega arith)
-body_at (a ∷ b ∷ c ∷ d ∷ e ∷ f ∷ g ∷ i ∷ j ∷ k ∷ []) h = absurd (omega arith)
-body_at (a ∷ b ∷ c ∷ d ∷ e ∷ f ∷ g ∷ i ∷ j ∷ k ∷ l ∷ []) h = absurd (omega arith)
-body_at (a ∷ b ∷ c ∷ d ∷ e ∷ f ∷ g ∷ i ∷ j ∷ k ∷ l ∷ m ∷ block) h = record {
-  channel_field = a ∷ b ∷ [];
-  reserved = c ∷ d ∷ [];
-  first_field = e ∷ f ∷ g ∷ i ∷ [];
-  last_field = j ∷ k ∷ l ∷ m ∷ [];
-  block_field = block;
-  pieces = refl;
-  channel_is = record { wide = refl; holds = refl };
-  free = refl;
-  first_is = record { wide = refl; holds = refl };
-  last_is = record { wide = refl; holds = refl };
-  block_is = record { wide = omega arith; holds = refl };
+body_at body whole = record {
+  reserved = number_at 2 2 body;
+  fields =
+      fields_made 0 (resend_fields (number_at 2 2 body) (resend_at body)) [] body
+      (omega arith, refl, (omega arith, refl, (omega arith, refl, (omega arith, refl, (omega arith, refl, drop_of_length-le body {i = 20} (omega arith))))));
 }
 
 record HasParts (body : List ℕ) (resend : Resend) : Type 0 where
@@ -53,27 +33,13 @@ same_resend r s p q t u =
     ∙ ap (λ (n : ℕ). of_parts s.channel s.first n r.block) t
     ∙ ap (λ (n : ℕ). of_parts s.channel s.first s.last n) u
 
-body_cells : (ws xs ys zs block : List ℕ) (a b c d e f g h i j k l : ℕ) → ws ≡ a ∷ b ∷ [] → xs ≡ c ∷ d ∷ [] → ys ≡ e ∷ f ∷ g ∷ h ∷ [] → zs ≡ i ∷ j ∷ k ∷ l ∷ []
-    → ws ++ xs ++ ys ++ zs ++ block ≡ a ∷ b ∷ c ∷ d ∷ e ∷ f ∷ g ∷ h ∷ i ∷ j ∷ k ∷ l ∷ block
-body_cells ws xs ys zs block a b c d e f g h i j k l p q r s = rw (p, q, r, s) refl
-
 parts_of : (body : List ℕ) (resend : Resend) → IsResendBody body resend → HasParts body resend
 parts_of body resend h =
-    let w = two_of h.channel_field h.channel_is.wide in
-    let x = two_of h.reserved h.free in
-    let y = four_of h.first_field h.first_is.wide in
-    let z = four_of h.last_field h.last_is.wide in
-    let cells : List ℕ = w.0 ∷ w.1 ∷ x.0 ∷ x.1 ∷ y.0 ∷ y.1 ∷ y.2 ∷ y.3 ∷ z.0 ∷ z.1 ∷ z.2 ∷ z.3 ∷ h.block_field in
-    let e : body ≡ cells =
-    h.pieces
-    ∙ body_cells h.channel_field h.reserved h.first_field h.last_field h.block_field w.0 w.1 x.0 x.1 y.0 y.1 y.2 y.3 z.0 z.1 z.2 z.3 w.2 x.2 y.4 z.4 in
-    let channel = ap (number_at 0 2) e ∙ ap (big_number 2) (sym w.2) ∙ h.channel_is.holds in
-    let first = ap (number_at 4 4) e ∙ ap (big_number 4) (sym y.4) ∙ h.first_is.holds in
-    let last = ap (number_at 8 4) e ∙ ap (big_number 4) (sym z.4) ∙ h.last_is.holds in
-    let block = ap (number_at 12 8) e ∙ h.block_is.holds in
+    let (channel_fits, channel_is, (reserved_fits, reserved_is, (first_fits, first_is, (last_fits, last_is, (block_fits, block_is, rest_is))))) =
+    fields_read 0 (resend_fields h.reserved resend) [] body h.fields in
     record {
-      whole = omega (arith, ap length e, h.block_is.wide);
-      resend_is = same_resend (resend_at body) resend channel first last block;
+      whole = omega (arith, block_fits, ap length rest_is, length-drop 20 body);
+      resend_is = same_resend (resend_at body) resend channel_is first_is last_is block_is;
     }
 
 -- ---- the reading

@@ -1,28 +1,23 @@
 -- The bodies of PACKETRESEND with extended identifiers, DISCOVERY and PENDING (GigE Vision 2.0).
-use Rattle.std.specs.Prelude.{◌≡◌, ◌≢◌, ℕ, ◌^◌, ◌<◌, false, List, [], ◌∷◌, ◌++◌, length, IsTrue}
-use Rattle.byteorder.specs.Endian.{big_bytes}
+use Rattle.std.specs.Prelude.{◌≡◌, ◌≢◌, ℕ, ◌^◌, ◌<◌, false, List, [], ◌∷◌, length, IsTrue}
+use Rattle.wire_fields.specs.Fields.{HasFields, spelled}
 use Rattle.gvcp_wire.specs.Codes.{DISCOVERY_CMD, PACKETRESEND_CMD, PENDING_ACK}
 use Rattle.gvcp_wire.specs.declared.message.CommandHead.{CommandHead}
 use Rattle.gvcp_wire.specs.Flags.{has_flag}
-use Rattle.gvcp_wire.specs.Fields.{IsField}
 use Rattle.gvcp_wire.specs.Messages.{PlainCommand, other, PlainAck}
 use Rattle.gvcp_aux.specs.declared.resend.Resend.{Resend}
 
 -- ---- PACKETRESEND
 
--- The stream channel, two reserved bytes, the first and the last packet id, and the block id.
+-- the fields of the body, each with its number of bytes
+abbrev pub resend_fields : ℕ → Resend → List (ℕ × ℕ)
+resend_fields reserved resend =
+    (2, resend.channel) ∷ (2, reserved) ∷ (4, resend.first) ∷ (4, resend.last) ∷ (8, resend.block) ∷ []
+
+-- The stream channel, a reserved field, the first and the last packet id, and the block id.
 pub record IsResendBody (body : List ℕ) (resend : Resend) : Type 0 where
-  pub channel_field : List ℕ
-  pub reserved : List ℕ
-  pub first_field : List ℕ
-  pub last_field : List ℕ
-  pub block_field : List ℕ
-  pub pieces : body ≡ channel_field ++ reserved ++ first_field ++ last_field ++ block_field
-  pub channel_is : IsField 2 resend.channel channel_field
-  pub free : length reserved ≡ 2
-  pub first_is : IsField 4 resend.first first_field
-  pub last_is : IsField 4 resend.last last_field
-  pub block_is : IsField 8 resend.block block_field
+  pub reserved : ℕ
+  pub fields : HasFields body (resend_fields reserved resend) []
 
 -- The command asks for the packets.
 pub record IsResend (head : CommandHead) (body : List ℕ) (resend : Resend) : Type 0 where
@@ -36,10 +31,9 @@ pub data IsNoResend (head : CommandHead) (body : List ℕ) : Type 0 where
   standard_ids : has_flag 0x10 head.flags ≡ false → IsNoResend head body
   no_resend_size : length body ≢ 20 → IsNoResend head body
 
--- the plain body: reserved bytes 0
+-- the plain body: the reserved field is 0
 abbrev pub resend_body : Resend → List ℕ
-resend_body resend =
-    big_bytes 2 resend.channel ++ (0 ∷ 0 ∷ []) ++ big_bytes 4 resend.first ++ big_bytes 4 resend.last ++ big_bytes 8 resend.block
+resend_body resend = spelled (resend_fields 0 resend)
 
 -- identifiers are extended, and no acknowledge is asked for
 abbrev pub resend_head : ℕ → CommandHead
@@ -67,13 +61,14 @@ discovery_command = other DISCOVERY_CMD []
 
 -- ---- PENDING
 
--- Two reserved bytes, and a time in milliseconds.
+-- the fields of the body, each with its number of bytes
+abbrev pub pending_fields : ℕ → ℕ → List (ℕ × ℕ)
+pending_fields reserved time = (2, reserved) ∷ (2, time) ∷ []
+
+-- A reserved field, and a time in milliseconds.
 pub record IsPendingBody (body : List ℕ) (time : ℕ) : Type 0 where
-  pub reserved : List ℕ
-  pub time_field : List ℕ
-  pub pieces : body ≡ reserved ++ time_field
-  pub free : length reserved ≡ 2
-  pub time_is : IsField 2 time time_field
+  pub reserved : ℕ
+  pub fields : HasFields body (pending_fields reserved time) []
 
 -- The acknowledge says that the command takes that much longer.
 pub record IsPending (ack : PlainAck) (time : ℕ) : Type 0 where
@@ -85,6 +80,6 @@ pub data IsNoPending (ack : PlainAck) : Type 0 where
   no_pending : ack.code ≢ PENDING_ACK → IsNoPending ack
   no_pending_size : length ack.body ≢ 4 → IsNoPending ack
 
--- the plain body: reserved bytes 0
+-- the plain body: the reserved field is 0
 abbrev pub pending_body : ℕ → List ℕ
-pending_body time = 0 ∷ 0 ∷ big_bytes 2 time
+pending_body time = spelled (pending_fields 0 time)

@@ -1,10 +1,10 @@
 -- What is read of the bodies, computed.
 use Rattle.std.specs.Prelude.{ℕ, ◌&&◌, ◌==◌, List, length, Option, Some, None, if◌then◌else◌}
+use Rattle.wire_fields.specs.Fields.{number_at}
 use Rattle.gvcp_wire.specs.Codes.{PACKETRESEND_CMD, PENDING_ACK}
 use Rattle.gvcp_wire.specs.declared.message.CommandHead.{CommandHead}
 use Rattle.gvcp_wire.specs.Flags.{has_flag}
 use Rattle.gvcp_wire.specs.Messages.{PlainAck}
-use Rattle.gvcp_wire.specs.Reading.{number_at}
 use Rattle.gvcp_aux.specs.declared.resend.Resend.{Resend}
 
 abbrev pub resend_at : List ℕ → Resend

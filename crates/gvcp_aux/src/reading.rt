@@ -5,9 +5,9 @@ ghost use Rattle.gvcp_aux.specs.Bodies.{IsResend, IsNoResend, IsPending, IsNoPen
 ghost use Rattle.gvcp_aux.specs.Reading.{resend_reading, pending_reading};
 
 use crate::resend::Resend;
-use byteorder::{BigEndian, ByteOrder};
 use gvcp_wire::codes::{PACKETRESEND_BODY_SIZE, PACKETRESEND_CMD, PENDING_ACK};
 use gvcp_wire::{Ack, CommandHead, has_extended_ids};
+use wire_fields::{u16_at, u32_at, u64_at};
 
 // The bytes in the body of PENDING.
 const PENDING_BODY_SIZE: usize = 4;
@@ -20,10 +20,10 @@ fn resend_of(head: CommandHead, body: &[u8]) -> Option<Resend>
         return None;
     }
     Some(Resend {
-        channel: BigEndian::read_u16(body),
-        first: BigEndian::read_u32(&body[4..]),
-        last: BigEndian::read_u32(&body[8..]),
-        block: BigEndian::read_u64(&body[12..]),
+        channel: u16_at(body, 0),
+        first: u32_at(body, 4),
+        last: u32_at(body, 8),
+        block: u64_at(body, 12),
     })
 }
 
@@ -33,7 +33,7 @@ fn pending_of(ack: &Ack<'_>) -> Option<u16>
     if ack.code != PENDING_ACK || ack.body.len() != PENDING_BODY_SIZE {
         return None;
     }
-    Some(BigEndian::read_u16(&ack.body[2..]))
+    Some(u16_at(ack.body, 2))
 }
 
 /// The packets that PACKETRESEND with extended identifiers asks for (GigE Vision 2.0, PACKETRESEND

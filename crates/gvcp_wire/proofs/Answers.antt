@@ -1,15 +1,15 @@
 -- What the reading of an acknowledge computes is what the wire relation and the refusals say.
 use Rattle.std.specs.Prelude.{◌↔◌, ◌⊎◌}
-use Rattle.std.proofs.Common.{◌≡◌, ℕ, ◌≤◌, cond, ltb, eqb, List, [], ◌∷◌, ◌++◌, length, drop, Result, Ok, Err, refl, sym, ap, subst, ◌∙◌, arith, inl, inr}
+use Rattle.std.proofs.Common.{◌≡◌, ℕ, ◌≤◌, cond, ltb, eqb, List, length, drop, Result, Ok, Err, refl, sym, ap, subst, ◌∙◌, arith, inl, inr}
 use Rattle.std.proofs.lemmas.Bool.{cond_both, eqb-true, eqb-false, eq-eqb, ne_eqb, ltb-true, ltb-false, lt-ltb, le-ltb}
-use Rattle.byteorder.specs.Endian.{big_number}
+use Rattle.wire_fields.specs.Fields.{number_at}
+use Rattle.wire_fields.proofs.InOrder.{fields_read, fields_made}
 use Rattle.gvcp_wire.specs.declared.message.ControlError.{ControlError}
 use Rattle.gvcp_wire.specs.declared.message.ControlError.TheVariants.{Short, Key, ZeroReq, Length, Form}
 use Rattle.gvcp_wire.specs.Messages.{PlainAck}
-use Rattle.gvcp_wire.specs.Answer.{IsAnswerOf, Answer, AnswerRefused}
-use Rattle.gvcp_wire.specs.Reading.{number_at, told, ack_of, ack_reading}
+use Rattle.gvcp_wire.specs.Answer.{ack_fields, IsAnswerOf, Answer, AnswerRefused}
+use Rattle.gvcp_wire.specs.Reading.{told, ack_of, ack_reading}
 use Rattle.gvcp_wire.specs.Laws.{ReadsAck, IsOneAck}
-use Rattle.gvcp_wire.proofs.Pieces.{two_of}
 use Rattle.gvcp_wire.proofs.Commands.{body_by}
 
 -- the acknowledge in bytes of which at least 8 stand there
@@ -24,29 +24,9 @@ ack_by ack len =
 -- ---- the header
 
 header_at : (bytes : List ℕ) → 8 ≤ length bytes → IsAnswerOf bytes (ack_at bytes) (number_at 4 2 bytes)
-header_at [] h = absurd (omega arith)
-header_at (a ∷ []) h = absurd (omega arith)
-header_at (a ∷ b ∷ []) h = absurd (omega arith)
-header_at (a ∷ b ∷ c ∷ []) h = absurd (omega arith)
-header_at (a ∷ b ∷ c ∷ d ∷ []) h = absurd (omega arith)
-header_at (a ∷ b ∷ c ∷ d ∷ e ∷ []) h = absurd (omega arith)
-header_at (a ∷ b ∷ c ∷ d ∷ e ∷ f ∷ []) h = absurd (omega arith)
-header_at (a ∷ b ∷ c ∷ d ∷ e ∷ f ∷ g ∷ []) h = absurd (omega arith)
-header_at (a ∷ b ∷ c ∷ d ∷ e ∷ f ∷ g ∷ i ∷ body) h = record {
-  status_field = a ∷ b ∷ [];
-  code_field = c ∷ d ∷ [];
-  length_field = e ∷ f ∷ [];
-  request_field = g ∷ i ∷ [];
-  pieces = refl;
-  status_is = record { wide = refl; holds = refl };
-  code_is = record { wide = refl; holds = refl };
-  length_is = record { wide = refl; holds = refl };
-  request_is = record { wide = refl; holds = refl };
-}
-
-header_cells : (ws xs ys zs body : List ℕ) (a b c d e f g h : ℕ) → ws ≡ a ∷ b ∷ [] → xs ≡ c ∷ d ∷ [] → ys ≡ e ∷ f ∷ [] → zs ≡ g ∷ h ∷ []
-    → ws ++ xs ++ ys ++ zs ++ body ≡ a ∷ b ∷ c ∷ d ∷ e ∷ f ∷ g ∷ h ∷ body
-header_cells ws xs ys zs body a b c d e f g h p q r s = rw (p, q, r, s) refl
+header_at bytes long =
+    fields_made 0 (ack_fields (ack_at bytes) (number_at 4 2 bytes)) (drop 8 bytes) bytes
+    (omega arith, refl, (omega arith, refl, (omega arith, refl, (omega arith, refl, refl))))
 
 record HasAckParts (bytes : List ℕ) (ack : PlainAck) (len : ℕ) : Type 0 where
   pub long : 8 ≤ length bytes
@@ -63,19 +43,12 @@ same_ack a b p q r s =
 
 parts_of : (bytes : List ℕ) (ack : PlainAck) (len : ℕ) → IsAnswerOf bytes ack len → HasAckParts bytes ack len
 parts_of bytes ack len h =
-    let w = two_of h.status_field h.status_is.wide in
-    let x = two_of h.code_field h.code_is.wide in
-    let y = two_of h.length_field h.length_is.wide in
-    let z = two_of h.request_field h.request_is.wide in
-    let cells : List ℕ = w.0 ∷ w.1 ∷ x.0 ∷ x.1 ∷ y.0 ∷ y.1 ∷ z.0 ∷ z.1 ∷ ack.body in
-    let e : bytes ≡ cells = h.pieces ∙ header_cells h.status_field h.code_field h.length_field h.request_field ack.body w.0 w.1 x.0 x.1 y.0 y.1 z.0 z.1 w.2 x.2 y.2 z.2 in
-    let status = ap (number_at 0 2) e ∙ ap (big_number 2) (sym w.2) ∙ h.status_is.holds in
-    let code = ap (number_at 2 2) e ∙ ap (big_number 2) (sym x.2) ∙ h.code_is.holds in
-    let req = ap (number_at 6 2) e ∙ ap (big_number 2) (sym z.2) ∙ h.request_is.holds in
+    let (status_fits, status_is, (code_fits, code_is, (length_fits, length_is, (request_fits, request_is, body_is)))) =
+    fields_read 0 (ack_fields ack len) ack.body bytes h in
     record {
-      long = omega (arith, ap length e);
-      ack_is = same_ack (ack_at bytes) ack status code req (ap (drop 8) e);
-      length_is = ap (number_at 4 2) e ∙ ap (big_number 2) (sym y.2) ∙ h.length_is.holds;
+      long = omega (arith, request_fits);
+      ack_is = same_ack (ack_at bytes) ack status_is code_is request_is body_is;
+      length_is = length_is;
     }
 
 -- what is read of bytes that are long enough

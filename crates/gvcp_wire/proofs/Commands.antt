@@ -2,12 +2,13 @@
 use Rattle.std.specs.Prelude.{◌↔◌, ◌⊎◌}
 use Rattle.std.proofs.Common.{◌≡◌, ℕ, ◌≤◌, cond, ltb, eqb, List, length, drop, slice_index, Option, Some, None, Result, Ok, Err, refl, ap, subst, ◌∙◌, arith, inl, inr}
 use Rattle.std.proofs.lemmas.Bool.{cond_both, eqb-true, eqb-false, eq-eqb, ne_eqb, ltb-true, ltb-false, lt-ltb, le-ltb}
+use Rattle.wire_fields.specs.Fields.{number_at}
 use Rattle.gvcp_wire.specs.declared.message.CommandHead.{CommandHead}
 use Rattle.gvcp_wire.specs.declared.message.ControlError.{ControlError}
 use Rattle.gvcp_wire.specs.declared.message.ControlError.TheVariants.{Short, Key, ZeroReq, Length, Form}
 use Rattle.gvcp_wire.specs.Messages.{PlainCommand}
 use Rattle.gvcp_wire.specs.Control.{IsCommandOf, HasForm, Control, Refused}
-use Rattle.gvcp_wire.specs.Reading.{number_at, head_at, told, or_form, command_in, command_of, command_reading}
+use Rattle.gvcp_wire.specs.Reading.{head_at, told, or_form, command_in, command_of, command_reading}
 use Rattle.gvcp_wire.specs.Laws.{ReadsCommand, IsOneCommand}
 use Rattle.gvcp_wire.proofs.Pieces.{parts_of, header_at}
 use Rattle.gvcp_wire.proofs.Forms.{form_of, form_found}

@@ -3,12 +3,13 @@ use Rattle.std.specs.Prelude.{◌==◌}
 use Rattle.std.proofs.Common.{◌≡◌, ◌≢◌, ℕ, ◌*◌, ◌/◌, ◌≤◌, Bool, true, false, ◌&&◌, ltb, leb, eqb, ◌%◌, inl, inr, List, length, drop, Option, Some, None, refl, ap, subst, ◌∙◌, arith}
 use Rattle.std.proofs.lemmas.Bool.{cond_both, and_parts, and_from, eqb-true, eqb-false, eq-eqb, ne_eqb, leb-true, le-leb, ltb-false, le-ltb, cases_eq}
 use Rattle.std.proofs.lemmas.List.{nil_from_length}
+use Rattle.wire_fields.specs.Fields.{number_at}
 use Rattle.gvcp_wire.specs.declared.message.CommandHead.{CommandHead}
-use Rattle.gvcp_wire.specs.Fields.{AreItems}
+use Rattle.gvcp_wire.specs.Items.{AreItems}
 use Rattle.gvcp_wire.specs.Flags.{has_flag}
 use Rattle.gvcp_wire.specs.Messages.{PlainCommand, read_reg, write_reg, read_mem, write_mem, other}
 use Rattle.gvcp_wire.specs.Control.{IsOther, discovery, packet_resend, unknown, IsReadMem, IsWriteMem, IsInTable, IsBody, HasForm}
-use Rattle.gvcp_wire.specs.Reading.{are_items, given_if, is_other, read_reg_in, write_reg_in, read_mem_in, write_mem_in, other_in, in_table, command_in, number_at}
+use Rattle.gvcp_wire.specs.Reading.{are_items, given_if, is_other, read_reg_in, write_reg_in, read_mem_in, write_mem_in, other_in, in_table, command_in}
 use Rattle.gvcp_wire.proofs.Pieces.{read_mem_at, reads_mem, write_mem_at, writes_mem}
 
 -- ---- items of one size

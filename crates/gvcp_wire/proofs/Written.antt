@@ -1,34 +1,19 @@
 -- What is written is in the wire relation.
-use Rattle.std.proofs.Common.{◌≡◌, ℕ, ◌^◌, ◌<◌, List, [], ◌∷◌, ◌++◌, length, refl, sym, ap, ◌∙◌, arith}
-use Rattle.std.proofs.lemmas.List.{append-nil, length-append}
-use Rattle.byteorder.specs.Endian.{big_number, big_bytes}
-use Rattle.byteorder.specs.Numbers.{big_number-reads_back, length-bytes_high_first}
+use Rattle.std.proofs.Common.{◌≡◌, ℕ, ◌^◌, ◌<◌, List, length, refl, sym, ap, arith, length-append, length-drop}
+use Rattle.wire_fields.specs.Fields.{spelled}
+use Rattle.wire_fields.proofs.Spellings.{fields_spelled, whole_spelled, length-spelled}
 use Rattle.gvcp_wire.specs.declared.message.CommandHead.{CommandHead}
-use Rattle.gvcp_wire.specs.Fields.{IsField}
 use Rattle.gvcp_wire.specs.Messages.{PlainCommand, read_reg, write_reg, read_mem, write_mem, other, PlainAck}
-use Rattle.gvcp_wire.specs.Control.{IsBody, Control, plain_body, plain, IsCommand, HasWidths, AreWithin}
+use Rattle.gvcp_wire.specs.Control.{header_fields, read_mem_fields, write_mem_fields, IsBody, Control, plain_body, plain, IsCommand, HasWidths, AreWithin}
+use Rattle.gvcp_wire.specs.Answer.{ack_fields}
 use Rattle.gvcp_wire.specs.Laws.{IsWrittenCommand, IsWrittenAck}
-
--- the bytes of a number are a field that holds it
-pub field_of : (size n : ℕ) → n < 256 ^ size → IsField size n (big_bytes size n)
-field_of size n h = record {
-  wide = length-bytes_high_first size n;
-  holds = ap (big_number size) (sym (append-nil (big_bytes size n))) ∙ big_number-reads_back size n [] h;
-}
+use Rattle.gvcp_wire.proofs.Pieces.{reads_mem, writes_mem}
 
 body_is_written : (command : PlainCommand) → HasWidths command → IsBody (plain_body command) command
 body_is_written (read_reg addresses) w = refl
 body_is_written (write_reg pairs) w = refl
-body_is_written (read_mem address count) w = record {
-  address_field = big_bytes 4 address;
-  reserved = 0 ∷ 0 ∷ [];
-  count_field = big_bytes 2 count;
-  pieces = refl;
-  address_is = field_of 4 address w.0;
-  free = refl;
-  count_is = field_of 2 count w.1;
-}
-body_is_written (write_mem address bytes) w = record { address_field = big_bytes 4 address; pieces = refl; address_is = field_of 4 address w }
+body_is_written (read_mem address count) w = record { reserved = 0; fields = whole_spelled (read_mem_fields address 0 count) (w.0, (omega arith, (w.1, tt))) }
+body_is_written (write_mem address bytes) w = fields_spelled (write_mem_fields address) bytes (w, tt)
 body_is_written (other code body) w = refl
 
 written_again : (head : CommandHead) (command : PlainCommand) → IsCommand head command → AreWithin head command → Control (plain head command) head command
@@ -37,15 +22,7 @@ written_again head command c w =
     let len : length body < 2 ^ 16 = omega (arith, c.fits) in
     record {
       body = body;
-      header = record {
-        code_field = big_bytes 2 head.code;
-        length_field = big_bytes 2 (length body);
-        request_field = big_bytes 2 head.req;
-        pieces = refl;
-        code_is = field_of 2 head.code w.code;
-        length_is = field_of 2 (length body) len;
-        request_is = field_of 2 head.req w.request;
-      };
+      header = fields_spelled (header_fields 66 head (length body)) body (omega arith, (w.flags, (w.code, (len, (w.request, tt)))));
       request = c.request;
       form = record { fits = c.fits; allowed = c.allowed; spelled = body_is_written command w.body };
     }
@@ -53,10 +30,10 @@ written_again head command c w =
 length_written : (body : List ℕ) (command : PlainCommand) → IsBody body command → length (plain_body command) ≡ length body
 length_written body (read_reg addresses) h = ap length (sym h)
 length_written body (write_reg pairs) h = ap length (sym h)
-length_written body (read_mem address count) h =
-    omega (arith, ap length h.pieces, length-append (h.address_field ++ h.reserved) h.count_field, length-append h.address_field h.reserved, h.address_is.wide, h.free, h.count_is.wide)
+length_written body (read_mem address count) h = omega (arith, length-spelled (read_mem_fields address 0 count), (reads_mem body address count h).whole)
 length_written body (write_mem address bytes) h =
-    omega (arith, ap length h.pieces, length-append h.address_field bytes, h.address_is.wide)
+    let m = writes_mem body address bytes h in
+    omega (arith, length-append (spelled (write_mem_fields address)) bytes, length-spelled (write_mem_fields address), ap length m.bytes_are, length-drop 4 body, m.long)
 length_written body (other code rest) h = ap length (sym h)
 
 pub is_written_command : (head : CommandHead) (command : PlainCommand) → IsWrittenCommand head command
@@ -71,16 +48,6 @@ is_written_command head command = record {
 
 pub is_written_ack : (ack : PlainAck) → IsWrittenAck ack
 is_written_ack ack h = record {
-  header = record {
-    status_field = big_bytes 2 ack.status;
-    code_field = big_bytes 2 ack.code;
-    length_field = big_bytes 2 (length ack.body);
-    request_field = big_bytes 2 ack.req;
-    pieces = refl;
-    status_is = field_of 2 ack.status h.status;
-    code_is = field_of 2 ack.code h.code;
-    length_is = field_of 2 (length ack.body) h.fits;
-    request_is = field_of 2 ack.req h.req;
-  };
+  header = fields_spelled (ack_fields ack (length ack.body)) ack.body (h.status, (h.code, (h.fits, (h.req, tt))));
   request = h.request;
 }

@@ -1,22 +1,17 @@
 -- Which bytes are which acknowledge, and which bytes are none (GigE Vision 2.0, GVCP acknowledge header).
-use Rattle.std.specs.Prelude.{◌≡◌, ◌≢◌, ℕ, ◌-◌, ◌^◌, ◌<◌, ◌≤◌, List, ◌++◌, length, min}
-use Rattle.byteorder.specs.Endian.{big_bytes}
+use Rattle.std.specs.Prelude.{◌≡◌, ◌≢◌, ℕ, ◌-◌, ◌^◌, ◌<◌, ◌≤◌, List, [], ◌∷◌, ◌++◌, length, min}
+use Rattle.wire_fields.specs.Fields.{HasFields, spelled}
 use Rattle.gvcp_wire.specs.declared.message.ControlError.{ControlError}
 use Rattle.gvcp_wire.specs.declared.message.ControlError.TheVariants.{Short, Key, ZeroReq, Length, Form}
-use Rattle.gvcp_wire.specs.Fields.{IsField}
 use Rattle.gvcp_wire.specs.Messages.{PlainAck}
 
+-- the fields of an acknowledge's header with this length, each with its number of bytes
+abbrev pub ack_fields : PlainAck → ℕ → List (ℕ × ℕ)
+ack_fields ack len = (2, ack.status) ∷ (2, ack.code) ∷ (2, len) ∷ (2, ack.req) ∷ []
+
 -- The bytes are the acknowledge's header, with this length, and its body.
-pub record IsAnswerOf (bytes : List ℕ) (ack : PlainAck) (len : ℕ) : Type 0 where
-  pub status_field : List ℕ
-  pub code_field : List ℕ
-  pub length_field : List ℕ
-  pub request_field : List ℕ
-  pub pieces : bytes ≡ status_field ++ code_field ++ length_field ++ request_field ++ ack.body
-  pub status_is : IsField 2 ack.status status_field
-  pub code_is : IsField 2 ack.code code_field
-  pub length_is : IsField 2 len length_field
-  pub request_is : IsField 2 ack.req request_field
+abbrev pub IsAnswerOf : List ℕ → PlainAck → ℕ → Type 0
+IsAnswerOf bytes ack len = HasFields bytes (ack_fields ack len) ack.body
 
 -- ---- the wire relation of acknowledges
 
@@ -50,8 +45,7 @@ AnswerRefused bytes (Form head) = ⊥
 -- ---- the plain spelling
 
 abbrev pub plain_ack : PlainAck → List ℕ
-plain_ack ack =
-    big_bytes 2 ack.status ++ big_bytes 2 ack.code ++ big_bytes 2 (length ack.body) ++ big_bytes 2 ack.req ++ ack.body
+plain_ack ack = spelled (ack_fields ack (length ack.body)) ++ ack.body
 
 -- The numbers are within their fields, the length's too.
 pub record IsAck (ack : PlainAck) : Type 0 where

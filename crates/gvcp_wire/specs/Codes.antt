@@ -9,6 +9,8 @@ KEY = 0x42
 abbrev pub MAX_BODY_SIZE : ℕ
 MAX_BODY_SIZE = 540
 
+-- ---- commands
+
 abbrev pub DISCOVERY_CMD : ℕ
 DISCOVERY_CMD = 0x0002
 
@@ -26,6 +28,23 @@ READMEM_CMD = 0x0084
 
 abbrev pub WRITEMEM_CMD : ℕ
 WRITEMEM_CMD = 0x0086
+
+-- ---- acknowledges
+
+abbrev pub DISCOVERY_ACK : ℕ
+DISCOVERY_ACK = 0x0003
+
+abbrev pub READREG_ACK : ℕ
+READREG_ACK = 0x0081
+
+abbrev pub WRITEREG_ACK : ℕ
+WRITEREG_ACK = 0x0083
+
+abbrev pub READMEM_ACK : ℕ
+READMEM_ACK = 0x0085
+
+abbrev pub WRITEMEM_ACK : ℕ
+WRITEMEM_ACK = 0x0087
 
 abbrev pub PENDING_ACK : ℕ
 PENDING_ACK = 0x0089

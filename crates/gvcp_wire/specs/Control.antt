@@ -1,42 +1,39 @@
 -- Which bytes are which command, and which bytes are none (GigE Vision 2.0, GVCP command header and
 -- the commands DISCOVERY, PACKETRESEND, READREG, WRITEREG, READMEM and WRITEMEM).
 use Rattle.std.specs.Prelude.{◌≡◌, ◌≢◌, ℕ, ◌-◌, ◌^◌, ◌<◌, ◌≤◌, List, [], ◌∷◌, ◌++◌, length, min, IsTrue}
-use Rattle.byteorder.specs.Endian.{big_bytes}
+use Rattle.wire_fields.specs.Fields.{HasFields, spelled}
 use Rattle.gvcp_wire.specs.Codes.{KEY, MAX_BODY_SIZE, DISCOVERY_CMD, PACKETRESEND_CMD, READREG_CMD, WRITEREG_CMD, READMEM_CMD, WRITEMEM_CMD}
 use Rattle.gvcp_wire.specs.declared.message.CommandHead.{CommandHead}
 use Rattle.gvcp_wire.specs.declared.message.ControlError.{ControlError}
 use Rattle.gvcp_wire.specs.declared.message.ControlError.TheVariants.{Short, Key, ZeroReq, Length, Form}
 use Rattle.gvcp_wire.specs.Flags.{has_flag}
-use Rattle.gvcp_wire.specs.Fields.{IsField, AreItems}
+use Rattle.gvcp_wire.specs.Items.{AreItems}
 use Rattle.gvcp_wire.specs.Messages.{PlainCommand, read_reg, write_reg, read_mem, write_mem, other}
 
--- The bytes are a command's header with this first byte, these fields and this length, and a body.
-pub record IsCommandOf (bytes : List ℕ) (key : ℕ) (head : CommandHead) (len : ℕ) (body : List ℕ) : Type 0 where
-  pub code_field : List ℕ
-  pub length_field : List ℕ
-  pub request_field : List ℕ
-  pub pieces : bytes ≡ key ∷ head.flags ∷ (code_field ++ length_field ++ request_field ++ body)
-  pub code_is : IsField 2 head.code code_field
-  pub length_is : IsField 2 len length_field
-  pub request_is : IsField 2 head.req request_field
+-- the fields of a command's header with this first byte and this length, each with its number of bytes
+abbrev pub header_fields : ℕ → CommandHead → ℕ → List (ℕ × ℕ)
+header_fields key head len = (1, key) ∷ (1, head.flags) ∷ (2, head.code) ∷ (2, len) ∷ (2, head.req) ∷ []
+
+-- The bytes are such a header, and a body.
+abbrev pub IsCommandOf : List ℕ → ℕ → CommandHead → ℕ → List ℕ → Type 0
+IsCommandOf bytes key head len body = HasFields bytes (header_fields key head len) body
 
 -- ---- bodies
 
--- An address, two reserved bytes, and a count.
+abbrev pub read_mem_fields : ℕ → ℕ → ℕ → List (ℕ × ℕ)
+read_mem_fields address reserved count = (4, address) ∷ (2, reserved) ∷ (2, count) ∷ []
+
+-- An address, a reserved field, and a count.
 pub record IsReadMem (body : List ℕ) (address count : ℕ) : Type 0 where
-  pub address_field : List ℕ
-  pub reserved : List ℕ
-  pub count_field : List ℕ
-  pub pieces : body ≡ address_field ++ reserved ++ count_field
-  pub address_is : IsField 4 address address_field
-  pub free : length reserved ≡ 2
-  pub count_is : IsField 2 count count_field
+  pub reserved : ℕ
+  pub fields : HasFields body (read_mem_fields address reserved count) []
+
+abbrev pub write_mem_fields : ℕ → List (ℕ × ℕ)
+write_mem_fields address = (4, address) ∷ []
 
 -- An address, and the bytes that go there.
-pub record IsWriteMem (body : List ℕ) (address : ℕ) (bytes : List ℕ) : Type 0 where
-  pub address_field : List ℕ
-  pub pieces : body ≡ address_field ++ bytes
-  pub address_is : IsField 4 address address_field
+abbrev pub IsWriteMem : List ℕ → ℕ → List ℕ → Type 0
+IsWriteMem body address bytes = HasFields body (write_mem_fields address) bytes
 
 -- the body's bytes say what the command says
 abbrev pub IsBody : List ℕ → PlainCommand → Type 0
@@ -120,14 +117,13 @@ Refused bytes (Form head) = HasNoForm bytes head
 abbrev pub plain_body : PlainCommand → List ℕ
 plain_body (read_reg addresses) = addresses
 plain_body (write_reg pairs) = pairs
-plain_body (read_mem address count) = big_bytes 4 address ++ 0 ∷ 0 ∷ big_bytes 2 count
-plain_body (write_mem address bytes) = big_bytes 4 address ++ bytes
+plain_body (read_mem address count) = spelled (read_mem_fields address 0 count)
+plain_body (write_mem address bytes) = spelled (write_mem_fields address) ++ bytes
 plain_body (other code body) = body
 
 -- a header and a body after it
 abbrev pub with_header : CommandHead → List ℕ → List ℕ
-with_header head body =
-    KEY ∷ head.flags ∷ (big_bytes 2 head.code ++ big_bytes 2 (length body) ++ big_bytes 2 head.req ++ body)
+with_header head body = spelled (header_fields KEY head (length body)) ++ body
 
 abbrev pub plain : CommandHead → PlainCommand → List ℕ
 plain head command = with_header head (plain_body command)
@@ -147,6 +143,7 @@ HasWidths (write_mem address bytes) = address < 2 ^ 32
 HasWidths (other code body) = Unit {0}
 
 pub record AreWithin (head : CommandHead) (command : PlainCommand) : Type 0 where
+  pub flags : head.flags < 2 ^ 8
   pub code : head.code < 2 ^ 16
   pub request : head.req < 2 ^ 16
   pub body : HasWidths command

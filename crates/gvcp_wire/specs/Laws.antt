@@ -1,12 +1,33 @@
 -- The laws of the messages: what the readings compute is what the relations say, bytes are exactly one
 -- message or refused for exactly one reason, and what was written is read again.
 use Rattle.std.specs.Prelude.{◌≡◌, ◌⊎◌, ◌↔◌, ℕ, List, Ok, Err}
+use Rattle.gvcp_wire.specs.Codes.{KEY, MAX_BODY_SIZE, DISCOVERY_CMD, DISCOVERY_ACK, PACKETRESEND_CMD, READREG_CMD, READREG_ACK, WRITEREG_CMD, WRITEREG_ACK, READMEM_CMD, READMEM_ACK, WRITEMEM_CMD, WRITEMEM_ACK, PENDING_ACK}
+use Rattle.gvcp_wire.specs.declared.codes.TheConstants as code
 use Rattle.gvcp_wire.specs.declared.message.CommandHead.{CommandHead}
 use Rattle.gvcp_wire.specs.declared.message.ControlError.{ControlError}
 use Rattle.gvcp_wire.specs.Messages.{PlainCommand, PlainAck}
 use Rattle.gvcp_wire.specs.Control.{Control, Refused, IsCommand, AreWithin, plain}
 use Rattle.gvcp_wire.specs.Answer.{Answer, AnswerRefused, IsAck, plain_ack}
 use Rattle.gvcp_wire.specs.Reading.{command_reading, ack_reading}
+
+-- ---- codes
+
+-- The constants of `src/codes.rt` are the numbers of `Codes`.
+pub record CodesAreStandard : Type 0 where
+  pub key : code.KEY ≡ KEY
+  pub max_body_size : code.MAX_BODY_SIZE ≡ MAX_BODY_SIZE
+  pub discovery : code.DISCOVERY_CMD ≡ DISCOVERY_CMD
+  pub discovery_ack : code.DISCOVERY_ACK ≡ DISCOVERY_ACK
+  pub packetresend : code.PACKETRESEND_CMD ≡ PACKETRESEND_CMD
+  pub readreg : code.READREG_CMD ≡ READREG_CMD
+  pub readreg_ack : code.READREG_ACK ≡ READREG_ACK
+  pub writereg : code.WRITEREG_CMD ≡ WRITEREG_CMD
+  pub writereg_ack : code.WRITEREG_ACK ≡ WRITEREG_ACK
+  pub readmem : code.READMEM_CMD ≡ READMEM_CMD
+  pub readmem_ack : code.READMEM_ACK ≡ READMEM_ACK
+  pub writemem : code.WRITEMEM_CMD ≡ WRITEMEM_CMD
+  pub writemem_ack : code.WRITEMEM_ACK ≡ WRITEMEM_ACK
+  pub pending_ack : code.PENDING_ACK ≡ PENDING_ACK
 
 -- ---- commands
 

@@ -1,10 +1,9 @@
 pub mod Codes
 pub mod Flags
 pub mod Status
-pub mod Fields
+pub mod Items
 pub mod Messages
 pub mod Control
 pub mod Answer
 pub mod Reading
 pub mod Laws
-pub mod Writing

@@ -1,7 +1,7 @@
 -- What the parsers give, computed.
 use Rattle.std.specs.Prelude.{ℕ, ◌-◌, ◌*◌, ◌%◌, ◌^◌, Bool, true, ◌&&◌, ◌==◌, nat_lt, nat_le, List, length, drop, slice_index, min, Option, Some, None, Result, Ok, Err, if◌then◌else◌}
 use Rattle.std.specs.Borrow.{Bor}
-use Rattle.byteorder.specs.Endian.{big_number}
+use Rattle.wire_fields.specs.Fields.{number_at}
 use Rattle.gvcp_wire.specs.Codes.{KEY, MAX_BODY_SIZE, DISCOVERY_CMD, PACKETRESEND_CMD, READREG_CMD, WRITEREG_CMD, READMEM_CMD, WRITEMEM_CMD}
 use Rattle.gvcp_wire.specs.declared.message.Ack.{Ack}
 use Rattle.gvcp_wire.specs.declared.message.Command.{Command}
@@ -10,10 +10,6 @@ use Rattle.gvcp_wire.specs.declared.message.ControlError.{ControlError}
 use Rattle.gvcp_wire.specs.declared.message.ControlError.TheVariants.{Short, Key, ZeroReq, Length, Form}
 use Rattle.gvcp_wire.specs.Flags.{has_flag}
 use Rattle.gvcp_wire.specs.Messages.{PlainCommand, read_reg, write_reg, read_mem, write_mem, other, PlainAck, view, ack_view}
-
--- the number in the n bytes from a place on
-abbrev pub number_at : ℕ → ℕ → List ℕ → ℕ
-number_at place n bytes = big_number n (drop place bytes)
 
 -- whether the bytes are items of one size, from 1 to a largest number of them
 abbrev pub are_items : ℕ → ℕ → List ℕ → Bool

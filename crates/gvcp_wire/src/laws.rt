@@ -4,7 +4,12 @@
 ghost use Rattle.std.specs.Prelude.{ℕ, List};
 ghost use Rattle.gvcp_wire.specs.declared.message.CommandHead.{CommandHead};
 ghost use Rattle.gvcp_wire.specs.Messages.{PlainCommand, PlainAck};
-ghost use Rattle.gvcp_wire.specs.Laws.{ReadsCommand, IsOneCommand, IsWrittenCommand, ReadsAck, IsOneAck, IsWrittenAck};
+ghost use Rattle.gvcp_wire.specs.Laws.{CodesAreStandard, ReadsCommand, IsOneCommand, IsWrittenCommand, ReadsAck, IsOneAck, IsWrittenAck};
+
+/// The constants of `codes` are the numbers of the standard.
+pub fn codes_are_the_standards()
+    ensures { CodesAreStandard }
+{}
 
 /// What the reading of a command computes is what the wire relation and the refusals say.
 pub fn command_reading_is_the_relation()

@@ -17,7 +17,8 @@ mod writing;
 pub use flags::{CommandFlags, has_extended_ids};
 pub use laws::{
     ack_reading_is_the_relation, bytes_are_one_ack_or_refused, bytes_are_one_command_or_refused,
-    command_reading_is_the_relation, written_ack_is_read, written_command_is_read,
+    codes_are_the_standards, command_reading_is_the_relation, written_ack_is_read,
+    written_command_is_read,
 };
 pub use message::{Ack, Command, CommandHead, ControlError};
 pub use reading::{parse_ack, parse_command};

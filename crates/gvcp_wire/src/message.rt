@@ -1,3 +1,5 @@
+use thiserror::Error;
+
 /// The fields of a command's header that say what is asked (GigE Vision 2.0, GVCP command header).
 #[derive(Clone, Copy, Debug, PartialEq, Eq)]
 pub struct CommandHead {
@@ -53,15 +55,19 @@ pub struct Ack<'a> {
 }
 
 /// Why bytes are no message: the first of these that holds.
-#[derive(Clone, Copy, Debug, PartialEq, Eq)]
+#[derive(Clone, Copy, Debug, PartialEq, Eq, Error)]
 pub enum ControlError {
     /// There are fewer bytes than a header has: so many.
+    #[error("{0} bytes, and a header has 8")]
     Short(u32),
     /// A command begins with this byte and not with the key.
+    #[error("key 0x{0:02x}, and not 0x42")]
     Key(u8),
     /// The request number is 0.
+    #[error("request number 0")]
     ZeroReq,
     /// The length field isn't the number of bytes after the header.
+    #[error("length field {field}, and {real} bytes after the header")]
     Length {
         /// The field's value, in bytes.
         field: u16,
@@ -69,5 +75,6 @@ pub enum ControlError {
         real: u32,
     },
     /// A command's body is too long, or not as the table of commands says.
+    #[error("command 0x{code:04x} has another body", code = .0.code)]
     Form(CommandHead),
 }

@@ -9,7 +9,7 @@ ghost use Rattle.gvcp_wire.specs.Reading.{are_items, read_reg_in, write_reg_in, 
 use crate::codes::*;
 use crate::flags::has_extended_ids;
 use crate::message::{Ack, Command, CommandHead, ControlError};
-use byteorder::{BigEndian, ByteOrder};
+use wire_fields::{u16_at, u32_at};
 
 // Whether the bytes are items of one size, from 1 to so many of them.
 fn are_items(bytes: &[u8], size: usize, most: usize) -> bool
@@ -39,8 +39,8 @@ fn read_mem(body: &[u8]) -> Option<Command<'_>>
     if body.len() != READMEM_BODY_SIZE {
         return None;
     }
-    let address = BigEndian::read_u32(body);
-    let count = BigEndian::read_u16(&body[6..]);
+    let address = u32_at(body, 0);
+    let count = u16_at(body, 6);
     Some(Command::ReadMem { address, count })
 }
 
@@ -50,7 +50,7 @@ fn write_mem(body: &[u8]) -> Option<Command<'_>>
     if body.len() < WORD_SIZE {
         return None;
     }
-    let address = BigEndian::read_u32(body);
+    let address = u32_at(body, 0);
     let bytes = &body[WORD_SIZE..];
     are_items(bytes, WORD_SIZE, MAX_WRITEMEM_WORDS).then_some(Command::WriteMem { address, bytes })
 }
@@ -95,10 +95,10 @@ fn body_of(bytes: &[u8]) -> Result<&[u8], ControlError>
     requires { 8 ≤ length bytes.now }
     ensures { body_seen result ≡ body_reading bytes.now }
 {
-    if BigEndian::read_u16(&bytes[6..]) == 0 {
+    if u16_at(bytes, 6) == 0 {
         return Err(ControlError::ZeroReq);
     }
-    let field = BigEndian::read_u16(&bytes[4..]);
+    let field = u16_at(bytes, 4);
     let body = &bytes[HEADER_SIZE..];
     if usize::from(field) != body.len() {
         let real = u32::try_from(body.len()).unwrap_or(u32::MAX);
@@ -120,8 +120,8 @@ fn command_of(bytes: &[u8]) -> Result<(CommandHead, Command<'_>), ControlError>
     let body = body_of(bytes)?;
     let head = CommandHead {
         flags: bytes[1],
-        code: BigEndian::read_u16(&bytes[2..]),
-        req: BigEndian::read_u16(&bytes[6..]),
+        code: u16_at(bytes, 2),
+        req: u16_at(bytes, 6),
     };
     match command_in(head, body) {
         Some(command) => Ok((head, command)),
@@ -138,9 +138,9 @@ fn ack_of(bytes: &[u8]) -> Result<Ack<'_>, ControlError>
     }
     let body = body_of(bytes)?;
     Ok(Ack {
-        status: BigEndian::read_u16(bytes),
-        code: BigEndian::read_u16(&bytes[2..]),
-        req: BigEndian::read_u16(&bytes[6..]),
+        status: u16_at(bytes, 0),
+        code: u16_at(bytes, 2),
+        req: u16_at(bytes, 6),
         body,
     })
 }

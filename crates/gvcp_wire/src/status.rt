@@ -1,5 +1,7 @@
 ghost use Rattle.std.specs.Prelude.{◌≡◌};
 
+use std::fmt;
+
 /// How a command went, or what became of a packet that was asked for again (GigE Vision 2.0, list
 /// of status codes).
 #[derive(Clone, Copy, Debug, PartialEq, Eq)]
@@ -57,5 +59,26 @@ impl Status {
             Status::PacketAndPrevRemovedFromMemory => 0x8011,
             Status::PacketRemovedFromMemory => 0x8012,
         }
+    }
+}
+
+impl fmt::Display for Status {
+    fn fmt<W: fmt::Write>(&self, f: &mut fmt::Formatter<W>) -> fmt::Result {
+        f.write_str(match self {
+            Status::Success => "success",
+            Status::PacketResend => "packet resend",
+            Status::NotImplemented => "not implemented",
+            Status::InvalidParameter => "invalid parameter",
+            Status::InvalidAddress => "invalid address",
+            Status::WriteProtect => "write protect",
+            Status::BadAlignment => "bad alignment",
+            Status::AccessDenied => "access denied",
+            Status::Busy => "busy",
+            Status::PacketUnavailable => "packet unavailable",
+            Status::InvalidHeader => "invalid header",
+            Status::PacketNotYetAvailable => "packet not yet available",
+            Status::PacketAndPrevRemovedFromMemory => "packet and previous removed from memory",
+            Status::PacketRemovedFromMemory => "packet removed from memory",
+        })
     }
 }

@@ -247,31 +247,69 @@ fn writes(rt: HostRuntime) {
 }
 
 #[test]
-fn statuses(rt: HostRuntime) {
+fn statuses(rt: HostRuntime) -> Result<(), Fail> {
     let rows = [
-        (Status::Success, 0x0000u16),
-        (Status::PacketResend, 0x0100),
-        (Status::NotImplemented, 0x8001),
-        (Status::InvalidParameter, 0x8002),
-        (Status::InvalidAddress, 0x8003),
-        (Status::WriteProtect, 0x8004),
-        (Status::BadAlignment, 0x8005),
-        (Status::AccessDenied, 0x8006),
-        (Status::Busy, 0x8007),
-        (Status::PacketUnavailable, 0x800c),
-        (Status::InvalidHeader, 0x800e),
-        (Status::PacketNotYetAvailable, 0x8010),
-        (Status::PacketAndPrevRemovedFromMemory, 0x8011),
-        (Status::PacketRemovedFromMemory, 0x8012),
+        (Status::Success, 0x0000u16, "success"),
+        (Status::PacketResend, 0x0100, "packet resend"),
+        (Status::NotImplemented, 0x8001, "not implemented"),
+        (Status::InvalidParameter, 0x8002, "invalid parameter"),
+        (Status::InvalidAddress, 0x8003, "invalid address"),
+        (Status::WriteProtect, 0x8004, "write protect"),
+        (Status::BadAlignment, 0x8005, "bad alignment"),
+        (Status::AccessDenied, 0x8006, "access denied"),
+        (Status::Busy, 0x8007, "busy"),
+        (Status::PacketUnavailable, 0x800c, "packet unavailable"),
+        (Status::InvalidHeader, 0x800e, "invalid header"),
+        (
+            Status::PacketNotYetAvailable,
+            0x8010,
+            "packet not yet available",
+        ),
+        (
+            Status::PacketAndPrevRemovedFromMemory,
+            0x8011,
+            "packet and previous removed from memory",
+        ),
+        (
+            Status::PacketRemovedFromMemory,
+            0x8012,
+            "packet removed from memory",
+        ),
     ];
-    for (status, code) in rows {
+    for (status, code, text) in rows {
         assert_eq!(rt; status.code(), code);
+        let printed = format!(in rt.alloc(); "{status}")?;
+        assert_eq!(rt; printed.as_str(), text);
     }
+    Ok(())
+}
+
+#[test]
+fn texts_of_refusals(rt: HostRuntime) -> Result<(), Fail> {
+    let rows = [
+        (ControlError::Short(7), "7 bytes, and a header has 8"),
+        (ControlError::Key(0x43), "key 0x43, and not 0x42"),
+        (ControlError::ZeroReq, "request number 0"),
+        (
+            ControlError::Length { field: 8, real: 4 },
+            "length field 8, and 4 bytes after the header",
+        ),
+        (
+            ControlError::Form(head_of(1, 0x82, 10)),
+            "command 0x0082 has another body",
+        ),
+    ];
+    for (error, text) in rows {
+        let printed = format!(in rt.alloc(); "{error}")?;
+        assert_eq!(rt; printed.as_str(), text);
+    }
+    Ok(())
 }
 
 #[test]
 fn laws_and_flags(rt: HostRuntime) {
     assert!(rt; has_extended_ids(0x11) && !has_extended_ids(0x01));
+    codes_are_the_standards();
     command_reading_is_the_relation();
     bytes_are_one_command_or_refused();
     written_command_is_read();

@@ -1,8 +1,8 @@
 ghost use Rattle.std.specs.Prelude.{◌≡◌, ◌≤◌, ◌^◌, ◌<◌, ◌++◌, length, drop};
 ghost use Rattle.gvcp_wire.specs.Messages.{view, ack_view};
-ghost use Rattle.gvcp_wire.specs.Control.{Control, plain_body, plain, IsCommand, HasWidths};
+ghost use Rattle.gvcp_wire.specs.Control.{Control, header_fields, plain_body, plain, IsCommand, HasWidths};
 ghost use Rattle.gvcp_wire.specs.Answer.{Answer, plain_ack};
-ghost use Rattle.gvcp_wire.specs.Writing.{header_bytes};
+ghost use Rattle.wire_fields.specs.Fields.{spelled};
 
 use crate::codes::*;
 use crate::message::{Ack, Command, CommandHead};
@@ -10,7 +10,8 @@ use byteorder::{BigEndian, ByteOrder};
 
 fn write_header(out: &mut [u8], head: CommandHead, len: u16)
     requires { 8 ≤ length out.old }
-    ensures written { out.new ≡ header_bytes head len ++ drop 8 out.old }
+    ensures written { out.new ≡ spelled (header_fields KEY head len) ++ drop 8 out.old }
+    ensures flags { head.flags < 2 ^ 8 }
     ensures code { head.code < 2 ^ 16 }
     ensures request { head.req < 2 ^ 16 }
 {

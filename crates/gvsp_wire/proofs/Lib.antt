@@ -1,9 +1,9 @@
-pub mod Positions
 pub mod Forms
 pub mod Steps
 pub mod Headers
 pub mod Sound
 pub mod Whole
 pub mod Spellings
+pub mod Writings
 pub mod Ranges
 pub mod Calling

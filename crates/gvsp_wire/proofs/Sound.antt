@@ -3,13 +3,14 @@ use Rattle.std.proofs.Common.{ℕ, ◌%◌, ◌^◌, ◌≤◌, List, length, dr
 use Rattle.std.specs.Prelude.{nat_lt, ◌==◌}
 use Rattle.std.proofs.lemmas.Bool.{cases_Bool, ltb-true, ltb-false, eqb-true, eqb-false, both_ways}
 use Rattle.std.proofs.lemmas.List.{length-drop}
+use Rattle.wire_fields.specs.Fields.{number_at}
 use Rattle.stream_packets.specs.declared.fields.Head.{Head}
 use Rattle.stream_packets.specs.Packets.{StreamPacket}
 use Rattle.gvsp_wire.specs.declared.form.Form.{Form}
 use Rattle.gvsp_wire.specs.declared.form.Form.TheVariants.{Leader, Trailer, Payload}
 use Rattle.gvsp_wire.specs.declared.wire_error.WireError.{WireError}
 use Rattle.gvsp_wire.specs.Wire.{before_format, in_header, in_body, HasHeader, HasBlock, HasPacket, Stream, Refused, is_notice_status}
-use Rattle.gvsp_wire.specs.Reading.{number_at, is_extended, form_of, head_at, block_of, known_of, header_of, is_image_size, info_at, sized_info, leader_of, trailer_of, payload_of, body_of, packet_after, reading}
+use Rattle.gvsp_wire.specs.Reading.{is_extended, form_of, head_at, block_of, known_of, header_of, is_image_size, info_at, sized_info, leader_of, trailer_of, payload_of, body_of, packet_after, reading}
 use Rattle.gvsp_wire.proofs.Steps.{fits_size, size_fits}
 use Rattle.gvsp_wire.proofs.Forms.{code, code_known, form_cases, leader_id, other_id}
 use Rattle.gvsp_wire.proofs.Headers.{format_byte_made, test_extended, extended_test, header_made, leader_body_made, trailer_body_made}
@@ -90,7 +91,7 @@ leader_sound bytes h len has =
                 rw (t, short) (refl, in_body 1 h (drop 20 bytes) has (leader_id h.id id) (omega (arith, length-drop 20 bytes)))
             | inr f56 ↦
                 let body = leader_body_made bytes (ltb-false (length bytes) 56 f56) in
-                elim (cases_Bool (number_at bytes 22 2 == 1)) [
+                elim (cases_Bool (number_at 22 2 bytes == 1)) [
                   | inr other ↦ rw (t, f56, other) (record {
                     format = 1;
                     h = h;
@@ -98,10 +99,10 @@ leader_sound bytes h len has =
                     packet = has;
                     id = leader_id h.id id;
                     payload_type = inl (refl, info_at bytes, body);
-                    other = eqb-false (number_at bytes 22 2) 1 other;
+                    other = eqb-false (number_at 22 2 bytes) 1 other;
                   })
                   | inl image ↦
-                      let image_body = rw (eqb-true (number_at bytes 22 2) 1 image) at body in
+                      let image_body = rw (eqb-true (number_at 22 2 bytes) 1 image) at body in
                       elim (cases_Bool (is_image_size (info_at bytes).size)) [
                         | inl fits ↦ rw (t, f56, image, fits) (record {
                           body = drop 20 bytes;
@@ -145,18 +146,18 @@ trailer_sound bytes h len has =
                 rw (f, short) (refl, in_body 2 h (drop 20 bytes) has (other_id 2 h.id (omega arith) one) (omega (arith, length-drop 20 bytes)))
             | inr f28 ↦
                 let body = trailer_body_made bytes (ltb-false (length bytes) 28 f28) in
-                elim (cases_Bool (number_at bytes 22 2 == 1)) [
+                elim (cases_Bool (number_at 22 2 bytes == 1)) [
                   | inr other ↦ rw (f, f28, other) (record {
                     format = 2;
                     h = h;
                     body = drop 20 bytes;
                     packet = has;
                     id = other_id 2 h.id (omega arith) one;
-                    payload_type = inr (refl, number_at bytes 24 4, body);
-                    other = eqb-false (number_at bytes 22 2) 1 other;
+                    payload_type = inr (refl, number_at 24 4 bytes, body);
+                    other = eqb-false (number_at 22 2 bytes) 1 other;
                   })
                   | inl image ↦
-                      let image_body = rw (eqb-true (number_at bytes 22 2) 1 image) at body in
+                      let image_body = rw (eqb-true (number_at 22 2 bytes) 1 image) at body in
                       rw (f, f28, image) (record { body = drop 20 bytes; packet = has; after_leader = one; lines = image_body })
                 ]
           ]

@@ -1,38 +1,18 @@
 -- The plain spelling of a packet is a datagram of it.
-use Rattle.std.proofs.Common.{◌≡◌, ℕ, ◌+◌, ◌^◌, ◌<◌, List, [], ◌∷◌, ◌++◌, refl, sym, ap, subst, ◌∙◌, append_assoc, inl, inr, arith}
+use Rattle.std.proofs.Common.{◌≡◌, ℕ, ◌+◌, ◌^◌, ◌<◌, ◌≤◌, List, [], ◌++◌, refl, subst, inl, inr, arith}
 use Rattle.std.proofs.lemmas.List.{append-nil}
-use Rattle.byteorder.specs.Endian.{big_number, big_bytes}
-use Rattle.byteorder.specs.Numbers.{length-bytes_high_first, big_number-reads_back}
+use Rattle.wire_fields.specs.Fields.{spelled}
+use Rattle.wire_fields.proofs.Spellings.{fields_spelled, whole_spelled}
 use Rattle.stream_packets.specs.declared.fields.Head.{Head}
 use Rattle.stream_packets.specs.declared.fields.LeaderInfo.{LeaderInfo}
 use Rattle.stream_packets.specs.Packets.{StreamPacket, leader, payload, trailer, notice}
-use Rattle.gvsp_wire.specs.Fields.{BeginsWith, HasFields, spelled, Fit}
-use Rattle.gvsp_wire.specs.Wire.{IsFormat, header_fields, leader_fields, trailer_fields, HasHeader, HasBlock, HasLeaderBody, HasTrailerBody, Stream}
-use Rattle.gvsp_wire.specs.Plain.{plain_header, plain, IsHead, IsInfo, HasSpelling}
-
--- ---- fields
-
-begins_spelled : (n x : ℕ) (rest : List ℕ) → x < 256 ^ n → BeginsWith (big_bytes n x ++ rest) n x rest
-begins_spelled n x rest lt = record {
-  field = big_bytes n x;
-  parts = refl;
-  width = length-bytes_high_first n x;
-  number = ap (big_number n) (sym (append-nil (big_bytes n x))) ∙ big_number-reads_back n x [] lt;
-}
-
-fields_spelled : (fields : List (ℕ × ℕ)) (rest : List ℕ) → Fit fields → HasFields (spelled fields ++ rest) fields rest
-fields_spelled [] rest fit = refl
-fields_spelled ((n, x) ∷ fields) rest fit =
-    let more = fields_spelled fields rest fit.1 in
-    let grouped : big_bytes n x ++ spelled fields ++ rest ≡ big_bytes n x ++ (spelled fields ++ rest) = append_assoc (big_bytes n x) (spelled fields) rest in
-    subst (λ (l : List ℕ). HasFields l ((n, x) ∷ fields) rest) (sym grouped) (spelled fields ++ rest, begins_spelled n x (spelled fields ++ rest) fit.0, more)
-
-whole_spelled : (fields : List (ℕ × ℕ)) → Fit fields → HasFields (spelled fields) fields []
-whole_spelled fields fit = subst (λ (l : List ℕ). HasFields l fields []) (append-nil (spelled fields)) (fields_spelled fields [] fit)
+use Rattle.gvsp_wire.specs.declared.wire_error.WireError.TheVariants.{ZeroBlock}
+use Rattle.gvsp_wire.specs.Wire.{IsFormat, IsNotice, size_of, header_fields, leader_fields, trailer_fields, HasHeader, HasBlock, HasLeaderBody, HasTrailerBody, Stream, Refused}
+use Rattle.gvsp_wire.specs.Plain.{plain_header, plain, HeadFits, InfoFits, HasLeaderForm, HasPayloadForm, HasTrailerForm, HasSpelling}
 
 -- ---- headers and bodies
 
-plain_has_header : (h : Head) (format : ℕ) (body : List ℕ) → format < 16 → IsHead h → HasHeader (plain_header h format ++ body) format h body
+plain_has_header : (h : Head) (format : ℕ) (body : List ℕ) → format < 16 → HeadFits h → HasHeader (plain_header h format ++ body) format h body
 plain_has_header h format body lt is = record {
   format_byte = 2 ^ 7 + format;
   reserved = 0;
@@ -41,16 +21,16 @@ plain_has_header h format body lt is = record {
   low_bits = omega arith;
 }
 
-plain_has_block : (h : Head) (format : ℕ) (body : List ℕ) → IsFormat format → format < 16 → IsHead h → HasBlock (plain_header h format ++ body) format h body
-plain_has_block h format body known lt is = record { header = plain_has_header h format body lt is; known = known; block = is.from_one }
+plain_has_block : (h : Head) (format : ℕ) (body : List ℕ) → IsFormat format → format < 16 → HeadFits h → 1 ≤ h.block → HasBlock (plain_header h format ++ body) format h body
+plain_has_block h format body known lt is block = record { header = plain_has_header h format body lt is; known = known; block = block }
 
-plain_leader : (i : LeaderInfo) → IsInfo i → HasLeaderBody (spelled (leader_fields 0 0 1 i)) 1 i
-plain_leader i is = record {
+plain_leader : (i : LeaderInfo) → InfoFits i → i.size ≡ size_of i → HasLeaderBody (spelled (leader_fields 0 0 1 i)) 1 i
+plain_leader i is size = record {
   field_information = 0;
   reserved = 0;
   ignored = [];
   fields = whole_spelled (leader_fields 0 0 1 i) (omega arith, (omega arith, (omega arith, (is.timestamp, (is.pixel, (is.size_x, (is.size_y, (is.offset_x, (is.offset_y, (is.padding_x, (is.padding_y, tt)))))))))));
-  size = is.size;
+  size = size;
 }
 
 plain_trailer : (y : ℕ) → y < 2 ^ 32 → HasTrailerBody (spelled (trailer_fields 0 1 y)) 1 y
@@ -62,28 +42,51 @@ plain_trailer y lt = record {
 
 -- ---- packets
 
-pub plain_read : (x : StreamPacket) → HasSpelling x → Stream (plain x) x
-plain_read (leader h i) s = record {
+pub leader_read_again : (h : Head) (i : LeaderInfo) → HasLeaderForm h i → HeadFits h → InfoFits i → Stream (plain (leader h i)) (leader h i)
+leader_read_again h i form head info = record {
   body = spelled (leader_fields 0 0 1 i);
-  packet = record { has_block = plain_has_block h 1 (spelled (leader_fields 0 0 1 i)) (inl refl) (omega arith) s.head; no_notice = s.no_notice };
-  first = s.first;
-  info = plain_leader i s.info;
-  in_limits = s.info.in_limits;
+  packet = record { has_block = plain_has_block h 1 (spelled (leader_fields 0 0 1 i)) (inl refl) (omega arith) head form.block; no_notice = form.no_notice };
+  first = form.first;
+  info = plain_leader i info form.size;
+  in_limits = form.in_limits;
 }
-plain_read (payload h d) s = record {
-  packet = record { has_block = plain_has_block h 3 d (inr (inr refl)) (omega arith) s.head; no_notice = s.no_notice };
-  after_leader = s.after_leader;
-  some = s.some;
+
+pub payload_read_again : (h : Head) (d : List ℕ) → HasPayloadForm h d → HeadFits h → Stream (plain (payload h d)) (payload h d)
+payload_read_again h d form head = record {
+  packet = record { has_block = plain_has_block h 3 d (inr (inr refl)) (omega arith) head form.block; no_notice = form.no_notice };
+  after_leader = form.after_leader;
+  some = form.some;
 }
-plain_read (trailer h y) s = record {
+
+pub trailer_read_again : (h : Head) (y : ℕ) → HasTrailerForm h → HeadFits h → y < 2 ^ 32 → Stream (plain (trailer h y)) (trailer h y)
+trailer_read_again h y form head lines = record {
   body = spelled (trailer_fields 0 1 y);
-  packet = record { has_block = plain_has_block h 2 (spelled (trailer_fields 0 1 y)) (inr (inl refl)) (omega arith) s.head; no_notice = s.no_notice };
-  after_leader = s.after_leader;
-  lines = plain_trailer y s.lines;
+  packet = record { has_block = plain_has_block h 2 (spelled (trailer_fields 0 1 y)) (inr (inl refl)) (omega arith) head form.block; no_notice = form.no_notice };
+  after_leader = form.after_leader;
+  lines = plain_trailer y lines;
 }
-plain_read (notice h) s = record {
+
+pub notice_read_again : (h : Head) → IsNotice h → 1 ≤ h.block → HeadFits h → Stream (plain (notice h)) (notice h)
+notice_read_again h status block head = record {
   format = 3;
   ignored = [];
-  has_block = subst (λ (l : List ℕ). HasBlock l 3 h []) (append-nil (plain_header h 3)) (plain_has_block h 3 [] (inr (inr refl)) (omega arith) s.head);
-  status = s.status;
+  has_block = subst (λ (l : List ℕ). HasBlock l 3 h []) (append-nil (plain_header h 3)) (plain_has_block h 3 [] (inr (inr refl)) (omega arith) head block);
+  status = status;
+}
+
+pub plain_read : (x : StreamPacket) → HasSpelling x → Stream (plain x) x
+plain_read (leader h i) s = leader_read_again h i s.form s.fields_fit.0 s.fields_fit.1
+plain_read (payload h d) s = payload_read_again h d s.form s.fields_fit.0
+plain_read (trailer h y) s = trailer_read_again h y s.form s.fields_fit.0 s.fields_fit.1
+plain_read (notice h) s = notice_read_again h s.form.status s.form.block s.fields_fit
+
+-- a notice of block 0
+pub zero_notice_refused : (h : Head) → HeadFits h → IsNotice h → h.block ≡ 0 → Refused (plain (notice h)) ZeroBlock
+zero_notice_refused h head status zero = record {
+  format = 3;
+  h = h;
+  body = [];
+  header = subst (λ (l : List ℕ). HasHeader l 3 h []) (append-nil (plain_header h 3)) (plain_has_header h 3 [] (omega arith) head);
+  known = inr (inr refl);
+  zero_block = zero;
 }

@@ -1,9 +1,11 @@
 -- Laws of the wire relations, which `src/laws.rt` proves.
 use Rattle.std.specs.Prelude.{◌≡◌, ◌⊎◌, ◌↔◌, ℕ, List, Ok, Err}
-use Rattle.stream_packets.specs.Packets.{StreamPacket}
+use Rattle.stream_packets.specs.declared.fields.Head.{Head}
+use Rattle.stream_packets.specs.Packets.{StreamPacket, notice}
 use Rattle.gvsp_wire.specs.declared.wire_error.WireError.{WireError}
-use Rattle.gvsp_wire.specs.Wire.{Stream, Refused}
-use Rattle.gvsp_wire.specs.Plain.{AreBytes, HasSpelling, plain}
+use Rattle.gvsp_wire.specs.declared.wire_error.WireError.TheVariants.{ZeroBlock}
+use Rattle.gvsp_wire.specs.Wire.{IsNotice, Stream, Refused}
+use Rattle.gvsp_wire.specs.Plain.{AreBytes, HeadFits, HasSpelling, plain}
 use Rattle.gvsp_wire.specs.Reading.{reading}
 
 -- Bytes are one packet or have one refusal, and never both.
@@ -27,6 +29,11 @@ ReadingIsExact = (bytes : List ℕ) → ReadsBytes bytes
 -- The plain spelling of a packet is a datagram of it.
 abbrev pub PlainIsRead : Type 0
 PlainIsRead = (x : StreamPacket) → HasSpelling x → Stream (plain x) x
+
+-- A notice of block 0, which answers a resend command for block 0, is spelled as any notice, and
+-- reading refuses it for its block.
+abbrev pub ZeroNoticeIsRefused : Type 0
+ZeroNoticeIsRefused = (h : Head) → HeadFits h → IsNotice h → h.block ≡ 0 → Refused (plain (notice h)) ZeroBlock
 
 -- Two packets with one plain spelling are one.
 abbrev pub PlainIsOne : Type 0

@@ -1,6 +1,6 @@
-pub mod Fields
 pub mod Wire
 pub mod Plain
 pub mod Reading
+pub mod Writing
 pub mod View
 pub mod Laws

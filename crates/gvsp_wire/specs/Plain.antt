@@ -1,10 +1,10 @@
 -- The one plain spelling of each packet, and which packets have one.
 use Rattle.std.specs.Prelude.{◌≡◌, ℕ, ◌+◌, ◌<◌, ◌≤◌, ◌^◌, List, ◌++◌, length, slice_index}
+use Rattle.wire_fields.specs.Fields.{spelled}
 use Rattle.stream_packets.specs.declared.fields.Head.{Head}
 use Rattle.stream_packets.specs.declared.fields.LeaderInfo.{LeaderInfo}
 use Rattle.stream_packets.specs.Packets.{StreamPacket, leader, payload, trailer, notice}
 use Rattle.gev_types.specs.FrameSize.{IsImageSize}
-use Rattle.gvsp_wire.specs.Fields.{spelled}
 use Rattle.gvsp_wire.specs.Wire.{leader_format, trailer_format, payload_format, image_payload, IsNotice, header_fields, leader_fields, trailer_fields, size_of}
 
 -- a header whose reserved fields are 0
@@ -22,16 +22,15 @@ plain (notice h) = plain_header h payload_format
 abbrev pub AreBytes : List ℕ → Type 0
 AreBytes bytes = (i : ℕ) → slice_index bytes i < 256
 
--- a header that a packet of the stream may have: its fields fit, and it has a block id
-pub record IsHead (h : Head) : Type 0 where
+-- ---- fields within their widths
+
+pub record HeadFits (h : Head) : Type 0 where
   pub status : h.status < 2 ^ 16
   pub flags : h.flags < 2 ^ 16
   pub block : h.block < 2 ^ 64
   pub id : h.id < 2 ^ 32
-  pub from_one : 1 ≤ h.block
 
--- a leader's fields that fit, with the size that they say and a frame may have
-pub record IsInfo (i : LeaderInfo) : Type 0 where
+pub record InfoFits (i : LeaderInfo) : Type 0 where
   pub timestamp : i.timestamp < 2 ^ 64
   pub pixel : i.pixel < 2 ^ 32
   pub size_x : i.size_x < 2 ^ 32
@@ -40,36 +39,46 @@ pub record IsInfo (i : LeaderInfo) : Type 0 where
   pub offset_y : i.offset_y < 2 ^ 32
   pub padding_x : i.padding_x < 2 ^ 16
   pub padding_y : i.padding_y < 2 ^ 16
+
+-- The packet's numbers are within their widths, and its payload is of bytes.
+abbrev pub FieldsFit : StreamPacket → Type 0
+FieldsFit (leader h i) = HeadFits h × InfoFits i
+FieldsFit (payload h d) = HeadFits h × AreBytes d
+FieldsFit (trailer h y) = HeadFits h × (y < 2 ^ 32)
+FieldsFit (notice h) = HeadFits h
+
+-- ---- what a packet is that bytes can be, widths aside
+
+-- a leader, with the image's size that its other fields say and a frame may have
+pub record HasLeaderForm (h : Head) (i : LeaderInfo) : Type 0 where
+  pub block : 1 ≤ h.block
+  pub no_notice : IsNotice h → ⊥
+  pub first : h.id ≡ 0
   pub size : i.size ≡ size_of i
   pub in_limits : IsImageSize i.size
 
--- what each packet is that bytes can be
-pub record SpellsLeader (h : Head) (i : LeaderInfo) : Type 0 where
-  pub head : IsHead h
-  pub no_notice : IsNotice h → ⊥
-  pub first : h.id ≡ 0
-  pub info : IsInfo i
-
-pub record SpellsPayload (h : Head) (data_bytes : List ℕ) : Type 0 where
-  pub head : IsHead h
+pub record HasPayloadForm (h : Head) (data_bytes : List ℕ) : Type 0 where
+  pub block : 1 ≤ h.block
   pub no_notice : IsNotice h → ⊥
   pub after_leader : 1 ≤ h.id
   pub some : 1 ≤ length data_bytes
-  pub bytes : AreBytes data_bytes
 
-pub record SpellsTrailer (h : Head) (size_y : ℕ) : Type 0 where
-  pub head : IsHead h
+pub record HasTrailerForm (h : Head) : Type 0 where
+  pub block : 1 ≤ h.block
   pub no_notice : IsNotice h → ⊥
   pub after_leader : 1 ≤ h.id
-  pub lines : size_y < 2 ^ 32
 
-pub record SpellsNotice (h : Head) : Type 0 where
-  pub head : IsHead h
+pub record HasNoticeForm (h : Head) : Type 0 where
+  pub block : 1 ≤ h.block
   pub status : IsNotice h
 
+abbrev pub HasForm : StreamPacket → Type 0
+HasForm (leader h i) = HasLeaderForm h i
+HasForm (payload h d) = HasPayloadForm h d
+HasForm (trailer h y) = HasTrailerForm h
+HasForm (notice h) = HasNoticeForm h
+
 -- The packet is one that a datagram can be.
-abbrev pub HasSpelling : StreamPacket → Type 0
-HasSpelling (leader h i) = SpellsLeader h i
-HasSpelling (payload h d) = SpellsPayload h d
-HasSpelling (trailer h y) = SpellsTrailer h y
-HasSpelling (notice h) = SpellsNotice h
+pub record HasSpelling (x : StreamPacket) : Type 0 where
+  pub form : HasForm x
+  pub fields_fit : FieldsFit x

@@ -1,19 +1,16 @@
 -- Reading a datagram from its start, field by field, with the first refusal.
 use Rattle.std.specs.Prelude.{ℕ, ◌/◌, ◌%◌, ◌^◌, Bool, ◌&&◌, nat_lt, nat_le, ◌==◌, if◌then◌else◌, List, length, drop, slice_index, Option, Some, None, Result, Ok, Err}
-use Rattle.byteorder.specs.Endian.{big_number}
+use Rattle.wire_fields.specs.Fields.{number_at}
 use Rattle.stream_packets.specs.declared.fields.Head.{Head}
 use Rattle.stream_packets.specs.declared.fields.LeaderInfo.{LeaderInfo}
 use Rattle.stream_packets.specs.Packets.{StreamPacket, leader, payload, trailer, notice}
 use Rattle.gev_types.specs.FrameSize.{image_size}
+use Rattle.gev_types.specs.Limits.{max_buffer_size}
 use Rattle.gvsp_wire.specs.declared.form.Form.{Form}
 use Rattle.gvsp_wire.specs.declared.form.Form.TheVariants.{Leader, Trailer, Payload}
 use Rattle.gvsp_wire.specs.declared.wire_error.WireError.{WireError}
 use Rattle.gvsp_wire.specs.declared.wire_error.WireError.TheVariants.{Short, Standard, Format, ZeroBlock, BadId, PayloadType, FrameSize}
 use Rattle.gvsp_wire.specs.Wire.{leader_format, trailer_format, payload_format, image_payload, is_notice_status, header_size}
-
--- the number in the n bytes from position at on
-unfoldable pub number_at : List ℕ → ℕ → ℕ → ℕ
-number_at bytes at n = big_number n (drop at bytes)
 
 abbrev pub is_extended : ℕ → Bool
 is_extended format_byte = format_byte / 2 ^ 7 % 2 == 1
@@ -26,10 +23,10 @@ form_of format =
 
 abbrev pub head_at : List ℕ → Head
 head_at bytes = record {
-  status = number_at bytes 0 2;
-  flags = number_at bytes 2 2;
-  block = number_at bytes 8 8;
-  id = number_at bytes 16 4;
+  status = number_at 0 2 bytes;
+  flags = number_at 2 2 bytes;
+  block = number_at 8 8 bytes;
+  id = number_at 16 4 bytes;
 }
 
 -- a header of a known format with a block id
@@ -51,19 +48,19 @@ header_of bytes =
 -- a leader's fields but for the image's size, which is what they say
 abbrev pub info_at : List ℕ → LeaderInfo
 info_at bytes = record {
-  timestamp = number_at bytes 24 8;
-  pixel = number_at bytes 32 4;
-  size_x = number_at bytes 36 4;
-  size_y = number_at bytes 40 4;
-  offset_x = number_at bytes 44 4;
-  offset_y = number_at bytes 48 4;
-  padding_x = number_at bytes 52 2;
-  padding_y = number_at bytes 54 2;
-  size = image_size (number_at bytes 32 4) (number_at bytes 36 4) (number_at bytes 40 4) (number_at bytes 52 2) (number_at bytes 54 2);
+  timestamp = number_at 24 8 bytes;
+  pixel = number_at 32 4 bytes;
+  size_x = number_at 36 4 bytes;
+  size_y = number_at 40 4 bytes;
+  offset_x = number_at 44 4 bytes;
+  offset_y = number_at 48 4 bytes;
+  padding_x = number_at 52 2 bytes;
+  padding_y = number_at 54 2 bytes;
+  size = image_size (number_at 32 4 bytes) (number_at 36 4 bytes) (number_at 40 4 bytes) (number_at 52 2 bytes) (number_at 54 2 bytes);
 }
 
 abbrev pub is_image_size : ℕ → Bool
-is_image_size size = nat_lt 0 size && nat_le size (2 ^ 26)
+is_image_size size = nat_lt 0 size && nat_le size max_buffer_size
 
 -- these, if the image's size is one that a frame may have
 unfoldable pub sized_info : List ℕ → Option LeaderInfo
@@ -77,16 +74,16 @@ unfoldable pub leader_of : Head → List ℕ → Result StreamPacket WireError
 leader_of h bytes =
     if h.id == 0 then
     (if nat_lt (length bytes) 56 then Err (Short (length bytes))
-    else if number_at bytes 22 2 == image_payload then leader_with h (sized_info bytes)
-    else Err (PayloadType (number_at bytes 22 2)))
+    else if number_at 22 2 bytes == image_payload then leader_with h (sized_info bytes)
+    else Err (PayloadType (number_at 22 2 bytes)))
     else Err (BadId h.id)
 
 unfoldable pub trailer_of : Head → List ℕ → Result StreamPacket WireError
 trailer_of h bytes =
     if h.id == 0 then Err (BadId h.id)
     else if nat_lt (length bytes) 28 then Err (Short (length bytes))
-    else if number_at bytes 22 2 == image_payload then Ok (trailer h (number_at bytes 24 4))
-    else Err (PayloadType (number_at bytes 22 2))
+    else if number_at 22 2 bytes == image_payload then Ok (trailer h (number_at 24 4 bytes))
+    else Err (PayloadType (number_at 22 2 bytes))
 
 unfoldable pub payload_of : Head → List ℕ → Result StreamPacket WireError
 payload_of h bytes =

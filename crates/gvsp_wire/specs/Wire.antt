@@ -1,12 +1,12 @@
 -- Which bytes are which packet: GigE Vision 2.0, GVSP with extended identifiers.
 use Rattle.std.specs.Prelude.{◌≡◌, ◌≢◌, ◌⊎◌, ◌↔◌, ℕ, ◌/◌, ◌%◌, ◌^◌, ◌<◌, ◌≤◌, Bool, ◌||◌, ◌==◌, IsTrue, if◌then◌else◌, List, [], ◌∷◌, length}
+use Rattle.wire_fields.specs.Fields.{HasFields}
 use Rattle.stream_packets.specs.declared.fields.Head.{Head}
 use Rattle.stream_packets.specs.declared.fields.LeaderInfo.{LeaderInfo}
 use Rattle.stream_packets.specs.Packets.{StreamPacket, leader, payload, trailer, notice}
 use Rattle.gev_types.specs.FrameSize.{image_size, IsImageSize}
 use Rattle.gvsp_wire.specs.declared.wire_error.WireError.{WireError}
 use Rattle.gvsp_wire.specs.declared.wire_error.WireError.TheVariants.{Short, Standard, Format, ZeroBlock, BadId, PayloadType, FrameSize}
-use Rattle.gvsp_wire.specs.Fields.{HasFields}
 
 -- the packet formats, in the low four bits of the format byte
 abbrev pub leader_format : ℕ

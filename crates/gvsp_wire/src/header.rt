@@ -2,18 +2,27 @@ ghost use Rattle.std.specs.Prelude.{◌≡◌, ◌<◌, ◌≤◌, length};
 ghost use Rattle.gvsp_wire.specs.Wire.{is_notice_status};
 ghost use Rattle.gvsp_wire.specs.Reading.{form_of, is_extended, head_at, header_of};
 
-use crate::fields::{u16_at, u32_at, u64_at};
 use crate::flags::FormatByte;
 use crate::form::Form;
 use crate::wire_error::WireError;
 use bitflags::Flags;
 use stream_packets::Head;
+use wire_fields::{u16_at, u32_at, u64_at};
 
 /// The bytes up to the end of those that tell the two kinds of header apart.
 const SHORTEST_HEADER: usize = 8;
 
 /// The bytes of a header with extended identifiers.
 pub const HEADER_SIZE: usize = 20;
+
+/// The packet format of a leader.
+pub const LEADER_FORMAT: u8 = 1;
+
+/// The packet format of a trailer.
+pub const TRAILER_FORMAT: u8 = 2;
+
+/// The packet format of a payload.
+pub const PAYLOAD_FORMAT: u8 = 3;
 
 /// The refusal of a datagram that ends too early.
 pub fn short(bytes: &[u8]) -> WireError
@@ -36,9 +45,9 @@ fn known_form(format: u8) -> Option<Form>
     ensures { result ≡ form_of format }
 {
     match format {
-        1 => Some(Form::Leader),
-        2 => Some(Form::Trailer),
-        3 => Some(Form::Payload),
+        LEADER_FORMAT => Some(Form::Leader),
+        TRAILER_FORMAT => Some(Form::Trailer),
+        PAYLOAD_FORMAT => Some(Form::Payload),
         _ => None,
     }
 }

@@ -1,6 +1,6 @@
 //! Laws of the definitions. Each function only carries its statement.
 
-ghost use Rattle.gvsp_wire.specs.Laws.{OneAnswer, ReadingIsExact, PlainIsRead, PlainIsOne, PacketsHaveSpellings};
+ghost use Rattle.gvsp_wire.specs.Laws.{OneAnswer, ReadingIsExact, PlainIsRead, ZeroNoticeIsRefused, PlainIsOne, PacketsHaveSpellings};
 
 /// Any bytes are exactly one packet or have exactly one refusal, and never both.
 pub fn one_answer()
@@ -15,6 +15,11 @@ pub fn reading_is_exact()
 /// The plain spelling of a packet is a datagram of that packet.
 pub fn plain_is_read()
     ensures { PlainIsRead }
+{}
+
+/// The plain spelling of a notice of block 0 is refused for its block.
+pub fn zero_notice_is_refused()
+    ensures { ZeroNoticeIsRefused }
 {}
 
 /// Two packets with one plain spelling are one.

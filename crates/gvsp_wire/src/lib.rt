@@ -2,22 +2,25 @@
 //!
 //! `specs/Wire.antt` says which bytes are which packet, and which refusal they have where they are
 //! none. `specs/Reading.antt` computes the same answer, `specs/Plain.antt` has the one plain spelling
-//! of each packet, and `specs/View.antt` says what packet value a lent packet stands for.
+//! of each packet, which the writers write, and `specs/View.antt` says what packet value a lent packet
+//! stands for.
 #![tactic(auto)]
 
-mod fields;
 mod flags;
 mod form;
 mod header;
 pub mod laws;
 mod packet;
+mod packet_parts;
 mod reading;
 #[cfg(test)]
 mod tests;
 mod wire_error;
+mod writing;
 
 pub use flags::HeadFlags;
 pub use packet::Packet;
 pub use reading::parse;
 pub use stream_packets::{Head, LeaderInfo};
 pub use wire_error::WireError;
+pub use writing::{write_leader, write_notice, write_payload, write_trailer};

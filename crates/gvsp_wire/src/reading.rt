@@ -5,22 +5,22 @@ ghost use Rattle.gvsp_wire.specs.Reading.{reading, sized_info, leader_of, traile
 ghost use Rattle.gvsp_wire.specs.View.{seen};
 ghost use Rattle.gvsp_wire.specs.declared.wire_error.WireError.{WireError};
 
-use crate::fields::{u16_at, u32_at, u64_at};
 use crate::form::Form;
 use crate::header::{HEADER_SIZE, header, is_notice, short};
 use crate::packet::Packet;
 use crate::wire_error::WireError;
 use gev_types::frame_size;
 use stream_packets::{Head, LeaderInfo};
+use wire_fields::{u16_at, u32_at, u64_at};
 
 /// The payload type of an image.
-const IMAGE: u16 = 0x0001;
+pub const IMAGE: u16 = 0x0001;
 
 /// The bytes of a leader, to the end of its fields.
-const LEADER_SIZE: usize = HEADER_SIZE + 36;
+pub const LEADER_SIZE: usize = HEADER_SIZE + 36;
 
 /// The bytes of a trailer, to the end of its fields.
-const TRAILER_SIZE: usize = HEADER_SIZE + 8;
+pub const TRAILER_SIZE: usize = HEADER_SIZE + 8;
 
 /// The packet that a datagram is (GigE Vision 2.0, GVSP with extended identifiers).
 ///

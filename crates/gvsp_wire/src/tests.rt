@@ -1,5 +1,6 @@
 use crate::*;
 use bitflags::Flags;
+use std::process::Abort;
 use std::test::*;
 
 fn head(status: u16, flags: u16, block: u64, id: u32) -> Head {
@@ -278,11 +279,99 @@ fn texts_of_refusals(rt: HostRuntime) -> Result<(), Fail> {
     Ok(())
 }
 
+/// What a writer answered and what then stands in its slice, against hexadecimal text.
+fn assert_written(
+    rt: &(impl Abort + AllocGlobal),
+    (len, out): (usize, [u8; 60]),
+    want: &str,
+) -> Result<(), Fail> {
+    let bytes = hex::decode(rt.alloc(), want)?;
+    assert_eq!(rt; len, bytes.len());
+    for (place, byte) in out.iter().enumerate() {
+        let there = bytes.get(place).copied().unwrap_or(0xEE);
+        assert_eq!(rt; *byte, there, "byte {place} of {want}");
+    }
+    Ok(())
+}
+
+/// Each writer, in a slice of which the rest stays.
+#[test]
+fn written_packets(rt: HostRuntime) -> Result<(), Fail> {
+    let sent = Head {
+        status: 0,
+        flags: 0,
+        block: 1,
+        id: 0,
+    };
+    let last = Head { id: 4, ..sent };
+    let resent = Head {
+        status: 0x0100,
+        flags: HeadFlags::PACKET_RESENT.bits(),
+        ..last
+    };
+    let image = LeaderInfo {
+        timestamp: 1,
+        pixel: MONO8,
+        size_x: 64,
+        size_y: 48,
+        offset_x: 0,
+        offset_y: 0,
+        padding_x: 0,
+        padding_y: 0,
+        size: 3072,
+    };
+    let refused = Head {
+        status: 0x8010,
+        block: 3,
+        id: 3,
+        ..sent
+    };
+    let mut out = [0xEE; 60];
+    let len = write_leader(&mut out, sent, image);
+    let leader =
+        "0000000081000000000000000000000100000000000000010000000000000001010800010000004000000030000000000000000000000000";
+    assert_written(&rt, (len, out), leader)?;
+    out = [0xEE; 60];
+    let len = write_payload(&mut out, Head { id: 1, ..sent }, b"abc");
+    assert_written(
+        &rt,
+        (len, out),
+        "0000000083000000000000000000000100000001616263",
+    )?;
+    out = [0xEE; 60];
+    let len = write_trailer(&mut out, last, 48);
+    assert_written(
+        &rt,
+        (len, out),
+        "00000000820000000000000000000001000000040000000100000030",
+    )?;
+    out = [0xEE; 60];
+    let len = write_trailer(&mut out, resent, 48);
+    assert_written(
+        &rt,
+        (len, out),
+        "01000001820000000000000000000001000000040000000100000030",
+    )?;
+    out = [0xEE; 60];
+    let len = write_notice(&mut out, refused);
+    assert_written(&rt, (len, out), "8010000083000000000000000000000300000003")?;
+    out = [0xEE; 60];
+    let len = write_notice(
+        &mut out,
+        Head {
+            block: 0,
+            ..refused
+        },
+    );
+    assert_written(&rt, (len, out), "8010000083000000000000000000000000000003")
+}
+
 #[test]
 fn the_laws_can_be_called(_rt: HostRuntime) {
     laws::one_answer();
     laws::reading_is_exact();
     laws::plain_is_read();
+    laws::zero_notice_is_refused();
     laws::plain_is_one();
     laws::packets_have_spellings();
 }

@@ -1,5 +1,5 @@
 -- The packets of an image stream as plain values, which hold their payloads.
-use Rattle.std.specs.Prelude.{ℕ, List, Bool, true, false}
+use Rattle.std.specs.Prelude.{ℕ, List, Bool, true, false, Option, Some, None}
 use Rattle.stream_packets.specs.declared.fields.Head.{Head}
 use Rattle.stream_packets.specs.declared.fields.LeaderInfo.{LeaderInfo}
 
@@ -31,3 +31,17 @@ is_notice (leader h i) = false
 is_notice (payload h d) = false
 is_notice (trailer h y) = false
 is_notice (notice h) = true
+
+-- what a leader says of the image
+abbrev pub carried_info : StreamPacket → Option LeaderInfo
+carried_info (leader h i) = Some i
+carried_info (payload h d) = None
+carried_info (trailer h y) = None
+carried_info (notice h) = None
+
+-- the bytes of the image that a payload carries
+abbrev pub carried_bytes : StreamPacket → Option (List ℕ)
+carried_bytes (leader h i) = None
+carried_bytes (payload h d) = Some d
+carried_bytes (trailer h y) = None
+carried_bytes (notice h) = None
