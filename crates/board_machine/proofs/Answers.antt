@@ -5,10 +5,11 @@ use Rattle.gentl_types.specs.declared.word.Word.{Word}
 use Rattle.gentl_types.specs.declared.word.State.{State}
 use Rattle.gentl_types.specs.declared.word.State.TheVariants.{Vacant, Held, Away}
 use Rattle.gev_types.specs.Filling.{Filling}
+use Rattle.gev_types.specs.Limits.{place_count, max_buffer_size}
 use Rattle.board_machine.specs.declared.events.Event.{Event}
 use Rattle.board_machine.specs.declared.events.Event.TheVariants.{Look, LookPool, LookOut, LookRun, Enrol, Grab, Lay, Vacate, Pool, Claim, SweepPool, Fill, Take, SweepOut, Close, Post, Unpost, Start, Stop, Split, Join}
-use Rattle.board_machine.specs.declared.events.Taken.TheVariants.{Got, Empty, Closed}
-use Rattle.board_machine.specs.Machine.{Board, Item, word_at, places, InHand, IsHeldAs, CanEnrol, Meets, Stands, entry}
+use Rattle.board_machine.specs.declared.events.TakeEnd.TheVariants.{Taken, Empty, Closed}
+use Rattle.board_machine.specs.Machine.{Board, Item, word_at, places, InHand, IsHeldAs, CanEnrol, Meets, CanBeNext, entry}
 use Rattle.board_machine.specs.Acts.{Act, to_look, to_look_pool, to_look_out, to_look_run, to_enrol, to_grab, to_lay, to_vacate, to_pool, to_claim, to_sweep_pool, to_fill, to_take, to_sweep_out, to_close, to_post, to_unpost, to_start, to_stop, to_split, to_join, act_of, IsAllowed, MayStand, Answers, OneAnswer}
 
 -- tests that decide the conditions
@@ -76,7 +77,7 @@ claim_event (i ∷ is) = Claim (Some i)
 abbrev pub take_event : Bool → List Item → Event
 take_event true out = Take Closed
 take_event false [] = Take Empty
-take_event false (x ∷ out) = Take (Got x.place)
+take_event false (x ∷ out) = Take (Taken x.place)
 
 abbrev pub start_event : ℕ → Event
 start_event run = cond (run == 1) (Start (Err run)) (Start (Ok tt))
@@ -113,7 +114,7 @@ record Found (b : Board) (k : ℕ) (a : Act) (event : Event) : Type 0 where
   act : act_of event ≡ a
   meets : Meets b k event
 
-enrol_answers : (b : Board) (k i size : ℕ) → i < 15 → 1 ≤ size → size ≤ 2 ^ 26 → Found b k (to_enrol i size) (enrol_event (word_at b i) i size)
+enrol_answers : (b : Board) (k i size : ℕ) → i < place_count → 1 ≤ size → size ≤ max_buffer_size → Found b k (to_enrol i size) (enrol_event (word_at b i) i size)
 enrol_answers b k i size below some in_limits = go (cases_Bool (can_enrol (word_at b i)))
   where
     w : Word
@@ -129,7 +130,7 @@ enrol_answers b k i size below some in_limits = go (cases_Bool (can_enrol (word_
         (sym (cond-false (can_enrol w) (Enrol i size (Ok (w.generation + 1))) (Enrol i size (Err w)) fails))
         (record { act = refl; meets = (below, some, in_limits, refl, can_enrol_false w fails) })
 
-grab_answers : (b : Board) (k i g : ℕ) → i < 15 → Found b k (to_grab i g) (grab_event (word_at b i) i g)
+grab_answers : (b : Board) (k i g : ℕ) → i < place_count → Found b k (to_grab i g) (grab_event (word_at b i) i g)
 grab_answers b k i g below = go (cases_Bool (is_held_as (word_at b i) g))
   where
     w : Word
@@ -230,7 +231,7 @@ only_answer b k (Claim None) m = ap claim_event (sym m)
 only_answer b k (SweepPool is) m = ap (λ js. SweepPool js) m
 only_answer b k (Fill i f true) m = ap (λ mark. Fill i f (not mark)) (sym m.2)
 only_answer b k (Fill i f false) m = ap (λ mark. Fill i f (not mark)) (sym m.2)
-only_answer b k (Take (Got i)) m = ap (λ xs. take_event false xs) (sym m.1.2) ∙ ap (λ mark. take_event mark b.out) (sym m.0)
+only_answer b k (Take (Taken i)) m = ap (λ xs. take_event false xs) (sym m.1.2) ∙ ap (λ mark. take_event mark b.out) (sym m.0)
 only_answer b k (Take Empty) m = ap (λ xs. take_event false xs) (sym m.1) ∙ ap (λ mark. take_event mark b.out) (sym m.0)
 only_answer b k (Take Closed) m = ap (λ mark. take_event mark b.out) (sym m)
 only_answer b k (SweepOut is) m = ap (λ js. SweepOut js) m
@@ -246,14 +247,14 @@ only_answer b k (Stop kill (Err r)) m =
 only_answer b k (Split n) m = ap (λ c. Split c) m
 only_answer b k (Join n) m = refl
 
-pub answer_stands : (b : Board) (k : ℕ) (a : Act) → MayStand b k a → Stands b (entry k (answer_to b a))
+pub answer_stands : (b : Board) (k : ℕ) (a : Act) → MayStand b k a → CanBeNext b (entry k (answer_to b a))
 answer_stands b k a may = record { actor = may.actor; meets = (answers b k a may.allowed).meets }
 
 pub one_answer : (b : Board) (k : ℕ) (a : Act) → MayStand b k a → OneAnswer b k a
 one_answer b k a may = record {
   event = answer_to b a;
-  answers = record { act = (answers b k a may.allowed).act; stands = answer_stands b k a may };
-  only = λ other is. only_answer b k other is.stands.meets ∙ ap (answer_to b) is.act;
+  answers = record { act = (answers b k a may.allowed).act; is_next = answer_stands b k a may };
+  only = λ other is. only_answer b k other is.is_next.meets ∙ ap (answer_to b) is.act;
 }
 
 -- what meets the machine was allowed
@@ -274,7 +275,7 @@ allowed b k (Claim None) m = tt
 allowed b k (SweepPool is) m = tt
 allowed b k (Fill i f true) m = (m.0, m.1)
 allowed b k (Fill i f false) m = (m.0, m.1)
-allowed b k (Take (Got i)) m = tt
+allowed b k (Take (Taken i)) m = tt
 allowed b k (Take Empty) m = tt
 allowed b k (Take Closed) m = tt
 allowed b k (SweepOut is) m = tt
@@ -291,6 +292,6 @@ allowed b k (Join n) m = m
 -- what stands may stand
 pub answered_may_stand : (b : Board) (k : ℕ) (a : Act) (event : Event) → Answers b k a event → MayStand b k a
 answered_may_stand b k a event is = record {
-  actor = is.stands.actor;
-  allowed = subst (λ act. IsAllowed b k act) is.act (allowed b k event is.stands.meets);
+  actor = is.is_next.actor;
+  allowed = subst (λ act. IsAllowed b k act) is.act (allowed b k event is.is_next.meets);
 }

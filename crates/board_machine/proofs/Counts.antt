@@ -2,12 +2,13 @@
 use Rattle.std.proofs.Common.{◌≡◌, ◌≢◌, ℕ, zero, suc, ◌+◌, ◌≤◌, ◌<◌, List, [], ◌∷◌, ◌++◌, length, get_or, set, slice_get, Some, refl, sym, ap, subst, ◌∙◌, inl, inr, ◌⊎◌, arith}
 use Rattle.std.proofs.lemmas.Bool.{cases_lt, cases_eq}
 use Rattle.std.proofs.lemmas.List.{get_or_past, get_or-set_same, get_or-set_other}
+use Rattle.gev_types.specs.Limits.{place_count}
 use Rattle.gentl_types.specs.declared.word.Word.{Word}
 use Rattle.gentl_types.specs.declared.word.State.{State}
 use Rattle.gentl_types.specs.declared.word.State.TheVariants.{Vacant, Held, Away}
 use Rattle.board_machine.specs.Places.{same, times, put_in, without, tail}
 use Rattle.board_machine.specs.Machine.{Board, Item, vacant, word_at, hand, places, IsActor, InHand, picks, drops}
-use Rattle.board_machine.specs.Owners.{tally, due, in_hands, Owned, IsWord}
+use Rattle.board_machine.specs.Owners.{tally, due, in_hands, IsCounted, IsWord}
 use Rattle.board_machine.proofs.Places.{same_self, times-put, times-without}
 use Rattle.board_machine.proofs.Boards.{in_hands-set, in_hand_of-le, actor_within}
 
@@ -106,13 +107,13 @@ pub tally_drops : (b : Board) (k i j : ℕ) → IsActor b k → InHand b k i →
 tally_drops b k i j actor h = omega (arith, tally_hand b k j (without i (hand b k)) actor, times-without j i (hand b k) h)
 
 -- a place that stands somewhere has an Away word
-pub stands_away : (b : Board) (i : ℕ) → Owned b → 1 ≤ tally b i → (word_at b i).state ≡ Away
+pub stands_away : (b : Board) (i : ℕ) → IsCounted b → 1 ≤ tally b i → (word_at b i).state ≡ Away
 stands_away b i owned some = due_away (word_at b i).state (omega (arith, owned.once i))
 
-pub stands_below : (b : Board) (i : ℕ) → Owned b → 1 ≤ tally b i → i < 15
+pub stands_below : (b : Board) (i : ℕ) → IsCounted b → 1 ≤ tally b i → i < place_count
 stands_below b i owned some = go (cases_lt i (length b.words))
   where
-    go : (i < length b.words) ⊎ (length b.words ≤ i) → i < 15
+    go : (i < length b.words) ⊎ (length b.words ≤ i) → i < place_count
     go (inl within) = omega (arith, owned.wide)
     go (inr past) =
         let none : due (word_at b i).state ≡ 0 = ap (λ w. due w.state) (get_or_past b.words i vacant past) in

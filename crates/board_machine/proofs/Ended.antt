@@ -5,8 +5,8 @@ use Rattle.std.proofs.lemmas.List.{length-set, length_push, get_or-set_same, get
 use Rattle.board_machine.specs.declared.events.Entry.{Entry}
 use Rattle.board_machine.specs.declared.events.Event.{Event}
 use Rattle.board_machine.specs.declared.events.Event.TheVariants.{Look, LookPool, LookOut, LookRun, Enrol, Grab, Lay, Vacate, Pool, Claim, SweepPool, Fill, Take, SweepOut, Close, Post, Unpost, Start, Stop, Split, Join}
-use Rattle.board_machine.specs.declared.events.Taken.TheVariants.{Got, Empty, Closed}
-use Rattle.board_machine.specs.Machine.{Board, empty_board, hand_at, no_actor, empty_hands, IsActor, Meets, Stands, after_event, next}
+use Rattle.board_machine.specs.declared.events.TakeEnd.TheVariants.{Taken, Empty, Closed}
+use Rattle.board_machine.specs.Machine.{Board, empty_board, hand_at, no_actor, empty_hands, IsActor, Meets, CanBeNext, after_event, next}
 use Rattle.board_machine.specs.Histories.{after_from, RunsFrom, After, Run, own_of, split_by, splits}
 use Rattle.board_machine.specs.Laws.{IsEnded, IsAlone, AddsActor}
 use Rattle.board_machine.proofs.Others.{number_stays}
@@ -34,7 +34,7 @@ hands_count b k (Claim None) = omega arith
 hands_count b k (SweepPool is) = kept b k _
 hands_count b k (Fill i f true) = kept b k _
 hands_count b k (Fill i f false) = omega arith
-hands_count b k (Take (Got i)) = kept b k _
+hands_count b k (Take (Taken i)) = kept b k _
 hands_count b k (Take Empty) = omega arith
 hands_count b k (Take Closed) = omega arith
 hands_count b k (SweepOut is) = kept b k _
@@ -62,7 +62,7 @@ not_joined b k n event none m joins = let again = subst (λ ev. Meets b k ev) jo
 ended_apart : (b : Board) (n : ℕ) (e : Entry) → hand_at b n ≡ no_actor → IsActor b e.by → n ≢ e.by
 ended_apart b n e none actor same_number = actor (ap (λ k. hand_at b k) (sym same_number) ∙ none)
 
-pub ended_next : (b : Board) (n : ℕ) (e : Entry) → IsEnded b n → Stands b e → IsEnded (next b e) n
+pub ended_next : (b : Board) (n : ℕ) (e : Entry) → IsEnded b n → CanBeNext b e → IsEnded (next b e) n
 ended_next b n e ended stands = record {
   given = omega (arith, hands_count b e.by e.event, ended.given);
   ended =
@@ -84,7 +84,7 @@ ended_nothing b n (e ∷ h) ended runs =
     ∙ ended_nothing (next b e) n h (ended_next b n e ended runs.0) runs.1
 
 -- where an actor is alone the next entry is its own
-pub alone_next : (b : Board) (k : ℕ) (e : Entry) → IsAlone b k → Stands b e → e.by ≡ k
+pub alone_next : (b : Board) (k : ℕ) (e : Entry) → IsAlone b k → CanBeNext b e → e.by ≡ k
 alone_next b k e alone stands = alone.only e.by stands.actor
 
 -- entries of others alone can't follow where an actor is alone
@@ -96,7 +96,7 @@ alone_nothing b k (e ∷ h) alone runs none =
     absurd (cc)
 
 -- a join ends the other actor
-pub join_ends : (b : Board) (e : Entry) (n : ℕ) → Stands b e → e.event ≡ Join n → IsEnded (next b e) n
+pub join_ends : (b : Board) (e : Entry) (n : ℕ) → CanBeNext b e → e.event ≡ Join n → IsEnded (next b e) n
 join_ends b e n stands joins = subst (λ event. IsEnded (after_event b e.by event) n) (sym joins) (record {
   given = omega (arith, length-set b.hands n no_actor, within);
   ended = get_or-set_same b.hands n no_actor no_actor within;
@@ -115,7 +115,7 @@ pub alone_run : (h : List Entry) (e : Entry) (k : ℕ) → Run (h ++ e ∷ []) �
 alone_run h e k run alone = alone_next (After h) k e alone (runs_rest empty_board h (e ∷ []) run).0
 
 -- a split adds an actor with empty hands under a number that was none
-pub split_adds : (b : Board) (e : Entry) (n : ℕ) → Stands b e → e.event ≡ Split n → AddsActor b e n
+pub split_adds : (b : Board) (e : Entry) (n : ℕ) → CanBeNext b e → e.event ≡ Split n → AddsActor b e n
 split_adds b e n stands splits_off = record {
   new = get_or_past b.hands n no_actor (omega (arith, meets));
   empty = ap (λ event. hand_at (after_event b e.by event) n) splits_off ∙ get_or_push b.hands empty_hands no_actor n (sym meets);

@@ -4,8 +4,8 @@ use Rattle.std.proofs.lemmas.Bool.{cases_lt, cases_eq}
 use Rattle.gentl_types.specs.declared.word.State.{State}
 use Rattle.gentl_types.specs.declared.word.State.TheVariants.{Vacant, Held, Away}
 use Rattle.board_machine.specs.Places.{times}
-use Rattle.board_machine.specs.Machine.{Board, word_at, hand, places, empty_board, Stands, next}
-use Rattle.board_machine.specs.Owners.{Owner, nobody, application, input_pool, output_queue, actor, InNoHands, InOneHand, Owns, IsOwned, in_hands, tally, due, Owned}
+use Rattle.board_machine.specs.Machine.{Board, word_at, hand, places, empty_board, CanBeNext, next}
+use Rattle.board_machine.specs.Owners.{Owner, nobody, application, input_pool, output_queue, actor, InNoHands, InOneHand, Owns, IsOwned, in_hands, tally, due, IsCounted}
 use Rattle.board_machine.proofs.Boards.{in_hand_of-le, two_hands, in_no_hands, in_one_hand, some_hand}
 use Rattle.board_machine.specs.declared.events.Entry.{Entry}
 use Rattle.board_machine.specs.Laws.{LeavesOthers}
@@ -82,7 +82,7 @@ owners_same b i (actor k) output_queue p q = absurd (omega (arith, p.1, p.2, q.1
 owners_same b i (actor k) (actor n) p q = ap actor (same_hand b i k n p.3 q.3)
 
 -- counted once is having one owner
-pub owned_cases : (b : Board) → Owned b → IsOwned b
+pub owned_cases : (b : Board) → IsCounted b → IsOwned b
 owned_cases b owned = record {
   wide = owned.wide;
   owner = λ i. owner_at b i (word_at b i).state refl (owned.once i);
@@ -99,7 +99,7 @@ count_of b i output_queue is = omega (arith, ap due is.0, is.1, is.2, in_no_hand
 count_of b i (actor k) is = omega (arith, ap due is.0, is.1, is.2, in_one_hand i b.hands k is.3.once is.3.others)
 
 -- having one owner is being counted once
-pub cases_owned : (b : Board) → IsOwned b → Owned b
+pub cases_owned : (b : Board) → IsOwned b → IsCounted b
 cases_owned b owned = record {
   wide = owned.wide;
   once = λ i. count_of b i (owned.owner i).0 (owned.owner i).1;
@@ -107,19 +107,19 @@ cases_owned b owned = record {
   sized = owned.sized;
 }
 
-pub both_forms : (b : Board) → IsOwned b ↔ Owned b
+pub both_forms : (b : Board) → IsOwned b ↔ IsCounted b
 both_forms b = (cases_owned b, owned_cases b)
 
 pub empty_cases : IsOwned empty_board
 empty_cases = owned_cases empty_board empty_owned
 
-pub keeps_cases : (b : Board) (e : Entry) → IsOwned b → Stands b e → IsOwned (next b e)
+pub keeps_cases : (b : Board) (e : Entry) → IsOwned b → CanBeNext b e → IsOwned (next b e)
 keeps_cases b e owned stands = owned_cases (next b e) (keeps_next b e (cases_owned b owned) stands)
 
 pub prefix_cases : (h front rest : List Entry) → Run h → h ≡ front ++ rest → IsOwned (After front)
 prefix_cases h front rest run split = owned_cases (After front) (run_owned front (run_front h front rest run split))
 
-pub leaves_cases : (b : Board) (e : Entry) (n : ℕ) → IsOwned b → Stands b e → n ≢ e.by → LeavesOthers b e n
+pub leaves_cases : (b : Board) (e : Entry) (n : ℕ) → IsOwned b → CanBeNext b e → n ≢ e.by → LeavesOthers b e n
 leaves_cases b e n owned stands apart = record {
   hands = hand_stays b e.by n e.event stands.meets apart;
   words = λ i mine. word_stays b e.by n i e.event (cases_owned b owned) stands.meets apart mine;

@@ -8,7 +8,7 @@ use Rattle.gentl_types.specs.declared.word.State.TheVariants.{Vacant, Held, Away
 use Rattle.board_machine.specs.declared.events.Entry.{Entry}
 use Rattle.board_machine.specs.declared.events.Event.{Event}
 use Rattle.board_machine.specs.declared.events.Event.TheVariants.{Look, LookPool, LookOut, LookRun, Enrol, Grab, Lay, Vacate, Pool, Claim, SweepPool, Fill, Take, SweepOut, Close, Post, Unpost, Start, Stop, Split, Join}
-use Rattle.board_machine.specs.declared.events.Taken.TheVariants.{Got, Empty, Closed}
+use Rattle.board_machine.specs.declared.events.TakeEnd.TheVariants.{Taken, Empty, Closed}
 use Rattle.board_machine.specs.Machine.{Board, empty_board, vacant, word_at, Meets, after_event, next, with_state, IsHeldAs}
 use Rattle.board_machine.specs.Histories.{after_from, RunsFrom, After, Run}
 use Rattle.board_machine.specs.Laws.{Renews}
@@ -62,7 +62,7 @@ renews b k i (Claim None) m = renews_same (word_at b i)
 renews b k i (SweepPool is) m = renews_same (word_at b i)
 renews b k i (Fill j f true) m = renews_same (word_at b i)
 renews b k i (Fill j f false) m = renews_same (word_at b i)
-renews b k i (Take (Got j)) m = renews_same (word_at b i)
+renews b k i (Take (Taken j)) m = renews_same (word_at b i)
 renews b k i (Take Empty) m = renews_same (word_at b i)
 renews b k i (Take Closed) m = renews_same (word_at b i)
 renews b k i (SweepOut is) m = renews_same (word_at b i)

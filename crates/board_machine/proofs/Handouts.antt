@@ -5,7 +5,7 @@ use Rattle.gev_types.specs.Filling.{Filling}
 use Rattle.board_machine.specs.declared.events.Entry.{Entry}
 use Rattle.board_machine.specs.declared.events.Event.{Event}
 use Rattle.board_machine.specs.declared.events.Event.TheVariants.{Look, LookPool, LookOut, LookRun, Enrol, Grab, Lay, Vacate, Pool, Claim, SweepPool, Fill, Take, SweepOut, Close, Post, Unpost, Start, Stop, Split, Join}
-use Rattle.board_machine.specs.declared.events.Taken.TheVariants.{Got, Empty, Closed}
+use Rattle.board_machine.specs.declared.events.TakeEnd.TheVariants.{Taken, Empty, Closed}
 use Rattle.board_machine.specs.Places.{IsPrefix, tail}
 use Rattle.board_machine.specs.Machine.{Board, Item, item, places, Meets, after_event, next, empty_board}
 use Rattle.board_machine.specs.Histories.{after_from, RunsFrom, After, Run}
@@ -50,7 +50,7 @@ act_passes b k (Claim None) m = stays b.out
 act_passes b k (SweepPool is) m = stays b.out
 act_passes b k (Fill i f true) m = record { gone = []; split = refl; are = refl }
 act_passes b k (Fill i f false) m = stays b.out
-act_passes b k (Take (Got i)) m = takes b.out i m.1.0 m.1.1 m.1.2
+act_passes b k (Take (Taken i)) m = takes b.out i m.1.0 m.1.1 m.1.2
 act_passes b k (Take Empty) m = stays b.out
 act_passes b k (Take Closed) m = stays b.out
 act_passes b k (SweepOut is) m = sweeps b.out is m
@@ -81,7 +81,7 @@ run_passes b (e ∷ h) runs =
     (act_passes b e.by e.event runs.0.meets)
     (run_passes (next b e) h runs.1)
 
-length-places : (xs : List Item) → length (places xs) ≡ length xs
+pub length-places : (xs : List Item) → length (places xs) ≡ length xs
 length-places [] = refl
 length-places (x ∷ xs) = ap suc (length-places xs)
 
@@ -127,7 +127,7 @@ stays_closed b k (Claim None) closed = closed
 stays_closed b k (SweepPool is) closed = closed
 stays_closed b k (Fill i f true) closed = closed
 stays_closed b k (Fill i f false) closed = closed
-stays_closed b k (Take (Got i)) closed = closed
+stays_closed b k (Take (Taken i)) closed = closed
 stays_closed b k (Take Empty) closed = closed
 stays_closed b k (Take Closed) closed = closed
 stays_closed b k (SweepOut is) closed = closed
@@ -146,7 +146,7 @@ closed_fill b k (Fill i f false) closed m = refl
 closed_fill b k _ closed m = refl
 
 closed_take : (b : Board) (k : ℕ) (event : Event) → b.closed ≡ true → Meets b k event → handed_by event ≡ []
-closed_take b k (Take (Got i)) closed m = absurd (cc (m.0, closed))
+closed_take b k (Take (Taken i)) closed m = absurd (cc (m.0, closed))
 closed_take b k (Take Empty) closed m = refl
 closed_take b k (Take Closed) closed m = refl
 closed_take b k _ closed m = refl

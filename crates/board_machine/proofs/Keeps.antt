@@ -5,13 +5,14 @@ use Rattle.gentl_types.specs.declared.word.Word.{Word}
 use Rattle.gentl_types.specs.declared.word.State.{State}
 use Rattle.gentl_types.specs.declared.word.State.TheVariants.{Vacant, Held, Away}
 use Rattle.gev_types.specs.Filling.{Filling}
+use Rattle.gev_types.specs.Limits.{place_count, max_buffer_size}
 use Rattle.board_machine.specs.declared.events.Entry.{Entry}
 use Rattle.board_machine.specs.declared.events.Event.{Event}
 use Rattle.board_machine.specs.declared.events.Event.TheVariants.{Look, LookPool, LookOut, LookRun, Enrol, Grab, Lay, Vacate, Pool, Claim, SweepPool, Fill, Take, SweepOut, Close, Post, Unpost, Start, Stop, Split, Join}
-use Rattle.board_machine.specs.declared.events.Taken.TheVariants.{Got, Empty, Closed}
+use Rattle.board_machine.specs.declared.events.TakeEnd.TheVariants.{Taken, Empty, Closed}
 use Rattle.board_machine.specs.Places.{same, times, put_all, tail}
-use Rattle.board_machine.specs.Machine.{Board, Item, item, vacant, word_at, hand_at, hand, held, places, no_actor, empty_hands, empty_board, IsActor, InHand, Meets, Stands, after_event, next, set_word, picks, drops, with_state}
-use Rattle.board_machine.specs.Owners.{tally, due, Owned, IsWord}
+use Rattle.board_machine.specs.Machine.{Board, Item, item, vacant, word_at, hand_at, hand, held, places, no_actor, empty_hands, empty_board, IsActor, InHand, Meets, CanBeNext, after_event, next, set_word, picks, drops, with_state}
+use Rattle.board_machine.specs.Owners.{tally, due, IsCounted, IsWord}
 use Rattle.board_machine.proofs.Places.{same_self, same_other, times-append, times-put, times-put_all}
 use Rattle.board_machine.proofs.Boards.{in_hands-set, in_hands-push, actor_within, empty_is_actor}
 use Rattle.board_machine.proofs.Counts.{places-append, fits_set, words_set, sized_same, sized_apart, sized_tail, sized_push, tally_hand, tally_picks, tally_drops, stands_away, stands_below, hand_tally}
@@ -25,17 +26,17 @@ with_state_word w s used is = record {
   some_generation = λ _. is.some_generation used;
 }
 
-away_used : (w : Word) (s : State) → w.state ≡ s → s ≢ Vacant → w.state ≢ Vacant
+pub away_used : (w : Word) (s : State) → w.state ≡ s → s ≢ Vacant → w.state ≢ Vacant
 away_used w s e used vacant_state = used (sym e ∙ vacant_state)
 
-away_not_vacant : Away ≢ Vacant
+pub away_not_vacant : Away ≢ Vacant
 away_not_vacant e = cc
 
-held_not_vacant : Held ≢ Vacant
+pub held_not_vacant : Held ≢ Vacant
 held_not_vacant e = cc
 
 -- a place comes into hand from nowhere, with a new word
-keeps_pick_word : (b : Board) (k i : ℕ) (w : Word) → Owned b → IsActor b k → i < 15 → tally b i ≡ 0 → w.state ≡ Away → IsWord w → Owned (set_word (picks b k i) i w)
+keeps_pick_word : (b : Board) (k i : ℕ) (w : Word) → IsCounted b → IsActor b k → i < place_count → tally b i ≡ 0 → w.state ≡ Away → IsWord w → IsCounted (set_word (picks b k i) i w)
 keeps_pick_word b k i w owned actor below nowhere away is_word = record {
   wide = length-set b.words i w ∙ owned.wide;
   once = fits_set b.words i w (tally (picks b k i)) within here others;
@@ -59,7 +60,7 @@ keeps_pick_word b k i w owned actor below nowhere away is_word = record {
     others j apart = omega (arith, tally_picks b k i j actor, same_other j i apart, owned.once j)
 
 -- a place leaves a hand for nowhere, with a word in another state
-keeps_drop_word : (b : Board) (k i : ℕ) (s : State) → Owned b → IsActor b k → InHand b k i → due s ≡ 0 → Owned (set_word (drops b k i) i (with_state (word_at b i) s))
+keeps_drop_word : (b : Board) (k i : ℕ) (s : State) → IsCounted b → IsActor b k → InHand b k i → due s ≡ 0 → IsCounted (set_word (drops b k i) i (with_state (word_at b i) s))
 keeps_drop_word b k i s owned actor in_hand none = record {
   wide = length-set b.words i w ∙ owned.wide;
   once = fits_set b.words i w (tally (drops b k i)) within here others;
@@ -91,7 +92,7 @@ keeps_drop_word b k i s owned actor in_hand none = record {
     others : (j : ℕ) → j ≢ i → tally (drops b k i) j ≡ due (word_at b j).state
     others j apart = omega (arith, tally_drops b k i j actor in_hand, same_other j i apart, owned.once j)
 
-keeps_pool : (b : Board) (k i : ℕ) → Owned b → IsActor b k → InHand b k i → Owned (after_event b k (Pool i))
+keeps_pool : (b : Board) (k i : ℕ) → IsCounted b → IsActor b k → InHand b k i → IsCounted (after_event b k (Pool i))
 keeps_pool b k i owned actor in_hand = record {
   wide = owned.wide;
   once = λ j. omega (arith, tally_drops b k i j actor in_hand, times-put j i b.pool, owned.once j);
@@ -99,7 +100,7 @@ keeps_pool b k i owned actor in_hand = record {
   sized = owned.sized;
 }
 
-keeps_claim : (b : Board) (k i : ℕ) (rest : List ℕ) → Owned b → IsActor b k → b.pool ≡ i ∷ rest → Owned (after_event b k (Claim (Some i)))
+keeps_claim : (b : Board) (k i : ℕ) (rest : List ℕ) → IsCounted b → IsActor b k → b.pool ≡ i ∷ rest → IsCounted (after_event b k (Claim (Some i)))
 keeps_claim b k i rest owned actor first = record {
   wide = owned.wide;
   once = λ j. omega (arith, tally_picks b k i j actor, whole j, less j, owned.once j);
@@ -113,7 +114,7 @@ keeps_claim b k i rest owned actor first = record {
     less : (j : ℕ) → times j (tail b.pool) ≡ times j rest
     less j = ap (λ is. times j (tail is)) first
 
-keeps_sweep_pool : (b : Board) (k : ℕ) (is : List ℕ) → Owned b → IsActor b k → is ≡ b.pool → Owned (after_event b k (SweepPool is))
+keeps_sweep_pool : (b : Board) (k : ℕ) (is : List ℕ) → IsCounted b → IsActor b k → is ≡ b.pool → IsCounted (after_event b k (SweepPool is))
 keeps_sweep_pool b k is owned actor all = record {
   wide = owned.wide;
   once = λ j. omega (arith, tally_hand b k j (put_all is (hand b k)) actor, times-put_all j is (hand b k), whole j, owned.once j);
@@ -124,7 +125,7 @@ keeps_sweep_pool b k is owned actor all = record {
     whole : (j : ℕ) → times j is ≡ times j b.pool
     whole j = ap (λ is. times j is) all
 
-keeps_fill : (b : Board) (k i : ℕ) (f : Filling) → Owned b → IsActor b k → InHand b k i → length f.bytes ≡ (word_at b i).size → Owned (after_event b k (Fill i f true))
+keeps_fill : (b : Board) (k i : ℕ) (f : Filling) → IsCounted b → IsActor b k → InHand b k i → length f.bytes ≡ (word_at b i).size → IsCounted (after_event b k (Fill i f true))
 keeps_fill b k i f owned actor in_hand size = record {
   wide = owned.wide;
   once = λ j. omega (arith, tally_drops b k i j actor in_hand, more j, owned.once j);
@@ -135,7 +136,7 @@ keeps_fill b k i f owned actor in_hand size = record {
     more : (j : ℕ) → times j (places (b.out ++ item i f ∷ [])) ≡ times j (places b.out) + same j i
     more j = omega (arith, ap (λ is. times j is) (places-append b.out (item i f ∷ [])), times-append j (places b.out) (i ∷ []))
 
-keeps_take : (b : Board) (k i : ℕ) (f : Filling) (rest : List Item) → Owned b → IsActor b k → b.out ≡ item i f ∷ rest → Owned (after_event b k (Take (Got i)))
+keeps_take : (b : Board) (k i : ℕ) (f : Filling) (rest : List Item) → IsCounted b → IsActor b k → b.out ≡ item i f ∷ rest → IsCounted (after_event b k (Take (Taken i)))
 keeps_take b k i f rest owned actor first = record {
   wide = owned.wide;
   once = λ j. omega (arith, tally_picks b k i j actor, whole j, less j, owned.once j);
@@ -149,7 +150,7 @@ keeps_take b k i f rest owned actor first = record {
     less : (j : ℕ) → times j (places (tail b.out)) ≡ times j (places rest)
     less j = ap (λ xs. times j (places (tail xs))) first
 
-keeps_sweep_out : (b : Board) (k : ℕ) (is : List ℕ) → Owned b → IsActor b k → is ≡ places b.out → Owned (after_event b k (SweepOut is))
+keeps_sweep_out : (b : Board) (k : ℕ) (is : List ℕ) → IsCounted b → IsActor b k → is ≡ places b.out → IsCounted (after_event b k (SweepOut is))
 keeps_sweep_out b k is owned actor all = record {
   wide = owned.wide;
   once = λ j. omega (arith, tally_hand b k j (put_all is (hand b k)) actor, times-put_all j is (hand b k), whole j, owned.once j);
@@ -160,7 +161,7 @@ keeps_sweep_out b k is owned actor all = record {
     whole : (j : ℕ) → times j is ≡ times j (places b.out)
     whole j = ap (λ is. times j is) all
 
-keeps_split : (b : Board) (k n : ℕ) → Owned b → Owned (after_event b k (Split n))
+keeps_split : (b : Board) (k n : ℕ) → IsCounted b → IsCounted (after_event b k (Split n))
 keeps_split b k n owned = record {
   wide = owned.wide;
   once = λ j. omega (arith, in_hands-push j b.hands empty_hands, owned.once j);
@@ -168,7 +169,7 @@ keeps_split b k n owned = record {
   sized = owned.sized;
 }
 
-keeps_join : (b : Board) (k n : ℕ) → Owned b → hand_at b n ≡ empty_hands → Owned (after_event b k (Join n))
+keeps_join : (b : Board) (k n : ℕ) → IsCounted b → hand_at b n ≡ empty_hands → IsCounted (after_event b k (Join n))
 keeps_join b k n owned empty = record {
   wide = owned.wide;
   once = λ j. omega (arith, in_hands-set j b.hands n no_actor (actor_within b n (empty_is_actor b n empty)), none j, owned.once j);
@@ -179,11 +180,11 @@ keeps_join b k n owned empty = record {
     none : (j : ℕ) → times j (hand b n) ≡ 0
     none j = ap (λ h. times j (held h)) empty
 
-enrolled_word : (size g : ℕ) → 1 ≤ size → size ≤ 2 ^ 26 → 1 ≤ g → g < 2 ^ 32 → IsWord (record { state = Away; size = size; generation = g })
+enrolled_word : (size g : ℕ) → 1 ≤ size → size ≤ max_buffer_size → 1 ≤ g → g < 2 ^ 32 → IsWord (record { state = Away; size = size; generation = g })
 enrolled_word size g some in_limits first last = record { size = in_limits; generation = last; some_size = λ _. some; some_generation = λ _. first }
 
 -- each act keeps one owner for each place
-pub keeps : (b : Board) (k : ℕ) (event : Event) → Owned b → IsActor b k → Meets b k event → Owned (after_event b k event)
+pub keeps : (b : Board) (k : ℕ) (event : Event) → IsCounted b → IsActor b k → Meets b k event → IsCounted (after_event b k event)
 keeps b k (Look i w) owned actor m = owned
 keeps b k (LookPool is) owned actor m = owned
 keeps b k (LookOut is closed) owned actor m = owned
@@ -209,7 +210,7 @@ keeps b k (Claim None) owned actor m = owned
 keeps b k (SweepPool is) owned actor m = keeps_sweep_pool b k is owned actor m
 keeps b k (Fill i f true) owned actor m = keeps_fill b k i f owned actor m.0 m.1
 keeps b k (Fill i f false) owned actor m = owned
-keeps b k (Take (Got i)) owned actor m = keeps_take b k i m.1.0 m.1.1 owned actor m.1.2
+keeps b k (Take (Taken i)) owned actor m = keeps_take b k i m.1.0 m.1.1 owned actor m.1.2
 keeps b k (Take Empty) owned actor m = owned
 keeps b k (Take Closed) owned actor m = owned
 keeps b k (SweepOut is) owned actor m = keeps_sweep_out b k is owned actor m
@@ -223,7 +224,7 @@ keeps b k (Stop kill (Err r)) owned actor m = owned
 keeps b k (Split n) owned actor m = keeps_split b k n owned
 keeps b k (Join n) owned actor m = keeps_join b k n owned m.0
 
-pub keeps_next : (b : Board) (e : Entry) → Owned b → Stands b e → Owned (next b e)
+pub keeps_next : (b : Board) (e : Entry) → IsCounted b → CanBeNext b e → IsCounted (next b e)
 keeps_next b e owned stands = keeps b e.by e.event owned stands.actor stands.meets
 
 -- every word of the empty board is vacant
@@ -232,11 +233,11 @@ empty_words zero i = refl
 empty_words (suc n) zero = refl
 empty_words (suc n) (suc i) = empty_words n i
 
-pub empty_owned : Owned empty_board
+pub empty_owned : IsCounted empty_board
 empty_owned = record {
-  wide = length-replicate 15 vacant;
-  once = λ j. sym (ap (λ w. due w.state) (empty_words 15 j));
-  words = λ j. subst (λ w. IsWord w) (sym (empty_words 15 j)) vacant_word;
+  wide = length-replicate place_count vacant;
+  once = λ j. sym (ap (λ w. due w.state) (empty_words place_count j));
+  words = λ j. subst (λ w. IsWord w) (sym (empty_words place_count j)) vacant_word;
   sized = λ n x h. absurd (cc);
 }
   where

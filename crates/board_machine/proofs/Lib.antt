@@ -14,3 +14,7 @@ pub mod Answers
 pub mod Prefixes
 pub mod Handed
 pub mod Worked
+pub mod Actors
+pub mod RunWord
+pub mod Sizes
+pub mod Adding

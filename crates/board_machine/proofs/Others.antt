@@ -7,11 +7,11 @@ use Rattle.gentl_types.specs.declared.word.State.TheVariants.{Away}
 use Rattle.board_machine.specs.declared.events.Entry.{Entry}
 use Rattle.board_machine.specs.declared.events.Event.{Event}
 use Rattle.board_machine.specs.declared.events.Event.TheVariants.{Look, LookPool, LookOut, LookRun, Enrol, Grab, Lay, Vacate, Pool, Claim, SweepPool, Fill, Take, SweepOut, Close, Post, Unpost, Start, Stop, Split, Join}
-use Rattle.board_machine.specs.declared.events.Taken.TheVariants.{Got, Empty, Closed}
+use Rattle.board_machine.specs.declared.events.TakeEnd.TheVariants.{Taken, Empty, Closed}
 use Rattle.board_machine.specs.Places.{times}
 use Rattle.board_machine.specs.Machine.{Board, vacant, word_at, hand_at, hand, held, no_actor, empty_hands, IsActor, InHand, Meets, after_event, next}
 use Rattle.board_machine.specs.Histories.{after_from, RunsFrom, own_of}
-use Rattle.board_machine.specs.Owners.{due, Owned}
+use Rattle.board_machine.specs.Owners.{due, IsCounted}
 use Rattle.board_machine.proofs.Boards.{two_hands, actor_within, empty_is_actor}
 use Rattle.board_machine.proofs.Counts.{due_le, stands_away, hand_tally}
 use Rattle.board_machine.proofs.Keeps.{keeps_next}
@@ -42,7 +42,7 @@ number_stays b k n (Claim None) within apart other = refl
 number_stays b k n (SweepPool is) within apart other = other_hand b.hands k n _ apart
 number_stays b k n (Fill i f true) within apart other = other_hand b.hands k n _ apart
 number_stays b k n (Fill i f false) within apart other = refl
-number_stays b k n (Take (Got i)) within apart other = other_hand b.hands k n _ apart
+number_stays b k n (Take (Taken i)) within apart other = other_hand b.hands k n _ apart
 number_stays b k n (Take Empty) within apart other = refl
 number_stays b k n (Take Closed) within apart other = refl
 number_stays b k n (SweepOut is) within apart other = other_hand b.hands k n _ apart
@@ -98,7 +98,7 @@ hand_stays b k n (Claim None) m apart = refl
 hand_stays b k n (SweepPool is) m apart = ap held (other_hand b.hands k n _ apart)
 hand_stays b k n (Fill i f true) m apart = ap held (other_hand b.hands k n _ apart)
 hand_stays b k n (Fill i f false) m apart = refl
-hand_stays b k n (Take (Got i)) m apart = ap held (other_hand b.hands k n _ apart)
+hand_stays b k n (Take (Taken i)) m apart = ap held (other_hand b.hands k n _ apart)
 hand_stays b k n (Take Empty) m apart = refl
 hand_stays b k n (Take Closed) m apart = refl
 hand_stays b k n (SweepOut is) m apart = ap held (other_hand b.hands k n _ apart)
@@ -113,7 +113,7 @@ hand_stays b k n (Split s) m apart = new_hand b.hands n
 hand_stays b k n (Join j) m apart = ended_hand b n j m.0
 
 -- a place in another's hands isn't one whose word is of another state
-apart_by_state : (b : Board) (n i j : ℕ) → Owned b → InHand b n i → due (word_at b j).state ≡ 0 → i ≢ j
+pub apart_by_state : (b : Board) (n i j : ℕ) → IsCounted b → InHand b n i → due (word_at b j).state ≡ 0 → i ≢ j
 apart_by_state b n i j owned in_hand none e =
     let away : (word_at b i).state ≡ Away = stands_away b i owned (hand_tally b n i in_hand) in
     let one : due (word_at b i).state ≡ 1 = ap due away in
@@ -121,16 +121,16 @@ apart_by_state b n i j owned in_hand none e =
     omega arith
 
 -- two actors have no place in common
-pub apart_by_hand : (b : Board) (k n i j : ℕ) → Owned b → n ≢ k → InHand b n i → InHand b k j → i ≢ j
+pub apart_by_hand : (b : Board) (k n i j : ℕ) → IsCounted b → n ≢ k → InHand b n i → InHand b k j → i ≢ j
 apart_by_hand b k n i j owned apart mine other e =
     let other_has : 1 ≤ times i (hand b k) = subst (λ m. 1 ≤ times m (hand b k)) (sym e) other in
     omega (arith, two_hands i b.hands n k apart, owned.once i, due_le (word_at b i).state)
 
-other_word : (b : Board) (i j : ℕ) (w : Word) → i ≢ j → get_or (set b.words j w) i vacant ≡ word_at b i
+pub other_word : (b : Board) (i j : ℕ) (w : Word) → i ≢ j → get_or (set b.words j w) i vacant ≡ word_at b i
 other_word b i j w apart = get_or-set_other b.words j i w vacant apart
 
 -- the word of a place in another actor's hands
-pub word_stays : (b : Board) (k n i : ℕ) (event : Event) → Owned b → Meets b k event → n ≢ k → InHand b n i → word_at (after_event b k event) i ≡ word_at b i
+pub word_stays : (b : Board) (k n i : ℕ) (event : Event) → IsCounted b → Meets b k event → n ≢ k → InHand b n i → word_at (after_event b k event) i ≡ word_at b i
 word_stays b k n i (Look j w) owned m apart mine = refl
 word_stays b k n i (LookPool is) owned m apart mine = refl
 word_stays b k n i (LookOut is closed) owned m apart mine = refl
@@ -147,7 +147,7 @@ word_stays b k n i (Claim None) owned m apart mine = refl
 word_stays b k n i (SweepPool is) owned m apart mine = refl
 word_stays b k n i (Fill j f true) owned m apart mine = refl
 word_stays b k n i (Fill j f false) owned m apart mine = refl
-word_stays b k n i (Take (Got j)) owned m apart mine = refl
+word_stays b k n i (Take (Taken j)) owned m apart mine = refl
 word_stays b k n i (Take Empty) owned m apart mine = refl
 word_stays b k n i (Take Closed) owned m apart mine = refl
 word_stays b k n i (SweepOut is) owned m apart mine = refl
@@ -162,7 +162,7 @@ word_stays b k n i (Split s) owned m apart mine = refl
 word_stays b k n i (Join s) owned m apart mine = refl
 
 -- Entries of others alone leave an actor's hands and the words of the places in them.
-pub others_run : (b : Board) (n : ℕ) (h : List Entry) → Owned b → RunsFrom b h → own_of n h ≡ [] → (hand (after_from b h) n ≡ hand b n) × ((i : ℕ) → InHand b n i → word_at (after_from b h) i ≡ word_at b i)
+pub others_run : (b : Board) (n : ℕ) (h : List Entry) → IsCounted b → RunsFrom b h → own_of n h ≡ [] → (hand (after_from b h) n ≡ hand b n) × ((i : ℕ) → InHand b n i → word_at (after_from b h) i ≡ word_at b i)
 others_run b n [] owned runs none = (refl, λ i mine. refl)
 others_run b n (e ∷ h) owned runs none =
     let rest = others_run (next b e) n h (keeps_next b e owned runs.0) runs.1 later in

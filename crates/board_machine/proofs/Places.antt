@@ -1,6 +1,8 @@
 -- How often a place stands in a list, after each edit of the list.
-use Rattle.std.proofs.Common.{◌≡◌, ◌≢◌, ℕ, ◌+◌, ◌≤◌, ◌==◌, nat_le, List, [], ◌∷◌, ◌++◌, refl, ap, inl, inr, ◌⊎◌, arith, eq-eqb, ne_eqb, eqb-true}
-use Rattle.std.proofs.lemmas.Bool.{cond_both, cond-true, cond-false, cases_eq, eqb-false}
+use Rattle.std.proofs.Common.{◌≡◌, ◌≢◌, ℕ, zero, suc, ◌+◌, ◌≤◌, ◌<◌, ◌==◌, nat_le, true, false, ◌||◌, List, [], ◌∷◌, ◌++◌, length, take, get_or, refl, sym, ap, ◌∙◌, inl, inr, ◌⊎◌, arith, eq-eqb, ne_eqb, eqb-true}
+use Rattle.std.specs.List.{list_any}
+use Rattle.std.proofs.lemmas.Bool.{cond_both, cond-true, cond-false, cases_Bool, cases_eq, eqb-false}
+use Rattle.std.proofs.lemmas.List.{take_more}
 use Rattle.board_machine.specs.Places.{same, times, put_in, without, put_all}
 
 pub same_self : (i : ℕ) → same i i ≡ 1
@@ -51,3 +53,36 @@ times-without-le i j (x ∷ xs) =
     cond_both (j == x) xs (x ∷ without j xs) (λ ys. times i ys ≤ same i x + times i xs)
     (λ e. omega arith)
     (λ e. omega (arith, times-without-le i j xs))
+
+pub times_take : (j n : ℕ) (is : List ℕ) → times j (take n is) ≤ times j is
+times_take j zero is = omega arith
+times_take j (suc n) [] = omega arith
+times_take j (suc n) (i ∷ is) = omega (arith, times_take j n is)
+
+pub times_more : (j n : ℕ) (is : List ℕ) → n < length is → times j (take (n + 1) is) ≡ times j (take n is) + same j (get_or is n 0)
+times_more j n is within =
+    let last : times j (get_or is n 0 ∷ []) ≡ same j (get_or is n 0) = omega arith in
+    ap (times j) (take_more is n 0 within) ∙ (times-append j (take n is) (get_or is n 0 ∷ []) ∙ ap (λ x. times j (take n is) + x) last)
+
+some_more : (i j : ℕ) (xs : List ℕ) → (j == i) ≡ true → 1 ≤ times i (j ∷ xs)
+some_more i j xs e = let one : same i j ≡ 1 = sym (ap (λ k. same i k) (sym (eqb-true j i e))) ∙ same_self i in omega arith
+
+-- a test for the place of each member
+pub any_times : (i : ℕ) (xs : List ℕ) → list_any (λ j. j == i) xs ≡ true → 1 ≤ times i xs
+any_times i [] some = absurd (cc)
+any_times i (j ∷ xs) some = go (cases_Bool (j == i)) (λ more. any_times i xs more)
+  where
+    go : ((j == i) ≡ true) ⊎ ((j == i) ≡ false) → (list_any (λ j. j == i) xs ≡ true → 1 ≤ times i xs) → 1 ≤ times i (j ∷ xs)
+    go (inl here) later = some_more i j xs here
+    go (inr off) later = let more : 1 ≤ times i xs = later (sym (ap (λ b. b || list_any (λ j. j == i) xs) off) ∙ some) in omega arith
+
+pub none_times : (i : ℕ) (xs : List ℕ) → list_any (λ j. j == i) xs ≡ false → times i xs ≡ 0
+none_times i [] none = refl
+none_times i (j ∷ xs) none = go (cases_Bool (j == i)) (λ later. none_times i xs later)
+  where
+    go : ((j == i) ≡ true) ⊎ ((j == i) ≡ false) → (list_any (λ j. j == i) xs ≡ false → times i xs ≡ 0) → times i (j ∷ xs) ≡ 0
+    go (inl here) later = absurd (let bad : true ≡ false = sym (ap (λ b. b || list_any (λ j. j == i) xs) here) ∙ none in cc)
+    go (inr off) later =
+        let rest : times i xs ≡ 0 = later (sym (ap (λ b. b || list_any (λ j. j == i) xs) off) ∙ none) in
+        let apart : same i j ≡ 0 = same_other i j (λ e. eqb-false j i off (sym e)) in
+        omega arith

@@ -5,11 +5,11 @@ use Rattle.std.proofs.lemmas.List.{get_or-set_same}
 use Rattle.board_machine.specs.declared.events.Entry.{Entry}
 use Rattle.board_machine.specs.declared.events.Event.{Event}
 use Rattle.board_machine.specs.declared.events.Event.TheVariants.{Look, LookPool, LookOut, LookRun, Enrol, Grab, Lay, Vacate, Pool, Claim, SweepPool, Fill, Take, SweepOut, Close, Post, Unpost, Start, Stop, Split, Join}
-use Rattle.board_machine.specs.declared.events.Taken.TheVariants.{Got, Empty, Closed}
+use Rattle.board_machine.specs.declared.events.TakeEnd.TheVariants.{Taken, Empty, Closed}
 use Rattle.board_machine.specs.Places.{same, times, put_in, without, put_all, tail, IsBelowFirst, IsRising}
-use Rattle.board_machine.specs.Machine.{Board, word_at, hand, held, places, no_actor, empty_hands, empty_board, IsActor, Meets, Stands, after_event, next}
+use Rattle.board_machine.specs.Machine.{Board, word_at, hand, held, places, no_actor, empty_hands, empty_board, IsActor, Meets, CanBeNext, after_event, next}
 use Rattle.board_machine.specs.Histories.{after_from, RunsFrom, After, Run}
-use Rattle.board_machine.specs.Owners.{tally, due, in_hands, Owned}
+use Rattle.board_machine.specs.Owners.{tally, due, in_hands, IsCounted}
 use Rattle.board_machine.specs.Laws.{AreRising}
 use Rattle.board_machine.proofs.Places.{same_self, same_is, times-put_all}
 use Rattle.board_machine.proofs.Boards.{in_hand_of-le, actor_within}
@@ -94,18 +94,18 @@ swept b k is actor rising once =
     own_rising b k (put_all is (hand b k)) actor
     (rising_put_all is (hand b k) (λ i. omega (arith, once i, in_hand_of-le i b.hands k)) (rising.hands k))
 
-tally_le : (b : Board) (i : ℕ) → Owned b → tally b i ≤ 1
+tally_le : (b : Board) (i : ℕ) → IsCounted b → tally b i ≤ 1
 tally_le b i owned = omega (arith, owned.once i, due_le (word_at b i).state)
 
-not_in_hands : (b : Board) (i : ℕ) → Owned b → due (word_at b i).state ≡ 0 → in_hands i b.hands ≡ 0
+not_in_hands : (b : Board) (i : ℕ) → IsCounted b → due (word_at b i).state ≡ 0 → in_hands i b.hands ≡ 0
 not_in_hands b i owned none = omega (arith, owned.once i)
 
-claimed_apart : (b : Board) (i : ℕ) (rest : List ℕ) → Owned b → b.pool ≡ i ∷ rest → in_hands i b.hands ≡ 0
+claimed_apart : (b : Board) (i : ℕ) (rest : List ℕ) → IsCounted b → b.pool ≡ i ∷ rest → in_hands i b.hands ≡ 0
 claimed_apart b i rest owned first =
     let some : times i b.pool ≡ same i i + times i rest = ap (λ is. times i is) first in
     omega (arith, tally_le b i owned, same_self i)
 
-taken_apart : (b : Board) (i : ℕ) (rest : List ℕ) → Owned b → places b.out ≡ i ∷ rest → in_hands i b.hands ≡ 0
+taken_apart : (b : Board) (i : ℕ) (rest : List ℕ) → IsCounted b → places b.out ≡ i ∷ rest → in_hands i b.hands ≡ 0
 taken_apart b i rest owned first =
     let some : times i (places b.out) ≡ same i i + times i rest = ap (λ is. times i is) first in
     omega (arith, tally_le b i owned, same_self i)
@@ -114,7 +114,7 @@ swept_once : (b : Board) (is js : List ℕ) (i : ℕ) → is ≡ js → times i 
 swept_once b is js i all once = let e : times i is ≡ times i js = ap (λ ks. times i ks) all in omega arith
 
 -- the acting actor's hand stays rising
-hand_rises : (b : Board) (k : ℕ) (event : Event) → Owned b → AreRising b → IsActor b k → Meets b k event → IsRising (hand (after_event b k event) k)
+hand_rises : (b : Board) (k : ℕ) (event : Event) → IsCounted b → AreRising b → IsActor b k → Meets b k event → IsRising (hand (after_event b k event) k)
 hand_rises b k (Look i w) owned rising actor m = rising.hands k
 hand_rises b k (LookPool is) owned rising actor m = rising.hands k
 hand_rises b k (LookOut is closed) owned rising actor m = rising.hands k
@@ -132,7 +132,7 @@ hand_rises b k (SweepPool is) owned rising actor m =
     swept b k is actor rising (λ i. swept_once b is b.pool i m (omega (arith, tally_le b i owned)))
 hand_rises b k (Fill i f true) owned rising actor m = dropped b k i actor rising
 hand_rises b k (Fill i f false) owned rising actor m = rising.hands k
-hand_rises b k (Take (Got i)) owned rising actor m = picked b k i actor rising (taken_apart b i (places m.1.1) owned (ap places m.1.2))
+hand_rises b k (Take (Taken i)) owned rising actor m = picked b k i actor rising (taken_apart b i (places m.1.1) owned (ap places m.1.2))
 hand_rises b k (Take Empty) owned rising actor m = rising.hands k
 hand_rises b k (Take Closed) owned rising actor m = rising.hands k
 hand_rises b k (SweepOut is) owned rising actor m =
@@ -150,7 +150,7 @@ hand_rises b k (Join n) owned rising actor m =
     subst (λ h. IsRising (held h)) (sym (other_hand b.hands n k no_actor (λ e. m.1 (sym e)))) (rising.hands k)
 
 -- the pool stays rising
-pool_rises : (b : Board) (k : ℕ) (event : Event) → Owned b → AreRising b → Meets b k event → IsRising (after_event b k event).pool
+pool_rises : (b : Board) (k : ℕ) (event : Event) → IsCounted b → AreRising b → Meets b k event → IsRising (after_event b k event).pool
 pool_rises b k (Look i w) owned rising m = rising.pool
 pool_rises b k (LookPool is) owned rising m = rising.pool
 pool_rises b k (LookOut is closed) owned rising m = rising.pool
@@ -168,7 +168,7 @@ pool_rises b k (Claim None) owned rising m = rising.pool
 pool_rises b k (SweepPool is) owned rising m = tt
 pool_rises b k (Fill i f true) owned rising m = rising.pool
 pool_rises b k (Fill i f false) owned rising m = rising.pool
-pool_rises b k (Take (Got i)) owned rising m = rising.pool
+pool_rises b k (Take (Taken i)) owned rising m = rising.pool
 pool_rises b k (Take Empty) owned rising m = rising.pool
 pool_rises b k (Take Closed) owned rising m = rising.pool
 pool_rises b k (SweepOut is) owned rising m = rising.pool
@@ -182,7 +182,7 @@ pool_rises b k (Stop kill (Err r)) owned rising m = rising.pool
 pool_rises b k (Split n) owned rising m = rising.pool
 pool_rises b k (Join n) owned rising m = rising.pool
 
-pub next_rises : (b : Board) (e : Entry) → Owned b → AreRising b → Stands b e → AreRising (next b e)
+pub next_rises : (b : Board) (e : Entry) → IsCounted b → AreRising b → CanBeNext b e → AreRising (next b e)
 next_rises b e owned rising stands = record {
   pool = pool_rises b e.by e.event owned rising stands.meets;
   hands = λ n. go n (cases_eq n e.by);
@@ -192,7 +192,7 @@ next_rises b e owned rising stands = record {
     go n (inl mine) = subst (λ k. IsRising (hand (next b e) k)) (sym mine) (hand_rises b e.by e.event owned rising stands.actor stands.meets)
     go n (inr apart) = subst (λ is. IsRising is) (sym (hand_stays b e.by n e.event stands.meets apart)) (rising.hands n)
 
-pub runs_rise : (b : Board) (h : List Entry) → Owned b → AreRising b → RunsFrom b h → AreRising (after_from b h)
+pub runs_rise : (b : Board) (h : List Entry) → IsCounted b → AreRising b → RunsFrom b h → AreRising (after_from b h)
 runs_rise b [] owned rising runs = rising
 runs_rise b (e ∷ h) owned rising runs =
     runs_rise (next b e) h (keeps_next b e owned runs.0) (next_rises b e owned rising runs.0) runs.1

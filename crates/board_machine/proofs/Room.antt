@@ -1,10 +1,11 @@
 -- A list with each of n places at most once has at most n members.
 use Rattle.std.proofs.Common.{◌≡◌, ◌≢◌, ℕ, zero, suc, ◌+◌, ◌≤◌, ◌<◌, ◌==◌, nat_le, List, [], ◌∷◌, length, refl, ap, inl, inr, ◌⊎◌, arith}
 use Rattle.std.proofs.lemmas.Bool.{cond_both, cases_eq, cases_lt, eqb-false}
+use Rattle.gev_types.specs.Limits.{place_count}
 use Rattle.board_machine.specs.Places.{same, times, put_in, without}
 use Rattle.board_machine.proofs.Places.{same_self, same_other, same_le, times-put, times-without, times-without-le}
 use Rattle.board_machine.specs.Machine.{Board, word_at, hand, places}
-use Rattle.board_machine.specs.Owners.{tally, Owned}
+use Rattle.board_machine.specs.Owners.{tally, IsCounted}
 use Rattle.board_machine.proofs.Boards.{in_hand_of-le}
 use Rattle.board_machine.proofs.Counts.{due_le, stands_below}
 
@@ -76,18 +77,18 @@ has_room n m xs few below none = omega (arith, few_length n (put_in m xs) more, 
             let some : 1 ≤ times i xs = omega (arith, h, times-put i m xs, same_other i m apart) in
             few.below i some
 
-tally_few : (b : Board) (xs : List ℕ) → Owned b → ((i : ℕ) → times i xs ≤ tally b i) → IsFew 15 xs
+tally_few : (b : Board) (xs : List ℕ) → IsCounted b → ((i : ℕ) → times i xs ≤ tally b i) → IsFew place_count xs
 tally_few b xs owned within = record {
   once = λ i. omega (arith, within i, owned.once i, due_le (word_at b i).state);
   below = λ i some. stands_below b i owned (omega (arith, some, within i));
 }
 
 -- the pool, the output and each actor's hands have each place at most once
-pub pool_few : (b : Board) → Owned b → IsFew 15 b.pool
+pub pool_few : (b : Board) → IsCounted b → IsFew place_count b.pool
 pool_few b owned = tally_few b b.pool owned (λ i. omega arith)
 
-pub out_few : (b : Board) → Owned b → IsFew 15 (places b.out)
+pub out_few : (b : Board) → IsCounted b → IsFew place_count (places b.out)
 out_few b owned = tally_few b (places b.out) owned (λ i. omega arith)
 
-pub hand_few : (b : Board) (k : ℕ) → Owned b → IsFew 15 (hand b k)
+pub hand_few : (b : Board) (k : ℕ) → IsCounted b → IsFew place_count (hand b k)
 hand_few b k owned = tally_few b (hand b k) owned (λ i. omega (arith, in_hand_of-le i b.hands k))

@@ -1,10 +1,13 @@
 -- Histories that grow at their end, and what holds after each of their entries.
 use Rattle.std.proofs.Common.{◌≡◌, ℕ, ◌<◌, ◌==◌, cond, List, [], ◌∷◌, ◌++◌, refl, sym, ap, subst, ◌∙◌}
 use Rattle.std.proofs.lemmas.Bool.{cond_both}
+use Rattle.gev_types.specs.Limits.{place_count}
 use Rattle.board_machine.specs.declared.events.Entry.{Entry}
-use Rattle.board_machine.specs.Machine.{Board, InHand, Stands, next, empty_board}
+use Rattle.board_machine.specs.declared.events.Event.{Event}
+use Rattle.board_machine.specs.Machine.{Board, InHand, CanBeNext, next, empty_board}
 use Rattle.board_machine.specs.Histories.{after_from, RunsFrom, After, Run, own_of, StandsFor}
-use Rattle.board_machine.specs.Owners.{Owned}
+use Rattle.board_machine.specs.Adding.{Adds, entries_of}
+use Rattle.board_machine.specs.Owners.{IsCounted}
 use Rattle.board_machine.proofs.Keeps.{keeps_next, empty_owned}
 use Rattle.board_machine.proofs.Counts.{stands_below, hand_tally}
 
@@ -27,14 +30,21 @@ runs_rest b (e ∷ g) h runs = runs_rest (next b e) g h runs.1
 pub after-push : (h : List Entry) (e : Entry) → After (h ++ e ∷ []) ≡ next (After h) e
 after-push h e = after-append empty_board h (e ∷ [])
 
-pub run-push : (h : List Entry) (e : Entry) → Run h → Stands (After h) e → Run (h ++ e ∷ [])
+pub run-push : (h : List Entry) (e : Entry) → Run h → CanBeNext (After h) e → Run (h ++ e ∷ [])
 run-push h e run stands = runs-append empty_board h (e ∷ []) run (stands, tt)
 
 -- a board that stands for a list stands, after one more entry, for the list with it
-pub stands_push : (b : Board) (h : List Entry) (e : Entry) → StandsFor b h → Stands b e → StandsFor (next b e) (h ++ e ∷ [])
+pub stands_push : (b : Board) (h : List Entry) (e : Entry) → StandsFor b h → CanBeNext b e → StandsFor (next b e) (h ++ e ∷ [])
 stands_push b h e stands_for stands = record {
-  run = run-push h e stands_for.run (subst (λ c. Stands c e) stands_for.state stands);
+  run = run-push h e stands_for.run (subst (λ c. CanBeNext c e) stands_for.state stands);
   state = ap (λ c. next c e) stands_for.state ∙ sym (after-push h e);
+}
+
+-- the same after a list of one actor's events
+pub stands_lists : (b new : Board) (h : List Entry) (k : ℕ) (es : List Event) → StandsFor b h → Adds b k es new → StandsFor new (h ++ entries_of k es)
+stands_lists b new h k es stands_for adds = record {
+  run = runs-append empty_board h (entries_of k es) stands_for.run (subst (λ c. RunsFrom c (entries_of k es)) stands_for.state adds.runs);
+  state = adds.after ∙ (ap (λ c. after_from c (entries_of k es)) stands_for.state ∙ sym (after-append empty_board h (entries_of k es)));
 }
 
 -- the empty board stands for the empty list
@@ -49,16 +59,16 @@ own_of-append k (e ∷ g) h =
     (λ yes. ap (λ t. cond t (e ∷ own_of k (g ++ h)) (own_of k (g ++ h))) yes ∙ ap (λ es. e ∷ es) (own_of-append k g h))
     (λ no. ap (λ t. cond t (e ∷ own_of k (g ++ h)) (own_of k (g ++ h))) no ∙ own_of-append k g h)
 
-pub owned_from : (b : Board) (h : List Entry) → Owned b → RunsFrom b h → Owned (after_from b h)
+pub owned_from : (b : Board) (h : List Entry) → IsCounted b → RunsFrom b h → IsCounted (after_from b h)
 owned_from b [] owned runs = owned
 owned_from b (e ∷ h) owned runs = owned_from (next b e) h (keeps_next b e owned runs.0) runs.1
 
-pub run_owned : (h : List Entry) → Run h → Owned (After h)
+pub run_owned : (h : List Entry) → Run h → IsCounted (After h)
 run_owned h run = owned_from empty_board h empty_owned run
 
 -- the front of a run is a run
 pub run_front : (h front rest : List Entry) → Run h → h ≡ front ++ rest → Run front
 run_front h front rest run split = runs_front empty_board front rest (subst (λ g. Run g) split run)
 
-pub run_in_hand : (h : List Entry) (k i : ℕ) → Run h → InHand (After h) k i → i < 15
+pub run_in_hand : (h : List Entry) (k i : ℕ) → Run h → InHand (After h) k i → i < place_count
 run_in_hand h k i run mine = stands_below (After h) i (run_owned h run) (hand_tally (After h) k i mine)

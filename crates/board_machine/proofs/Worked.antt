@@ -1,6 +1,7 @@
 -- The worked history is a run: each of its acts may stand, and each of its answers is the machine's.
-use Rattle.std.proofs.Common.{◌≡◌, ◌≢◌, ℕ, ◌^◌, ◌==◌, nat_lt, nat_le, not, ◌&&◌, true, false, Bool, List, [], ◌∷◌, length, Option, Some, None, refl, subst, ltb-true, leb-true, eqb-true}
+use Rattle.std.proofs.Common.{◌≡◌, ◌≢◌, ℕ, ◌==◌, nat_lt, nat_le, not, ◌&&◌, true, false, Bool, List, [], ◌∷◌, length, Option, Some, None, refl, subst, ltb-true, leb-true, eqb-true}
 use Rattle.std.proofs.lemmas.Bool.{and_parts, eqb-false, not-true}
+use Rattle.gev_types.specs.Limits.{place_count, max_buffer_size}
 use Rattle.board_machine.specs.declared.events.Entry.{Entry}
 use Rattle.board_machine.specs.Places.{times}
 use Rattle.board_machine.specs.Machine.{Board, entry, next, empty_board, word_at, hand, hand_at, no_actor, empty_hands}
@@ -24,12 +25,12 @@ abbrev has_in_hand : Board → ℕ → ℕ → Bool
 has_in_hand b k i = nat_le 1 (times i (hand b k))
 
 abbrev may_ask : Board → ℕ → Act → Bool
-may_ask b k (to_look i) = nat_lt i 15
+may_ask b k (to_look i) = nat_lt i place_count
 may_ask b k to_look_pool = true
 may_ask b k to_look_out = true
 may_ask b k to_look_run = true
-may_ask b k (to_enrol i size) = nat_lt i 15 && (nat_le 1 size && nat_le size (2 ^ 26))
-may_ask b k (to_grab i g) = nat_lt i 15
+may_ask b k (to_enrol i size) = nat_lt i place_count && (nat_le 1 size && nat_le size (max_buffer_size))
+may_ask b k (to_grab i g) = nat_lt i place_count
 may_ask b k (to_lay i) = has_in_hand b k i
 may_ask b k (to_vacate i) = has_in_hand b k i
 may_ask b k (to_pool i) = has_in_hand b k i
@@ -58,15 +59,15 @@ empty_from (Some []) holds = refl
 empty_from (Some (i ∷ is)) holds = absurd (cc)
 
 asks : (b : Board) (k : ℕ) (a : Act) → may_ask b k a ≡ true → IsAllowed b k a
-asks b k (to_look i) holds = ltb-true i 15 holds
+asks b k (to_look i) holds = ltb-true i place_count holds
 asks b k to_look_pool holds = tt
 asks b k to_look_out holds = tt
 asks b k to_look_run holds = tt
 asks b k (to_enrol i size) holds =
-    let first = and_parts (nat_lt i 15) (nat_le 1 size && nat_le size (2 ^ 26)) holds in
-    let sizes = and_parts (nat_le 1 size) (nat_le size (2 ^ 26)) first.1 in
-    (ltb-true i 15 first.0, leb-true 1 size sizes.0, leb-true size (2 ^ 26) sizes.1)
-asks b k (to_grab i g) holds = ltb-true i 15 holds
+    let first = and_parts (nat_lt i place_count) (nat_le 1 size && nat_le size (max_buffer_size)) holds in
+    let sizes = and_parts (nat_le 1 size) (nat_le size (max_buffer_size)) first.1 in
+    (ltb-true i place_count first.0, leb-true 1 size sizes.0, leb-true size (max_buffer_size) sizes.1)
+asks b k (to_grab i g) holds = ltb-true i place_count holds
 asks b k (to_lay i) holds = leb-true 1 (times i (hand b k)) holds
 asks b k (to_vacate i) holds = leb-true 1 (times i (hand b k)) holds
 asks b k (to_pool i) holds = leb-true 1 (times i (hand b k)) holds

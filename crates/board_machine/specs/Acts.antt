@@ -1,9 +1,10 @@
 -- What an actor asks for, without the answer, and where it may ask.
-use Rattle.std.specs.Prelude.{◌≡◌, ◌≢◌, ℕ, ◌<◌, ◌≤◌, ◌^◌, Bool, length}
+use Rattle.std.specs.Prelude.{◌≡◌, ◌≢◌, ℕ, ◌<◌, ◌≤◌, Bool, length}
 use Rattle.gev_types.specs.Filling.{Filling}
+use Rattle.gev_types.specs.Limits.{place_count, max_buffer_size}
 use Rattle.board_machine.specs.declared.events.Event.{Event}
 use Rattle.board_machine.specs.declared.events.Event.TheVariants.{Look, LookPool, LookOut, LookRun, Enrol, Grab, Lay, Vacate, Pool, Claim, SweepPool, Fill, Take, SweepOut, Close, Post, Unpost, Start, Stop, Split, Join}
-use Rattle.board_machine.specs.Machine.{Board, Stands, entry, IsActor, InHand, word_at, hand_at, empty_hands}
+use Rattle.board_machine.specs.Machine.{Board, CanBeNext, entry, IsActor, InHand, word_at, hand_at, empty_hands}
 
 pub data Act : Type 0 where
   to_look : ℕ → Act
@@ -54,12 +55,12 @@ act_of (Join n) = to_join n
 
 -- what actor k may ask for, whatever the answer will be
 abbrev pub IsAllowed : Board → ℕ → Act → Type 0
-IsAllowed b k (to_look i) = i < 15
+IsAllowed b k (to_look i) = i < place_count
 IsAllowed b k to_look_pool = Unit {0}
 IsAllowed b k to_look_out = Unit {0}
 IsAllowed b k to_look_run = Unit {0}
-IsAllowed b k (to_enrol i size) = (i < 15) × (1 ≤ size) × (size ≤ 2 ^ 26)
-IsAllowed b k (to_grab i g) = i < 15
+IsAllowed b k (to_enrol i size) = (i < place_count) × (1 ≤ size) × (size ≤ max_buffer_size)
+IsAllowed b k (to_grab i g) = i < place_count
 IsAllowed b k (to_lay i) = InHand b k i
 IsAllowed b k (to_vacate i) = InHand b k i
 IsAllowed b k (to_pool i) = InHand b k i
@@ -84,7 +85,7 @@ pub record MayStand (b : Board) (k : ℕ) (a : Act) : Type 0 where
 -- the event is this act of actor k with the machine's answer
 pub record Answers (b : Board) (k : ℕ) (a : Act) (event : Event) : Type 0 where
   pub act : act_of event ≡ a
-  pub stands : Stands b (entry k event)
+  pub is_next : CanBeNext b (entry k event)
 
 -- the act has an answer, and no other
 pub record OneAnswer (b : Board) (k : ℕ) (a : Act) : Type 0 where

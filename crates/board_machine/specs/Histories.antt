@@ -3,7 +3,7 @@ use Rattle.std.specs.Prelude.{◌≡◌, ℕ, ◌+◌, ◌==◌, cond, List, [],
 use Rattle.board_machine.specs.declared.events.Entry.{Entry}
 use Rattle.board_machine.specs.declared.events.Event.{Event}
 use Rattle.board_machine.specs.declared.events.Event.TheVariants.{Split}
-use Rattle.board_machine.specs.Machine.{Board, Stands, next, empty_board}
+use Rattle.board_machine.specs.Machine.{Board, CanBeNext, next, empty_board}
 
 -- the board after these entries
 abbrev pub after_from : Board → List Entry → Board
@@ -13,7 +13,7 @@ after_from b (e ∷ es) = after_from (next b e) es
 -- Each entry can be the next one on the board that those before it leave.
 abbrev pub RunsFrom : Board → List Entry → Type 0
 RunsFrom b [] = Unit {0}
-RunsFrom b (e ∷ es) = Stands b e × RunsFrom (next b e) es
+RunsFrom b (e ∷ es) = CanBeNext b e × RunsFrom (next b e) es
 
 abbrev pub After : List Entry → Board
 After h = after_from empty_board h

@@ -1,8 +1,11 @@
 pub mod Places
 pub mod Machine
 pub mod Histories
+pub mod Adding
+pub mod Actors
 pub mod Owners
 pub mod Handout
+pub mod Sizes
 pub mod Acts
 pub mod Laws
 pub mod Worked

@@ -7,10 +7,11 @@ use Rattle.gentl_types.specs.declared.word.Word.{Word}
 use Rattle.gentl_types.specs.declared.word.State.{State}
 use Rattle.gentl_types.specs.declared.word.State.TheVariants.{Vacant, Held, Away}
 use Rattle.gev_types.specs.Filling.{Filling}
+use Rattle.gev_types.specs.Limits.{place_count, max_buffer_size}
 use Rattle.board_machine.specs.declared.events.Entry.{Entry}
 use Rattle.board_machine.specs.declared.events.Event.{Event}
 use Rattle.board_machine.specs.declared.events.Event.TheVariants.{Look, LookPool, LookOut, LookRun, Enrol, Grab, Lay, Vacate, Pool, Claim, SweepPool, Fill, Take, SweepOut, Close, Post, Unpost, Start, Stop, Split, Join}
-use Rattle.board_machine.specs.declared.events.Taken.TheVariants.{Got, Empty, Closed}
+use Rattle.board_machine.specs.declared.events.TakeEnd.TheVariants.{Taken, Empty, Closed}
 use Rattle.board_machine.specs.Places.{times, put_in, without, put_all, tail}
 
 -- an entry of the output: a place, with the bytes and the record that its fill gave it
@@ -47,7 +48,7 @@ no_actor = None
 -- the board before any act, with actor 0
 abbrev pub empty_board : Board
 empty_board = record {
-  words = replicate 15 vacant;
+  words = replicate place_count vacant;
   pool = [];
   out = [];
   hands = empty_hands ∷ [];
@@ -98,14 +99,14 @@ CanEnrol w = (w.state ≡ Vacant) × (w.generation + 1 < 2 ^ 32)
 
 -- The act with this answer can be actor k's in this state.
 abbrev pub Meets : Board → ℕ → Event → Type 0
-Meets b k (Look i w) = (i < 15) × (w ≡ word_at b i)
+Meets b k (Look i w) = (i < place_count) × (w ≡ word_at b i)
 Meets b k (LookPool is) = is ≡ b.pool
 Meets b k (LookOut is closed) = (is ≡ places b.out) × (closed ≡ b.closed)
 Meets b k (LookRun r) = r ≡ b.run
-Meets b k (Enrol i size (Ok g)) = (i < 15) × (1 ≤ size) × (size ≤ 2 ^ 26) × CanEnrol (word_at b i) × (g ≡ (word_at b i).generation + 1)
-Meets b k (Enrol i size (Err w)) = (i < 15) × (1 ≤ size) × (size ≤ 2 ^ 26) × (w ≡ word_at b i) × (¬ CanEnrol w)
-Meets b k (Grab i g (Ok done)) = (i < 15) × IsHeldAs (word_at b i) g
-Meets b k (Grab i g (Err w)) = (i < 15) × (w ≡ word_at b i) × (¬ IsHeldAs w g)
+Meets b k (Enrol i size (Ok g)) = (i < place_count) × (1 ≤ size) × (size ≤ max_buffer_size) × CanEnrol (word_at b i) × (g ≡ (word_at b i).generation + 1)
+Meets b k (Enrol i size (Err w)) = (i < place_count) × (1 ≤ size) × (size ≤ max_buffer_size) × (w ≡ word_at b i) × (¬ CanEnrol w)
+Meets b k (Grab i g (Ok done)) = (i < place_count) × IsHeldAs (word_at b i) g
+Meets b k (Grab i g (Err w)) = (i < place_count) × (w ≡ word_at b i) × (¬ IsHeldAs w g)
 Meets b k (Lay i) = InHand b k i
 Meets b k (Vacate i) = InHand b k i
 Meets b k (Pool i) = InHand b k i
@@ -114,7 +115,7 @@ Meets b k (Claim None) = b.pool ≡ []
 Meets b k (SweepPool is) = is ≡ b.pool
 Meets b k (Fill i f true) = InHand b k i × (length f.bytes ≡ (word_at b i).size) × (b.closed ≡ false)
 Meets b k (Fill i f false) = InHand b k i × (length f.bytes ≡ (word_at b i).size) × (b.closed ≡ true)
-Meets b k (Take (Got i)) = (b.closed ≡ false) × ((f : Filling) × (rest : List Item) × (b.out ≡ item i f ∷ rest))
+Meets b k (Take (Taken i)) = (b.closed ≡ false) × ((f : Filling) × (rest : List Item) × (b.out ≡ item i f ∷ rest))
 Meets b k (Take Empty) = (b.closed ≡ false) × (b.out ≡ [])
 Meets b k (Take Closed) = b.closed ≡ true
 Meets b k (SweepOut is) = is ≡ places b.out
@@ -163,7 +164,7 @@ after_event b k (Claim None) = b
 after_event b k (SweepPool is) = record (set_hand b k (put_all is (hand b k))) { pool = [] }
 after_event b k (Fill i f true) = record (drops b k i) { out = b.out ++ item i f ∷ [] }
 after_event b k (Fill i f false) = b
-after_event b k (Take (Got i)) = record (picks b k i) { out = tail b.out }
+after_event b k (Take (Taken i)) = record (picks b k i) { out = tail b.out }
 after_event b k (Take Empty) = b
 after_event b k (Take Closed) = b
 after_event b k (SweepOut is) = record (set_hand b k (put_all is (hand b k))) { out = [] }
@@ -181,7 +182,7 @@ abbrev pub entry : ℕ → Event → Entry
 entry k event = record { by = k; event = event }
 
 -- The entry can be the next one: its actor is one, and its answer is the machine's.
-pub record Stands (b : Board) (e : Entry) : Type 0 where
+pub record CanBeNext (b : Board) (e : Entry) : Type 0 where
   pub actor : IsActor b e.by
   pub meets : Meets b e.by e.event
 

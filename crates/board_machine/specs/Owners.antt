@@ -1,5 +1,6 @@
 -- Who owns each buffer: by cases, for a reader, and by counting, for proofs.
 use Rattle.std.specs.Prelude.{◌≡◌, ◌≢◌, ℕ, ◌+◌, ◌<◌, ◌≤◌, ◌^◌, List, [], ◌∷◌, length, Option, Some, slice_get}
+use Rattle.gev_types.specs.Limits.{place_count, max_buffer_size}
 use Rattle.gentl_types.specs.declared.word.Word.{Word}
 use Rattle.gentl_types.specs.declared.word.State.{State}
 use Rattle.gentl_types.specs.declared.word.State.TheVariants.{Vacant, Held, Away}
@@ -33,7 +34,7 @@ Owns b i (actor k) = ((word_at b i).state ≡ Away) × (times i b.pool ≡ 0) ×
 
 -- a word within its limits; where a buffer is announced it has a size and a generation
 pub record IsWord (w : Word) : Type 0 where
-  pub size : w.size ≤ 2 ^ 26
+  pub size : w.size ≤ max_buffer_size
   pub generation : w.generation < 2 ^ 32
   pub some_size : w.state ≢ Vacant → 1 ≤ w.size
   pub some_generation : w.state ≢ Vacant → 1 ≤ w.generation
@@ -44,7 +45,7 @@ AreSized b = (n : ℕ) (x : Item) → slice_get b.out n ≡ Some x → length x.
 
 -- Each place has exactly one owner. A number that is no place has nobody.
 pub record IsOwned (b : Board) : Type 0 where
-  pub wide : length b.words ≡ 15
+  pub wide : length b.words ≡ place_count
   pub owner : (i : ℕ) → (o : Owner) × Owns b i o
   pub single : (i : ℕ) (o p : Owner) → Owns b i o → Owns b i p → o ≡ p
   pub words : (i : ℕ) → IsWord (word_at b i)
@@ -65,9 +66,9 @@ due Vacant = 0
 due Held = 0
 due Away = 1
 
--- the same as IsOwned, with one equation for each place
-pub record Owned (b : Board) : Type 0 where
-  pub wide : length b.words ≡ 15
+-- the same as IsOwned, with one equation for each place: for proofs
+pub record IsCounted (b : Board) : Type 0 where
+  pub wide : length b.words ≡ place_count
   pub once : (i : ℕ) → tally b i ≡ due (word_at b i).state
   pub words : (i : ℕ) → IsWord (word_at b i)
   pub sized : AreSized b

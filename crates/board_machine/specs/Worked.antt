@@ -6,7 +6,7 @@ use Rattle.gentl_types.specs.declared.word.State.TheVariants.{Vacant, Held, Away
 use Rattle.gev_types.specs.Filling.{Filling, empty_record}
 use Rattle.board_machine.specs.declared.events.Entry.{Entry}
 use Rattle.board_machine.specs.declared.events.Event.TheVariants.{Look, LookPool, LookOut, LookRun, Enrol, Grab, Lay, Vacate, Pool, Claim, SweepPool, Fill, Take, SweepOut, Close, Post, Unpost, Start, Stop, Split, Join}
-use Rattle.board_machine.specs.declared.events.Taken.TheVariants.{Got, Empty, Closed}
+use Rattle.board_machine.specs.declared.events.TakeEnd.TheVariants.{Taken, Empty, Closed}
 use Rattle.board_machine.specs.Machine.{entry}
 
 abbrev pub done : Unit {0}
@@ -45,7 +45,7 @@ worked_round =
     ∷ entry 2 (Claim None)
     ∷ entry 2 (Fill 0 abc true)
     ∷ entry 0 (LookOut (0 ∷ []) false)
-    ∷ entry 0 (Take (Got 0))
+    ∷ entry 0 (Take (Taken 0))
     ∷ entry 0 (Take Empty)
     ∷ entry 0 (Lay 0)
     ∷ entry 0 Post

@@ -2,11 +2,11 @@ use gentl_types::Word;
 use gev_types::Buf;
 use std::collections::LinkedList;
 
-/// What taking the first buffer of the output answered.
+/// How a take ended.
 #[derive(Clone, Copy, Debug, PartialEq, Eq)]
-pub enum Taken {
-    /// The buffer of this place.
-    Got(u8),
+pub enum TakeEnd {
+    /// The buffer of this place was the first one of the output, and is in hand now.
+    Taken(u8),
     /// The output was empty.
     Empty,
     /// The stream was closed.
@@ -16,7 +16,7 @@ pub enum Taken {
 /// One act on the board, with its answer as the last field where it has one.
 ///
 /// Contracts speak of events; no value of this type is made when a program runs.
-#[derive(Drop)]
+#[derive(Debug, Drop)]
 pub enum Event {
     /// Looks at the ownership word of a place.
     Look(u8, Word),
@@ -46,7 +46,7 @@ pub enum Event {
     /// or the close mark stood.
     Fill(u8, Buf, bool),
     /// Takes the first buffer of the output in hand.
-    Take(Taken),
+    Take(TakeEnd),
     /// Takes the whole output in hand: its places, first in first.
     SweepOut(LinkedList<u8>),
     /// Sets the close mark, for good.
@@ -66,7 +66,7 @@ pub enum Event {
 }
 
 /// An event of a history, and the number of the actor whose act it was.
-#[derive(Drop)]
+#[derive(Debug, Drop)]
 pub struct Entry {
     /// The actor's number. The first actor is 0.
     pub by: u64,

@@ -4,9 +4,12 @@ ghost use Rattle.board_machine.specs.Laws.{EachActHasOneAnswer, NoOtherActHasAns
 ghost use Rattle.board_machine.specs.Laws.{RunsAreOwned, RunsAreLegal, RunsHandOut, TakesHandFirst};
 ghost use Rattle.board_machine.specs.Laws.{ActsLeaveOthers, SplitsAddActors, SplitsAreCounted, JoinsEndActors, EndedActorsDoNothing, LoneActorsActNext};
 ghost use Rattle.board_machine.specs.Laws.{GenerationsNeverFall, PlacesRise, ClaimsAreLowest, HandsHoldPlaces};
+ghost use Rattle.board_machine.specs.Laws.{ActorsStay, OnlyJoinsEnd, ActorsAreBorn, UnbornDoNothing, LoneActorsStayAlone, OthersLeaveHands, EntriesAreTheirs};
+ghost use Rattle.board_machine.specs.Laws.{RunWordIsSmall, HeldBuffersStay, OneSizeStays, OnlyOwnTakesCount, HistoriesGrow, HistoriesGrowByLists};
+ghost use Rattle.std.specs.Prelude.{[]};
 ghost use Rattle.board_machine.specs.Machine.{empty_board};
 ghost use Rattle.board_machine.specs.Owners.{IsOwned};
-ghost use Rattle.board_machine.specs.Histories.{Run};
+ghost use Rattle.board_machine.specs.Histories.{Run, StandsFor};
 ghost use Rattle.board_machine.specs.Worked.{worked};
 
 /// Each act that may stand in a state of the board has exactly one answer there.
@@ -50,7 +53,7 @@ pub fn runs_hand_out()
     ensures { RunsHandOut }
 {}
 
-/// A take hands out the output's first buffer, with the bytes and the record of its fill.
+/// A take hands its actor the output's first buffer, with the bytes and the record of its fill.
 pub fn takes_hand_first()
     ensures { TakesHandFirst }
 {}
@@ -103,6 +106,78 @@ pub fn claims_are_lowest()
 /// What is in an actor's hands is one of the 15 places.
 pub fn hands_hold_places()
     ensures { HandsHoldPlaces }
+{}
+
+/// An actor stays one by its own act.
+pub fn actors_stay()
+    ensures { ActorsStay }
+{}
+
+/// An act leaves every actor an actor, but for one that it joins into another.
+pub fn only_joins_end_actors()
+    ensures { OnlyJoinsEnd }
+{}
+
+/// An actor was one before the act, or the act was a split that gave its number.
+pub fn actors_are_born()
+    ensures { ActorsAreBorn }
+{}
+
+/// A number that no split gave yet has no entry.
+pub fn unborn_actors_do_nothing()
+    ensures { UnbornDoNothing }
+{}
+
+/// An actor that is the only one stays the only one while it splits nobody.
+pub fn lone_actors_stay_alone()
+    ensures { LoneActorsStayAlone }
+{}
+
+/// Entries by others leave the hands of an actor that isn't joined, and the words of the places in
+/// them.
+pub fn others_leave_hands()
+    ensures { OthersLeaveHands }
+{}
+
+/// Where some actors, the first one among them, add only each other, all entries are theirs.
+pub fn entries_are_theirs()
+    ensures { EntriesAreTheirs }
+{}
+
+/// The run word is at most 2.
+pub fn run_word_is_small()
+    ensures { RunWordIsSmall }
+{}
+
+/// An act leaves size and generation of a buffer in hand, also where it's the act of its holder.
+pub fn held_buffers_stay()
+    ensures { HeldBuffersStay }
+{}
+
+/// Where each buffer that a history brings has one size, each word that isn't Vacant has it.
+pub fn one_size_stays()
+    ensures { OneSizeStays }
+{}
+
+/// What an actor has taken changes by its own takes alone.
+pub fn only_own_takes_count()
+    ensures { OnlyOwnTakesCount }
+{}
+
+/// The board before any act stands for the history with no entries.
+pub fn empty_history()
+    ensures { StandsFor empty_board [] }
+{}
+
+/// A board that stands for a history stands, after an entry, for the history with it.
+pub fn histories_grow()
+    ensures { HistoriesGrow }
+{}
+
+/// A board that stands for a history stands, after a list of one actor's events, for the history with
+/// their entries.
+pub fn histories_grow_by_lists()
+    ensures { HistoriesGrowByLists }
 {}
 
 /// The history of `specs/Worked.antt`, with every kind of act and most of the refusals, is a run.

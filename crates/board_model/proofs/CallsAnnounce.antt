@@ -1,35 +1,37 @@
 -- The events of an announce, from those of its parts.
 use Rattle.std.proofs.Common.{◌≡◌, ◌≢◌, ℕ, ◌+◌, ◌<◌, false, List, [], ◌∷◌, ◌++◌, length, replicate, set, Option, Some, None, Ok, Err, refl, sym, ap, subst, ◌∙◌, append_assoc, get_or-set_same}
+use Rattle.gev_types.specs.Limits.{place_count}
 use Rattle.gentl_types.specs.declared.buffer_id.BufferId.{BufferId}
 use Rattle.gentl_types.specs.declared.word.Word.{Word}
 use Rattle.gentl_types.specs.declared.errors.GcError.TheVariants.{InvalidParameter, OutOfMemory, ResourceExhausted}
 use Rattle.gev_types.specs.Filling.{Filling, empty_record}
 use Rattle.board_machine.specs.declared.events.Event.{Event}
 use Rattle.board_machine.specs.declared.events.Event.TheVariants.{Enrol, Lay}
-use Rattle.board_machine.specs.Machine.{Board, Stands, next}
-use Rattle.board_model.specs.Plain.{entry_of, nothing, lying}
-use Rattle.board_model.specs.Added.{AddsOf, fresh}
-use Rattle.board_model.specs.Rounds.{refused_from, RefusedBelow, EnrolsLowest}
-use Rattle.board_model.specs.Calls.{LooksOut, OpensWith, Announces, IsSize}
-use Rattle.board_model.proofs.CallsAdded.{adds_more, adds_as, adds_step}
-use Rattle.board_model.proofs.CallsKinds.{opens}
-use Rattle.board_model.proofs.CallsParts.{refused_more}
+use Rattle.board_machine.specs.Machine.{Board}
+use Rattle.board_model.specs.Plain.{nothing, lying}
+use Rattle.board_machine.specs.Adding.{AddsEntry, AddsOf}
+use Rattle.board_model.specs.Holdings.{fresh}
+use Rattle.board_calls.specs.Rounds.{refused_from, RefusedBelow, EnrolsLowest}
+use Rattle.board_calls.specs.Calls.{LooksOut, OpensWith, Announces, IsSize}
+use Rattle.board_machine.proofs.Adding.{adds_more, adds_as, adds_step}
+use Rattle.board_calls.proofs.Refused.{opens}
+use Rattle.board_model.proofs.CallsParts.{one_more_refused}
 
 -- the size of a buffer that came back unchanged
 same_size : (f g : Filling) → f ≡ g → length f.bytes ≡ length g.bytes
 same_size f g e = ap (λ (h : Filling). length h.bytes) e
 
-pub enrol_more : (b mid new : Board) (k n : ℕ) (f g : Filling) (w : Word) → f ≡ g → AddsOf b k (RefusedBelow n (length g.bytes)) mid → Stands mid (entry_of k (Enrol n (length f.bytes) (Err w))) → new ≡ next mid (entry_of k (Enrol n (length f.bytes) (Err w))) → AddsOf b k (RefusedBelow (n + 1) (length g.bytes)) new
-enrol_more b mid new k n f g w e tried stands after =
-    refused_more b mid new k n (length g.bytes) w tried
-    (subst (λ (m : ℕ). Stands mid (entry_of k (Enrol n m (Err w)))) (same_size f g e) stands) after
+pub enrol_more : (b mid new : Board) (k n : ℕ) (f g : Filling) (w : Word) → f ≡ g → AddsOf b k (RefusedBelow n (length g.bytes)) mid → AddsEntry mid k (Enrol n (length f.bytes) (Err w)) new → AddsOf b k (RefusedBelow (n + 1) (length g.bytes)) new
+enrol_more b mid new k n f g w e tried step =
+    one_more_refused b mid new k n (length g.bytes) w tried
+    (subst (λ (m : ℕ). AddsEntry mid k (Enrol n m (Err w)) new) (same_size f g e) step)
 
-pub enrol_found : (b mid new : Board) (k n g : ℕ) (f h : Filling) → f ≡ h → AddsOf b k (RefusedBelow n (length h.bytes)) mid → Stands mid (entry_of k (Enrol n (length f.bytes) (Ok g))) → new ≡ next mid (entry_of k (Enrol n (length f.bytes) (Ok g))) → AddsOf b k (EnrolsLowest (length h.bytes) (Some (record { place = n; generation = g }))) new
-enrol_found b mid new k n g f h e tried stands after =
+pub enrol_found : (b mid new : Board) (k n g : ℕ) (f h : Filling) → f ≡ h → AddsOf b k (RefusedBelow n (length h.bytes)) mid → AddsEntry mid k (Enrol n (length f.bytes) (Ok g)) new → AddsOf b k (EnrolsLowest (length h.bytes) (Some (record { place = n; generation = g }))) new
+enrol_found b mid new k n g f h e tried step =
     adds_more b mid new k (RefusedBelow n (length h.bytes)) (λ es. es ≡ Enrol n (length h.bytes) (Ok g) ∷ []) (EnrolsLowest (length h.bytes) (Some (record { place = n; generation = g })))
     (λ es fs below last. (below.words, below.all, ap (λ gs. gs ++ fs) below.is ∙ ap (λ gs. refused_from 0 (length h.bytes) below.words ++ gs) last))
     tried
-    (subst (λ (m : ℕ). AddsOf mid k (λ es. es ≡ Enrol n m (Ok g) ∷ []) new) (same_size f h e) (adds_step mid new k (Enrol n (length f.bytes) (Ok g)) stands after))
+    (subst (λ (m : ℕ). AddsOf mid k (λ es. es ≡ Enrol n m (Ok g) ∷ []) new) (same_size f h e) (adds_step mid new k (Enrol n (length f.bytes) (Ok g)) tt step))
 
 pub announce_done : (b mid there new : Board) (k n size : ℕ) (id : BufferId) → n ≡ size → IsSize size → AddsOf b k (LooksOut false) mid → AddsOf mid k (EnrolsLowest n (Some id)) there → AddsOf there k (λ es. es ≡ Lay id.place ∷ []) new → AddsOf b k (Announces size (Ok id)) new
 announce_done b mid there new k n size id e fits look tried laid =
@@ -45,9 +47,9 @@ announce_done b mid there new k n size id e fits look tried laid =
 
 pub announce_full : (b mid new : Board) (k n size : ℕ) → n ≡ size → IsSize size → AddsOf b k (LooksOut false) mid → AddsOf mid k (EnrolsLowest n None) new → AddsOf b k (Announces size (Err ResourceExhausted)) new
 announce_full b mid new k n size e fits look tried =
-    adds_more b mid new k (LooksOut false) (RefusedBelow 15 size) (Announces size (Err ResourceExhausted))
+    adds_more b mid new k (LooksOut false) (RefusedBelow place_count size) (Announces size (Err ResourceExhausted))
     (λ es fs first second. (fits, (second.words, second.all, subst (λ (gs : List Event). OpensWith gs (es ++ fs)) second.is (opens es fs first))))
-    look (subst (λ (m : ℕ). AddsOf mid k (RefusedBelow 15 m) new) e tried)
+    look (subst (λ (m : ℕ). AddsOf mid k (RefusedBelow place_count m) new) e tried)
 
 pub announce_odd : (b new : Board) (k size : ℕ) → ¬ IsSize size → AddsOf b k (LooksOut false) new → AddsOf b k (Announces size (Err (InvalidParameter size))) new
 announce_odd b new k size unfit look =

@@ -1,50 +1,26 @@
 -- How the events of a call are made up of those of its parts.
-use Rattle.std.proofs.Common.{◌≡◌, ◌≢◌, ℕ, ◌≤◌, ◌<◌, false, List, [], ◌∷◌, ◌++◌, Result, Ok, Err, refl, sym, ap, subst, ◌∙◌, ◌==◌}
+use Rattle.std.proofs.Common.{◌≡◌, ℕ, ◌≤◌, ◌<◌, false, List, [], ◌∷◌, ◌++◌, Result, Ok, Err, refl, sym, ap, subst, ◌∙◌, ◌==◌}
+use Rattle.gev_types.specs.Limits.{place_count}
 use Rattle.gentl_types.specs.declared.buffer_id.BufferId.{BufferId}
 use Rattle.gentl_types.specs.declared.errors.GcError.{GcError}
-use Rattle.gentl_types.specs.declared.errors.GcError.TheVariants.{InvalidHandle, ResourceInUse}
+use Rattle.gentl_types.specs.declared.errors.GcError.TheVariants.{ResourceInUse}
 use Rattle.gentl_types.specs.declared.errors.Shown.{Shown}
 use Rattle.gentl_types.specs.declared.errors.Shown.TheVariants as shown
 use Rattle.board_machine.specs.declared.events.Event.{Event}
 use Rattle.board_machine.specs.declared.events.Event.TheVariants.{Grab, Pool, Vacate, Start, Stop, SweepOut, SweepPool, Close}
-use Rattle.board_machine.specs.Machine.{Board, Stands, next}
-use Rattle.board_model.specs.Plain.{entry_of}
-use Rattle.board_model.specs.Rounds.{lays, pools, PoolsHeld}
-use Rattle.board_model.specs.Added.{Adds, AddsOf}
-use Rattle.board_model.specs.Calls.{LooksOut, OpensWith, RefusesGrab, Queues, Borrows, Revokes, Starts, Stops, run_word, busy_of, closed_refusal, DiscardsOutput, DiscardsAll, Closes, FlushesToInput}
-use Rattle.board_model.proofs.CallsAdded.{adds_more, adds_as, adds_both, adds_after}
-
--- a look that finds no close mark, then these events
-pub opens : (es fs : List Event) → LooksOut false es → OpensWith fs (es ++ fs)
-opens es fs look = record { output = look.output; is = ap (λ gs. gs ++ fs) look.is }
-
-pub queue_refused : (id : BufferId) (error : GcError) (rest es : List Event) → RefusesGrab id error rest → OpensWith rest es → Queues id (Err error) es
-queue_refused id (InvalidHandle shown.Closed) rest es refused opened = absurd refused
-queue_refused id (InvalidHandle (shown.NoHandle n)) rest es refused opened = (rest, refused, opened)
-queue_refused id (InvalidHandle (shown.Word w)) rest es refused opened = (rest, refused, opened)
-queue_refused id (ResourceInUse (shown.Word w)) rest es refused opened = (rest, refused, opened)
-queue_refused id error rest es refused opened = absurd refused
-
-pub revoke_refused : (T : Type 0) (id : BufferId) (error : GcError) (es : List Event) → RefusesGrab id error es → Revokes {T = T} id (Err (busy_of error)) es
-revoke_refused T id (InvalidHandle (shown.NoHandle n)) es refused = refused
-revoke_refused T id (InvalidHandle (shown.Word w)) es refused = refused
-revoke_refused T id (ResourceInUse (shown.Word w)) es refused = refused
-revoke_refused T id error es refused = absurd refused
-
--- a refused grab doesn't tell of a close mark
-pub refused_open : (id : BufferId) (error : GcError) (es : List Event) → RefusesGrab id error es → error ≢ closed_refusal
-refused_open id (InvalidHandle shown.Closed) es refused e = absurd refused
-refused_open id (InvalidHandle (shown.NoHandle n)) es refused e = cc
-refused_open id (InvalidHandle (shown.Word w)) es refused e = cc
-refused_open id (ResourceInUse (shown.Word w)) es refused e = cc
-refused_open id error es refused e = absurd refused
+use Rattle.board_machine.specs.Machine.{Board}
+use Rattle.board_machine.specs.Adding.{AddsEntry, AddsOf}
+use Rattle.board_machine.proofs.Adding.{adds_more, adds_as, adds_first}
+use Rattle.board_calls.specs.Rounds.{lays, pools, LaysEach, PoolsEach, PoolsHeld}
+use Rattle.board_calls.specs.Calls.{LooksOut, OpensWith, RefusesGrab, Queues, Borrows, Revokes, Starts, Stops, run_word, busy_of, DiscardsOutput, DiscardsAll, Closes, FlushesToInput}
+use Rattle.board_calls.proofs.Refused.{opens, queue_refused, revoke_refused}
 
 pub queue_refusal : (b mid new : Board) (k : ℕ) (id : BufferId) (error : GcError) → AddsOf b k (LooksOut false) mid → AddsOf mid k (RefusesGrab id error) new → AddsOf b k (Queues id (Err error)) new
 queue_refusal b mid new k id error look refused =
     adds_more b mid new k (LooksOut false) (RefusesGrab id error) (Queues id (Err error))
     (λ es fs first second. queue_refused id error fs (es ++ fs) second (opens es fs first)) look refused
 
-pub queue_done : (b mid new : Board) (k : ℕ) (id : BufferId) → id.place < 15 → AddsOf b k (LooksOut false) mid → AddsOf mid k (λ es. es ≡ Grab id.place id.generation (Ok tt) ∷ Pool id.place ∷ []) new → AddsOf b k (Queues id (Ok tt)) new
+pub queue_done : (b mid new : Board) (k : ℕ) (id : BufferId) → id.place < place_count → AddsOf b k (LooksOut false) mid → AddsOf mid k (λ es. es ≡ Grab id.place id.generation (Ok tt) ∷ Pool id.place ∷ []) new → AddsOf b k (Queues id (Ok tt)) new
 queue_done b mid new k id below look rest =
     adds_more b mid new k (LooksOut false) (λ es. es ≡ Grab id.place id.generation (Ok tt) ∷ Pool id.place ∷ []) (Queues id (Ok tt))
     (λ es fs first second. (below, subst (λ (gs : List Event). OpensWith gs (es ++ fs)) second (opens es fs first))) look rest
@@ -88,45 +64,44 @@ stop_refused b new k r flags found small e step =
     (λ es is. (small, (r, refl, is))) step)
 
 -- sweeps, and what is done with the places that they swept
-pub discards_output : (b mid new : Board) (k : ℕ) (is js : List ℕ) → js ≡ is → Stands b (entry_of k (SweepOut is)) → mid ≡ next b (entry_of k (SweepOut is)) → Adds mid k (lays js) new → AddsOf b k DiscardsOutput new
-discards_output b mid new k is js e stands after adds = record {
-  events = SweepOut is ∷ lays is;
-  kind = record { output = is; is = refl };
-  adds = adds_after b mid new k (SweepOut is) (lays is) stands after (subst (λ (ks : List ℕ). Adds mid k (lays ks) new) e adds);
-}
+pub discards_output : (b mid new : Board) (k : ℕ) (is js : List ℕ) → js ≡ is → AddsEntry b k (SweepOut is) mid → AddsOf mid k (LaysEach js) new → AddsOf b k DiscardsOutput new
+discards_output b mid new k is js e swept laid =
+    adds_first b mid new k (SweepOut is) (LaysEach js) DiscardsOutput tt
+    (λ es kind. record { output = is; is = ap (λ fs. SweepOut is ∷ fs) (kind ∙ ap lays e) }) swept laid
 
-both_laid : (b mid new : Board) (k : ℕ) (is js ks ls : List ℕ) → ks ≡ is → ls ≡ js → Adds b k (lays ks) mid → Adds mid k (lays ls) new → Adds b k (lays is ++ lays js) new
+both_laid : (b mid new : Board) (k : ℕ) (is js ks ls : List ℕ) → ks ≡ is → ls ≡ js → AddsOf b k (LaysEach ks) mid → AddsOf mid k (LaysEach ls) new → AddsOf b k (λ es. es ≡ lays is ++ lays js) new
 both_laid b mid new k is js ks ls e f first second =
-    adds_both b mid new k (lays is) (lays js)
-    (subst (λ (ms : List ℕ). Adds b k (lays ms) mid) e first) (subst (λ (ms : List ℕ). Adds mid k (lays ms) new) f second)
+    adds_more b mid new k (LaysEach ks) (LaysEach ls) (λ es. es ≡ lays is ++ lays js)
+    (λ es fs one two. ap (λ gs. gs ++ fs) (one ∙ ap lays e) ∙ ap (λ gs. lays is ++ gs) (two ∙ ap lays f)) first second
 
 pub discards_all : (b one two laid new : Board) (k : ℕ) (is js ks ls : List ℕ) → ks ≡ is → ls ≡ js
-    → Stands b (entry_of k (SweepPool is)) → one ≡ next b (entry_of k (SweepPool is)) → Stands one (entry_of k (SweepOut js)) → two ≡ next one (entry_of k (SweepOut js))
-    → Adds two k (lays ks) laid → Adds laid k (lays ls) new → AddsOf b k DiscardsAll new
-discards_all b one two laid new k is js ks ls e f stands after stands_too after_too first second = record {
-  events = SweepPool is ∷ SweepOut js ∷ lays is ++ lays js;
-  kind = record { pooled = is; output = js; is = refl };
-  adds = adds_after b one new k (SweepPool is) (SweepOut js ∷ lays is ++ lays js) stands after
-      (adds_after one two new k (SweepOut js) (lays is ++ lays js) stands_too after_too (both_laid two laid new k is js ks ls e f first second));
-}
+    → AddsEntry b k (SweepPool is) one → AddsEntry one k (SweepOut js) two
+    → AddsOf two k (LaysEach ks) laid → AddsOf laid k (LaysEach ls) new → AddsOf b k DiscardsAll new
+discards_all b one two laid new k is js ks ls e f swept swept_too first second =
+    adds_first b one new k (SweepPool is) (λ es. es ≡ SweepOut js ∷ lays is ++ lays js) DiscardsAll tt
+    (λ es kind. record { pooled = is; output = js; is = ap (λ fs. SweepPool is ∷ fs) kind }) swept
+    (adds_first one two new k (SweepOut js) (λ es. es ≡ lays is ++ lays js) (λ es. es ≡ SweepOut js ∷ lays is ++ lays js) tt
+    (λ es kind. ap (λ fs. SweepOut js ∷ fs) kind) swept_too (both_laid two laid new k is js ks ls e f first second))
 
 pub closes : (b marked one two laid new : Board) (k : ℕ) (is js ks ls : List ℕ) → ks ≡ is → ls ≡ js
-    → Stands b (entry_of k Close) → marked ≡ next b (entry_of k Close)
-    → Stands marked (entry_of k (SweepOut is)) → one ≡ next marked (entry_of k (SweepOut is)) → Stands one (entry_of k (SweepPool js)) → two ≡ next one (entry_of k (SweepPool js))
-    → Adds two k (lays ks) laid → Adds laid k (lays ls) new → AddsOf b k Closes new
-closes b marked one two laid new k is js ks ls e f stands_mark after_mark stands after stands_too after_too first second = record {
-  events = Close ∷ SweepOut is ∷ SweepPool js ∷ lays is ++ lays js;
-  kind = record { output = is; pooled = js; is = refl };
-  adds = adds_after b marked new k Close (SweepOut is ∷ SweepPool js ∷ lays is ++ lays js) stands_mark after_mark
-      (adds_after marked one new k (SweepOut is) (SweepPool js ∷ lays is ++ lays js) stands after
-      (adds_after one two new k (SweepPool js) (lays is ++ lays js) stands_too after_too (both_laid two laid new k is js ks ls e f first second)));
-}
+    → AddsEntry b k Close marked
+    → AddsEntry marked k (SweepOut is) one → AddsEntry one k (SweepPool js) two
+    → AddsOf two k (LaysEach ks) laid → AddsOf laid k (LaysEach ls) new → AddsOf b k Closes new
+closes b marked one two laid new k is js ks ls e f mark swept swept_too first second =
+    adds_first b marked new k Close (λ es. es ≡ SweepOut is ∷ SweepPool js ∷ lays is ++ lays js) Closes tt
+    (λ es kind. record { output = is; pooled = js; is = ap (λ fs. Close ∷ fs) kind }) mark
+    (adds_first marked one new k (SweepOut is) (λ es. es ≡ SweepPool js ∷ lays is ++ lays js) (λ es. es ≡ SweepOut is ∷ SweepPool js ∷ lays is ++ lays js) tt
+    (λ es kind. ap (λ fs. SweepOut is ∷ fs) kind) swept
+    (adds_first one two new k (SweepPool js) (λ es. es ≡ lays is ++ lays js) (λ es. es ≡ SweepPool js ∷ lays is ++ lays js) tt
+    (λ es kind. ap (λ fs. SweepPool js ∷ fs) kind) swept_too (both_laid two laid new k is js ks ls e f first second)))
 
-pub flushes_to_input : (b mid there new : Board) (k : ℕ) (is js : List ℕ) → js ≡ is → Stands b (entry_of k (SweepOut is)) → mid ≡ next b (entry_of k (SweepOut is))
-    → Adds mid k (pools js) there → AddsOf there k PoolsHeld new → AddsOf b k FlushesToInput new
-flushes_to_input b mid there new k is js e stands after adds held = record {
-  events = SweepOut is ∷ pools is ++ held.events;
-  kind = record { output = is; rest = held.events; is = refl; held = held.kind };
-  adds = adds_after b mid new k (SweepOut is) (pools is ++ held.events) stands after
-      (adds_both mid there new k (pools is) held.events (subst (λ (ks : List ℕ). Adds mid k (pools ks) there) e adds) held.adds);
-}
+pub flushes_to_input : (b mid there new : Board) (k : ℕ) (is js : List ℕ) → js ≡ is → AddsEntry b k (SweepOut is) mid
+    → AddsOf mid k (PoolsEach js) there → AddsOf there k PoolsHeld new → AddsOf b k FlushesToInput new
+flushes_to_input b mid there new k is js e swept pooled held =
+    adds_first b mid new k (SweepOut is) (λ es. PoolsThenHeld es) FlushesToInput tt
+    (λ es kind. record { output = is; rest = kind.0; is = ap (λ fs. SweepOut is ∷ fs) kind.2; held = kind.1 }) swept
+    (adds_more mid there new k (PoolsEach js) PoolsHeld (λ es. PoolsThenHeld es)
+    (λ es fs one two. (fs, two, ap (λ gs. gs ++ fs) (one ∙ ap pools e))) pooled held)
+  where
+    PoolsThenHeld : List Event → Type 0
+    PoolsThenHeld es = (rest : List Event) × PoolsHeld rest × (es ≡ pools is ++ rest)

@@ -1,5 +1,6 @@
 -- Flags for places, and the rising lists that they stand for.
 use Rattle.std.proofs.Common.{◌≡◌, ◌≢◌, ℕ, zero, suc, ◌+◌, ◌≤◌, ◌<◌, ◌↔◌, Bool, true, false, List, [], ◌∷◌, ◌++◌, length, get_or, set, take, IsTrue, refl, sym, ap, subst, ◌∙◌, inl, inr, ◌⊎◌, arith}
+use Rattle.gev_types.specs.Limits.{place_count}
 use Rattle.std.proofs.lemmas.Bool.{cases_eq, cases_lt}
 use Rattle.std.proofs.lemmas.List.{take_more, get_or_past, get_or-set_same, get_or-set_other}
 use Rattle.board_machine.specs.Places.{same, times, put_in, without, put_all, tail, IsBelowFirst, IsRising}
@@ -206,7 +207,7 @@ times_at (suc n) (x ∷ xs) within = omega (arith, times_at n xs (omega (arith, 
 abbrev pub ArePut : List ℕ → List Bool → List Bool → Type 0
 ArePut places old new = (i : ℕ) → times i (collect 0 new) ≡ times i places + times i (collect 0 old)
 
-pub put_next : (places : List ℕ) (n : ℕ) (old new : List Bool) → length new ≡ 15 → n < length places → ((i : ℕ) → 1 ≤ times i places → i < 15) → ((i : ℕ) → times i places + times i (collect 0 old) ≤ 1) → ArePut (take n places) old new → ArePut (take (n + 1) places) old (set new (get_or places n 0) true)
+pub put_next : (places : List ℕ) (n : ℕ) (old new : List Bool) → length new ≡ place_count → n < length places → ((i : ℕ) → 1 ≤ times i places → i < place_count) → ((i : ℕ) → times i places + times i (collect 0 old) ≤ 1) → ArePut (take n places) old new → ArePut (take (n + 1) places) old (set new (get_or places n 0) true)
 put_next places n old new wide within in_range missing put i =
     omega (arith, times_set p i new below none, put i, times_take_more i n places within)
   where

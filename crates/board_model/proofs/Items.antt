@@ -55,9 +55,9 @@ tail_items contents [] = refl
 tail_items contents (i ∷ is) = refl
 
 -- the first of a list that isn't empty
-pub first_of : (x : ℕ) (xs : List ℕ) → 0 < length xs → x ≡ get_or xs 0 x → xs ≡ x ∷ tail xs
-first_of x [] some first = absurd (omega arith)
-first_of x (y ∷ xs) some first = ap (λ z. z ∷ xs) (sym first)
+pub head_of : (x : ℕ) (xs : List ℕ) → 0 < length xs → x ≡ get_or xs 0 x → xs ≡ x ∷ tail xs
+head_of x [] some first = absurd (omega arith)
+head_of x (y ∷ xs) some first = ap (λ z. z ∷ xs) (sym first)
 
 pub remove_first : (xs : List ℕ) → remove xs 0 ≡ tail xs
 remove_first [] = refl
@@ -66,3 +66,9 @@ remove_first (x ∷ xs) = refl
 pub without_first : (i : ℕ) (xs : List ℕ) → xs ≡ i ∷ tail xs → without i xs ≡ tail xs
 without_first i xs first =
     ap (λ ys. without i ys) first ∙ cond-true (i == i) (tail xs) (i ∷ without i (tail xs)) (eq-eqb i i refl)
+
+-- the first item of a list whose first place is known
+pub first_items : (contents : List (Option Filling)) (i : ℕ) (is : List ℕ) → is ≡ i ∷ tail is → items_of contents is ≡ item i (filling_of (lying contents i)) ∷ tail (items_of contents is)
+first_items contents i is first =
+    let e : items_of contents is ≡ item i (filling_of (lying contents i)) ∷ items_of contents (tail is) = ap (λ (js : List ℕ). items_of contents js) first in
+    e ∙ ap (λ xs. item i (filling_of (lying contents i)) ∷ xs) (sym (ap tail e))

@@ -1,5 +1,6 @@
 -- Each step keeps what a plain board keeps.
-use Rattle.std.proofs.Common.{◌≡◌, ◌≢◌, ℕ, zero, suc, ◌+◌, ◌≤◌, ◌<◌, ◌^◌, true, false, List, [], ◌∷◌, ◌++◌, length, get_or, set, slice_get, replicate, Option, Some, Ok, refl, sym, ap, subst, ◌∙◌, inl, inr, ◌⊎◌, arith, get_or-set_same, get_or-set_other}
+use Rattle.std.proofs.Common.{◌≡◌, ◌≢◌, ℕ, zero, suc, ◌+◌, ◌≤◌, ◌<◌, true, false, List, [], ◌∷◌, ◌++◌, length, get_or, set, slice_get, replicate, Option, Some, Ok, refl, sym, ap, subst, ◌∙◌, inl, inr, ◌⊎◌, arith, get_or-set_same, get_or-set_other}
+use Rattle.gev_types.specs.Limits.{place_count, max_buffer_size}
 use Rattle.std.proofs.lemmas.Bool.{cases_eq}
 use Rattle.std.proofs.lemmas.List.{length-set, length-replicate}
 use Rattle.gentl_types.specs.declared.word.Word.{Word}
@@ -7,16 +8,17 @@ use Rattle.gentl_types.specs.declared.word.State.{State}
 use Rattle.gentl_types.specs.declared.word.State.TheVariants.{Vacant, Held, Away}
 use Rattle.gev_types.specs.Filling.{Filling}
 use Rattle.board_machine.specs.declared.events.Event.TheVariants.{Enrol, Grab, Lay, Vacate, Pool, Claim, SweepPool, Fill, Take, SweepOut, Split, Join}
-use Rattle.board_machine.specs.declared.events.Taken.TheVariants.{Got}
+use Rattle.board_machine.specs.declared.events.TakeEnd.TheVariants.{Taken}
 use Rattle.board_machine.specs.Places.{same, times, put_all, tail}
-use Rattle.board_machine.specs.Machine.{Board, Item, item, vacant, word_at, hand_at, hand, held, places, no_actor, empty_hands, empty_board, IsActor, InHand, IsHeldAs, CanEnrol, next, set_word, picks, drops, with_state}
-use Rattle.board_machine.specs.Owners.{tally, due, in_hands, Owned}
+use Rattle.board_machine.specs.Machine.{Board, Item, item, vacant, word_at, hand_at, hand, held, places, no_actor, empty_hands, empty_board, IsActor, InHand, IsHeldAs, CanEnrol, next, set_word, picks, drops, with_state, entry}
+use Rattle.board_machine.specs.Owners.{tally, due, in_hands, IsCounted}
 use Rattle.board_machine.proofs.Places.{same_self, same_other, times-put_all}
 use Rattle.board_machine.proofs.Boards.{in_hands-set, in_hands-push, in_hand_of-le, actor_within, empty_is_actor}
 use Rattle.board_machine.proofs.Counts.{due_le, in_places, tally_hand, tally_picks, tally_drops, stands_away, stands_below, hand_tally}
 use Rattle.board_machine.proofs.Room.{has_room}
 use Rattle.board_machine.proofs.Keeps.{keeps_next, empty_owned, empty_words}
-use Rattle.board_model.specs.Plain.{PlainState, nothing, lying, entry_of, used, IsPlain, AreKept}
+use Rattle.board_calls.specs.Infos.{used}
+use Rattle.board_model.specs.Plain.{PlainState, nothing, lying, IsPlain, AreKept}
 
 -- a fact of a board at a view that is known
 pub at_board : (P : Board → Type 0) (v s : PlainState) → v ≡ s → P s.board → P v.board
@@ -69,7 +71,7 @@ pub record Apart (b new : Board) (c d : List (Option Filling)) (i : ℕ) : Type 
 abbrev pub OutKept : List Item → List (Option Filling) → Type 0
 OutKept out c = (n : ℕ) (x : Item) → slice_get out n ≡ Some x → lying c x.place ≡ Some x.filling
 
-pub plain_at : (b new : Board) (c d : List (Option Filling)) (i : ℕ) → IsPlain b c → Owned new → length d ≡ 15 → Apart b new c d i → Here new d i → OutKept new.out d → IsPlain new d
+pub plain_at : (b new : Board) (c d : List (Option Filling)) (i : ℕ) → IsPlain b c → IsCounted new → length d ≡ place_count → Apart b new c d i → Here new d i → OutKept new.out d → IsPlain new d
 plain_at b new c d i p owned wide apart here kept = record {
   owned = owned;
   wide = wide;
@@ -107,21 +109,21 @@ other_lying : (c : List (Option Filling)) (i j : ℕ) (x : Option Filling) → j
 other_lying c i j x off = get_or-set_other c i j x nothing off
 
 -- in a hand, and so in no queue, and in one hand once
-pub in_hand_once : (b : Board) (k i : ℕ) → Owned b → InHand b k i → (times i b.pool + times i (places b.out) ≡ 0) × (in_hands i b.hands ≡ 1)
+pub in_hand_once : (b : Board) (k i : ℕ) → IsCounted b → InHand b k i → (times i b.pool + times i (places b.out) ≡ 0) × (in_hands i b.hands ≡ 1)
 in_hand_once b k i owned h =
     let some : 1 ≤ in_hands i b.hands = omega (arith, in_hand_of-le i b.hands k, h) in (
       omega (arith, some, owned.once i, due_le (word_at b i).state),
       omega (arith, some, owned.once i, due_le (word_at b i).state),
     )
 
-pub in_hand_below : (b : Board) (k i : ℕ) → Owned b → InHand b k i → i < 15
+pub in_hand_below : (b : Board) (k i : ℕ) → IsCounted b → InHand b k i → i < place_count
 in_hand_below b k i owned h = stands_below b i owned (hand_tally b k i h)
 
-pub in_hand_away : (b : Board) (k i : ℕ) → Owned b → InHand b k i → (word_at b i).state ≡ Away
+pub in_hand_away : (b : Board) (k i : ℕ) → IsCounted b → InHand b k i → (word_at b i).state ≡ Away
 in_hand_away b k i owned h = stands_away b i owned (hand_tally b k i h)
 
 -- a place whose word is not Away stands nowhere
-pub nowhere : (b : Board) (i : ℕ) → Owned b → due (word_at b i).state ≡ 0 → tally b i ≡ 0
+pub nowhere : (b : Board) (i : ℕ) → IsCounted b → due (word_at b i).state ≡ 0 → tally b i ≡ 0
 nowhere b i owned none = owned.once i ∙ none
 
 not_vacant : (s t : State) → s ≡ t → t ≢ Vacant → s ≢ Vacant
@@ -193,7 +195,7 @@ here_gone new c i within count = record {
     nothing_some : (f : Filling) → nothing ≢ Some f
     nothing_some f e = cc
 
-within_words : (b : Board) (i : ℕ) → Owned b → i < 15 → i < length b.words
+within_words : (b : Board) (i : ℕ) → IsCounted b → i < place_count → i < length b.words
 within_words b i owned below = omega (arith, owned.wide, below)
 
 -- a place that comes into a hand with another word
@@ -212,7 +214,7 @@ drops_apart b c d k i w actor in_hand lies = record {
   hands = λ j off. omega (arith, tally_drops b k i j actor in_hand, same_other j i off);
 }
 
-pub plain_enrol : (b : Board) (c : List (Option Filling)) (k i g : ℕ) (f : Filling) → IsPlain b c → IsActor b k → i < 15 → 1 ≤ length f.bytes → length f.bytes ≤ 2 ^ 26 → CanEnrol (word_at b i) → g ≡ (word_at b i).generation + 1 → IsPlain (next b (entry_of k (Enrol i (length f.bytes) (Ok g)))) (set c i (Some f))
+pub plain_enrol : (b : Board) (c : List (Option Filling)) (k i g : ℕ) (f : Filling) → IsPlain b c → IsActor b k → i < place_count → 1 ≤ length f.bytes → length f.bytes ≤ max_buffer_size → CanEnrol (word_at b i) → g ≡ (word_at b i).generation + 1 → IsPlain (next b (entry k (Enrol i (length f.bytes) (Ok g)))) (set c i (Some f))
 plain_enrol b c k i g f p actor below some in_limits can next_one =
     plain_at b new c (set c i (Some f)) i p owned (length-set c i (Some f) ∙ p.wide)
     (picks_apart b c (set c i (Some f)) k i w actor (λ j off. other_lying c i j (Some f) off))
@@ -225,13 +227,13 @@ plain_enrol b c k i g f p actor below some in_limits can next_one =
     new : Board
     new = set_word (picks b k i) i w
 
-    owned : Owned new
-    owned = keeps_next b (entry_of k (Enrol i (length f.bytes) (Ok g))) p.owned (record { actor = actor; meets = (below, some, in_limits, can, next_one) })
+    owned : IsCounted new
+    owned = keeps_next b (entry k (Enrol i (length f.bytes) (Ok g))) p.owned (record { actor = actor; meets = (below, some, in_limits, can, next_one) })
 
     is_word : word_at new i ≡ w
     is_word = get_or-set_same b.words i w vacant (within_words b i p.owned below)
 
-pub plain_grab : (b : Board) (c : List (Option Filling)) (k i g : ℕ) (done : Unit {0}) → IsPlain b c → IsActor b k → i < 15 → IsHeldAs (word_at b i) g → IsPlain (next b (entry_of k (Grab i g (Ok done)))) c
+pub plain_grab : (b : Board) (c : List (Option Filling)) (k i g : ℕ) (done : Unit {0}) → IsPlain b c → IsActor b k → i < place_count → IsHeldAs (word_at b i) g → IsPlain (next b (entry k (Grab i g (Ok done)))) c
 plain_grab b c k i g done p actor below is_held =
     plain_at b new c c i p owned p.wide
     (picks_apart b c c k i w actor (λ j off. refl))
@@ -244,13 +246,13 @@ plain_grab b c k i g done p actor below is_held =
     new : Board
     new = set_word (picks b k i) i w
 
-    owned : Owned new
-    owned = keeps_next b (entry_of k (Grab i g (Ok done))) p.owned (record { actor = actor; meets = (below, is_held) })
+    owned : IsCounted new
+    owned = keeps_next b (entry k (Grab i g (Ok done))) p.owned (record { actor = actor; meets = (below, is_held) })
 
     is_word : word_at new i ≡ w
     is_word = get_or-set_same b.words i w vacant (within_words b i p.owned below)
 
-pub plain_lay : (b : Board) (c : List (Option Filling)) (k i : ℕ) → IsPlain b c → IsActor b k → InHand b k i → lying c i ≢ nothing → IsPlain (next b (entry_of k (Lay i))) c
+pub plain_lay : (b : Board) (c : List (Option Filling)) (k i : ℕ) → IsPlain b c → IsActor b k → InHand b k i → lying c i ≢ nothing → IsPlain (next b (entry k (Lay i))) c
 plain_lay b c k i p actor in_hand has =
     plain_at b new c c i p owned p.wide
     (drops_apart b c c k i w actor in_hand (λ j off. refl))
@@ -263,13 +265,13 @@ plain_lay b c k i p actor in_hand has =
     new : Board
     new = set_word (drops b k i) i w
 
-    owned : Owned new
-    owned = keeps_next b (entry_of k (Lay i)) p.owned (record { actor = actor; meets = in_hand })
+    owned : IsCounted new
+    owned = keeps_next b (entry k (Lay i)) p.owned (record { actor = actor; meets = in_hand })
 
     is_word : word_at new i ≡ w
     is_word = get_or-set_same b.words i w vacant (within_words b i p.owned (in_hand_below b k i p.owned in_hand))
 
-pub plain_vacate : (b : Board) (c : List (Option Filling)) (k i : ℕ) → IsPlain b c → IsActor b k → InHand b k i → IsPlain (next b (entry_of k (Vacate i))) (set c i nothing)
+pub plain_vacate : (b : Board) (c : List (Option Filling)) (k i : ℕ) → IsPlain b c → IsActor b k → InHand b k i → IsPlain (next b (entry k (Vacate i))) (set c i nothing)
 plain_vacate b c k i p actor in_hand =
     plain_at b new c (set c i nothing) i p owned (length-set c i nothing ∙ p.wide)
     (drops_apart b c (set c i nothing) k i w actor in_hand (λ j off. other_lying c i j nothing off))
@@ -282,11 +284,11 @@ plain_vacate b c k i p actor in_hand =
     new : Board
     new = set_word (drops b k i) i w
 
-    below : i < 15
+    below : i < place_count
     below = in_hand_below b k i p.owned in_hand
 
-    owned : Owned new
-    owned = keeps_next b (entry_of k (Vacate i)) p.owned (record { actor = actor; meets = in_hand })
+    owned : IsCounted new
+    owned = keeps_next b (entry k (Vacate i)) p.owned (record { actor = actor; meets = in_hand })
 
     unused : used (word_at new i).state ≡ 0
     unused = ap (λ (v : Word). used v.state) (get_or-set_same b.words i w vacant (within_words b i p.owned below))
@@ -308,46 +310,46 @@ plain_set_down b c k i f p in_hand size =
     (here_put b c i f (omega (arith, p.wide, in_hand_below b k i p.owned in_hand)) size (not_vacant (word_at b i).state Away (in_hand_away b k i p.owned in_hand) away_used))
     (out_apart b.out c i (Some f) (omega (arith, (in_hand_once b k i p.owned in_hand).0)) p.kept)
 
-pub plain_pool : (b : Board) (c : List (Option Filling)) (k i : ℕ) → IsPlain b c → IsActor b k → InHand b k i → lying c i ≢ nothing → IsPlain (next b (entry_of k (Pool i))) c
+pub plain_pool : (b : Board) (c : List (Option Filling)) (k i : ℕ) → IsPlain b c → IsActor b k → InHand b k i → lying c i ≢ nothing → IsPlain (next b (entry k (Pool i))) c
 plain_pool b c k i p actor in_hand has =
-    plain_at b (next b (entry_of k (Pool i))) c c i p
-    (keeps_next b (entry_of k (Pool i)) p.owned (record { actor = actor; meets = in_hand }))
+    plain_at b (next b (entry k (Pool i))) c c i p
+    (keeps_next b (entry k (Pool i)) p.owned (record { actor = actor; meets = in_hand }))
     p.wide
     (record { words = λ j off. refl; lying_there = λ j off. refl; hands = λ j off. omega (arith, tally_drops b k i j actor in_hand, same_other j i off) })
-    (here_lying b (next b (entry_of k (Pool i))) c i p has refl (not_vacant (word_at b i).state Away (in_hand_away b k i p.owned in_hand) away_used))
+    (here_lying b (next b (entry k (Pool i))) c i p has refl (not_vacant (word_at b i).state Away (in_hand_away b k i p.owned in_hand) away_used))
     p.kept
 
-pub plain_claim : (b : Board) (c : List (Option Filling)) (k i : ℕ) (rest : List ℕ) → IsPlain b c → IsActor b k → b.pool ≡ i ∷ rest → IsPlain (next b (entry_of k (Claim (Some i)))) c
+pub plain_claim : (b : Board) (c : List (Option Filling)) (k i : ℕ) (rest : List ℕ) → IsPlain b c → IsActor b k → b.pool ≡ i ∷ rest → IsPlain (next b (entry k (Claim (Some i)))) c
 plain_claim b c k i rest p actor first =
-    plain_at b (next b (entry_of k (Claim (Some i)))) c c i p
-    (keeps_next b (entry_of k (Claim (Some i))) p.owned (record { actor = actor; meets = (rest, first) }))
+    plain_at b (next b (entry k (Claim (Some i)))) c c i p
+    (keeps_next b (entry k (Claim (Some i))) p.owned (record { actor = actor; meets = (rest, first) }))
     p.wide
     (record { words = λ j off. refl; lying_there = λ j off. refl; hands = λ j off. omega (arith, tally_picks b k i j actor, same_other j i off) })
-    (here_lying b (next b (entry_of k (Claim (Some i)))) c i p (pooled_has b c i p some) refl (not_vacant (word_at b i).state Away (stands_away b i p.owned (omega (arith, some))) away_used))
+    (here_lying b (next b (entry k (Claim (Some i)))) c i p (pooled_has b c i p some) refl (not_vacant (word_at b i).state Away (stands_away b i p.owned (omega (arith, some))) away_used))
     p.kept
   where
     some : 1 ≤ times i b.pool
     some = let e : times i b.pool ≡ same i i + times i rest = ap (λ is. times i is) first in omega (arith, e, same_self i)
 
-pub plain_take : (b : Board) (c : List (Option Filling)) (k i : ℕ) (f : Filling) (rest : List Item) → IsPlain b c → IsActor b k → b.closed ≡ false → b.out ≡ item i f ∷ rest → IsPlain (next b (entry_of k (Take (Got i)))) c
+pub plain_take : (b : Board) (c : List (Option Filling)) (k i : ℕ) (f : Filling) (rest : List Item) → IsPlain b c → IsActor b k → b.closed ≡ false → b.out ≡ item i f ∷ rest → IsPlain (next b (entry k (Take (Taken i)))) c
 plain_take b c k i f rest p actor open_mark first =
-    plain_at b (next b (entry_of k (Take (Got i)))) c c i p
-    (keeps_next b (entry_of k (Take (Got i))) p.owned (record { actor = actor; meets = (open_mark, (f, rest, first)) }))
+    plain_at b (next b (entry k (Take (Taken i)))) c c i p
+    (keeps_next b (entry k (Take (Taken i))) p.owned (record { actor = actor; meets = (open_mark, (f, rest, first)) }))
     p.wide
     (record { words = λ j off. refl; lying_there = λ j off. refl; hands = λ j off. omega (arith, tally_picks b k i j actor, same_other j i off) })
-    (here_lying b (next b (entry_of k (Take (Got i)))) c i p (output_has b c i p some) refl (not_vacant (word_at b i).state Away (stands_away b i p.owned (omega (arith, some))) away_used))
+    (here_lying b (next b (entry k (Take (Taken i)))) c i p (output_has b c i p some) refl (not_vacant (word_at b i).state Away (stands_away b i p.owned (omega (arith, some))) away_used))
     (out_tail b.out c p.kept)
   where
     some : 1 ≤ times i (places b.out)
     some = let e : times i (places b.out) ≡ same i i + times i (places rest) = ap (λ xs. times i (places xs)) first in omega (arith, e, same_self i)
 
-pub plain_fill : (b : Board) (c : List (Option Filling)) (k i : ℕ) (f : Filling) → IsPlain b c → IsActor b k → InHand b k i → length f.bytes ≡ (word_at b i).size → b.closed ≡ false → IsPlain (next b (entry_of k (Fill i f true))) (set c i (Some f))
+pub plain_fill : (b : Board) (c : List (Option Filling)) (k i : ℕ) (f : Filling) → IsPlain b c → IsActor b k → InHand b k i → length f.bytes ≡ (word_at b i).size → b.closed ≡ false → IsPlain (next b (entry k (Fill i f true))) (set c i (Some f))
 plain_fill b c k i f p actor in_hand size open_mark =
-    plain_at b (next b (entry_of k (Fill i f true))) c (set c i (Some f)) i p
-    (keeps_next b (entry_of k (Fill i f true)) p.owned (record { actor = actor; meets = (in_hand, size, open_mark) }))
+    plain_at b (next b (entry k (Fill i f true))) c (set c i (Some f)) i p
+    (keeps_next b (entry k (Fill i f true)) p.owned (record { actor = actor; meets = (in_hand, size, open_mark) }))
     (length-set c i (Some f) ∙ p.wide)
     (record { words = λ j off. refl; lying_there = λ j off. other_lying c i j (Some f) off; hands = λ j off. omega (arith, tally_drops b k i j actor in_hand, same_other j i off) })
-    (here_put (next b (entry_of k (Fill i f true))) c i f within size (not_vacant (word_at b i).state Away (in_hand_away b k i p.owned in_hand) away_used))
+    (here_put (next b (entry k (Fill i f true))) c i f within size (not_vacant (word_at b i).state Away (in_hand_away b k i p.owned in_hand) away_used))
     (out_push b.out (set c i (Some f)) (item i f) (get_or-set_same c i (Some f) nothing within)
     (out_apart b.out c i (Some f) (omega (arith, (in_hand_once b k i p.owned in_hand).0)) p.kept))
   where
@@ -359,9 +361,9 @@ swept_count : (b : Board) (c : List (Option Filling)) (k j : ℕ) (is : List ℕ
 swept_count b c k j is p actor few e =
     omega (arith, p.lifted j e, few, lifted_nowhere b c j p e, tally_hand b k j (put_all is (hand b k)) actor, times-put_all j is (hand b k))
 
-pub plain_sweep_pool : (b : Board) (c : List (Option Filling)) (k : ℕ) → IsPlain b c → IsActor b k → IsPlain (next b (entry_of k (SweepPool b.pool))) c
+pub plain_sweep_pool : (b : Board) (c : List (Option Filling)) (k : ℕ) → IsPlain b c → IsActor b k → IsPlain (next b (entry k (SweepPool b.pool))) c
 plain_sweep_pool b c k p actor = record {
-  owned = keeps_next b (entry_of k (SweepPool b.pool)) p.owned (record { actor = actor; meets = refl });
+  owned = keeps_next b (entry k (SweepPool b.pool)) p.owned (record { actor = actor; meets = refl });
   wide = p.wide;
   sized = p.sized;
   empty = p.empty;
@@ -369,9 +371,9 @@ plain_sweep_pool b c k p actor = record {
   kept = p.kept;
 }
 
-pub plain_sweep_out : (b : Board) (c : List (Option Filling)) (k : ℕ) → IsPlain b c → IsActor b k → IsPlain (next b (entry_of k (SweepOut (places b.out)))) c
+pub plain_sweep_out : (b : Board) (c : List (Option Filling)) (k : ℕ) → IsPlain b c → IsActor b k → IsPlain (next b (entry k (SweepOut (places b.out)))) c
 plain_sweep_out b c k p actor = record {
-  owned = keeps_next b (entry_of k (SweepOut (places b.out))) p.owned (record { actor = actor; meets = refl });
+  owned = keeps_next b (entry k (SweepOut (places b.out))) p.owned (record { actor = actor; meets = refl });
   wide = p.wide;
   sized = p.sized;
   empty = p.empty;
@@ -379,9 +381,9 @@ plain_sweep_out b c k p actor = record {
   kept = λ n x e. absurd (cc);
 }
 
-pub plain_split : (b : Board) (c : List (Option Filling)) (k : ℕ) → IsPlain b c → IsActor b k → IsPlain (next b (entry_of k (Split (length b.hands)))) c
+pub plain_split : (b : Board) (c : List (Option Filling)) (k : ℕ) → IsPlain b c → IsActor b k → IsPlain (next b (entry k (Split (length b.hands)))) c
 plain_split b c k p actor = record {
-  owned = keeps_next b (entry_of k (Split (length b.hands))) p.owned (record { actor = actor; meets = refl });
+  owned = keeps_next b (entry k (Split (length b.hands))) p.owned (record { actor = actor; meets = refl });
   wide = p.wide;
   sized = p.sized;
   empty = p.empty;
@@ -389,9 +391,9 @@ plain_split b c k p actor = record {
   kept = p.kept;
 }
 
-pub plain_join : (b : Board) (c : List (Option Filling)) (k n : ℕ) → IsPlain b c → IsActor b k → hand_at b n ≡ empty_hands → n ≢ k → IsPlain (next b (entry_of k (Join n))) c
+pub plain_join : (b : Board) (c : List (Option Filling)) (k n : ℕ) → IsPlain b c → IsActor b k → hand_at b n ≡ empty_hands → n ≢ k → IsPlain (next b (entry k (Join n))) c
 plain_join b c k n p actor empty other = record {
-  owned = keeps_next b (entry_of k (Join n)) p.owned (record { actor = actor; meets = (empty, other) });
+  owned = keeps_next b (entry k (Join n)) p.owned (record { actor = actor; meets = (empty, other) });
   wide = p.wide;
   sized = p.sized;
   empty = p.empty;
@@ -407,13 +409,13 @@ nothing_lies zero i = refl
 nothing_lies (suc n) zero = refl
 nothing_lies (suc n) (suc i) = nothing_lies n i
 
-pub plain_empty : IsPlain empty_board (replicate 15 nothing)
+pub plain_empty : IsPlain empty_board (replicate place_count nothing)
 plain_empty = record {
   owned = empty_owned;
-  wide = length-replicate 15 nothing;
-  sized = λ i f e. absurd (nothing_some f (sym (nothing_lies 15 i) ∙ e));
-  empty = λ i e. nothing_lies 15 i;
-  lifted = λ i e. ap (λ (w : Word). used w.state) (empty_words 15 i);
+  wide = length-replicate place_count nothing;
+  sized = λ i f e. absurd (nothing_some f (sym (nothing_lies place_count i) ∙ e));
+  empty = λ i e. nothing_lies place_count i;
+  lifted = λ i e. ap (λ (w : Word). used w.state) (empty_words place_count i);
   kept = λ n x e. absurd (cc);
 }
   where
@@ -421,17 +423,17 @@ plain_empty = record {
     nothing_some f e = cc
 
 -- a place that waits in the pool, or in the output, is in no hand
-pub pool_missing : (b : Board) (k : ℕ) (is : List ℕ) → is ≡ b.pool → Owned b → (i : ℕ) → times i is + times i (hand b k) ≤ 1
+pub pool_missing : (b : Board) (k : ℕ) (is : List ℕ) → is ≡ b.pool → IsCounted b → (i : ℕ) → times i is + times i (hand b k) ≤ 1
 pool_missing b k is all owned i =
     let e : times i is ≡ times i b.pool = ap (λ js. times i js) all in
     omega (arith, e, owned.once i, due_le (word_at b i).state, in_hand_of-le i b.hands k)
 
-pub out_missing : (b : Board) (k : ℕ) (is : List ℕ) → is ≡ places b.out → Owned b → (i : ℕ) → times i is + times i (hand b k) ≤ 1
+pub out_missing : (b : Board) (k : ℕ) (is : List ℕ) → is ≡ places b.out → IsCounted b → (i : ℕ) → times i is + times i (hand b k) ≤ 1
 out_missing b k is all owned i =
     let e : times i is ≡ times i (places b.out) = ap (λ js. times i js) all in
     omega (arith, e, owned.once i, due_le (word_at b i).state, in_hand_of-le i b.hands k)
 
-pub out_below : (b : Board) (is : List ℕ) → is ≡ places b.out → Owned b → (i : ℕ) → 1 ≤ times i is → i < 15
+pub out_below : (b : Board) (is : List ℕ) → is ≡ places b.out → IsCounted b → (i : ℕ) → 1 ≤ times i is → i < place_count
 out_below b is all owned i some =
     let e : times i is ≡ times i (places b.out) = ap (λ js. times i js) all in
     stands_below b i owned (omega (arith, e, some))
@@ -441,27 +443,27 @@ first_missing b k i is rest first missing =
     let e : times i is ≡ same i i + times i rest = ap (λ js. times i js) first in
     omega (arith, e, same_self i, missing i)
 
-pub hand_missing : (b : Board) (k i : ℕ) → Owned b → due (word_at b i).state ≡ 0 → times i (hand b k) ≡ 0
+pub hand_missing : (b : Board) (k i : ℕ) → IsCounted b → due (word_at b i).state ≡ 0 → times i (hand b k) ≡ 0
 hand_missing b k i owned none = omega (arith, nowhere b i owned none, in_hand_of-le i b.hands k)
 
 -- a place in hand isn't in the pool, and isn't in the output
-pub hand_not_pooled : (b : Board) (k i : ℕ) → Owned b → InHand b k i → times i b.pool ≡ 0
+pub hand_not_pooled : (b : Board) (k i : ℕ) → IsCounted b → InHand b k i → times i b.pool ≡ 0
 hand_not_pooled b k i owned h = omega (arith, (in_hand_once b k i owned h).0)
 
-pub hand_not_out : (b : Board) (k i : ℕ) (is : List ℕ) → is ≡ places b.out → Owned b → InHand b k i → times i is ≡ 0
+pub hand_not_out : (b : Board) (k i : ℕ) (is : List ℕ) → is ≡ places b.out → IsCounted b → InHand b k i → times i is ≡ 0
 hand_not_out b k i is all owned h =
     let e : times i is ≡ times i (places b.out) = ap (λ js. times i js) all in
     omega (arith, e, (in_hand_once b k i owned h).0)
 
-pub vacant_not_out : (b : Board) (i : ℕ) (is : List ℕ) → is ≡ places b.out → Owned b → (word_at b i).state ≡ Vacant → times i is ≡ 0
+pub vacant_not_out : (b : Board) (i : ℕ) (is : List ℕ) → is ≡ places b.out → IsCounted b → (word_at b i).state ≡ Vacant → times i is ≡ 0
 vacant_not_out b i is all owned state =
     let e : times i is ≡ times i (places b.out) = ap (λ js. times i js) all in
     omega (arith, e, nowhere b i owned (ap due state))
 
 -- the output has room for a place in hand
-pub out_room : (b : Board) (k i : ℕ) (is : List ℕ) → is ≡ places b.out → Owned b → InHand b k i → length is < 15
+pub out_room : (b : Board) (k i : ℕ) (is : List ℕ) → is ≡ places b.out → IsCounted b → InHand b k i → length is < place_count
 out_room b k i is all owned h =
-    has_room 15 i is (record { once = λ j. few j; below = out_below b is all owned }) (in_hand_below b k i owned h) (hand_not_out b k i is all owned h)
+    has_room place_count i is (record { once = λ j. few j; below = out_below b is all owned }) (in_hand_below b k i owned h) (hand_not_out b k i is all owned h)
   where
     few : (j : ℕ) → times j is ≤ 1
     few j =

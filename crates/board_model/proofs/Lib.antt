@@ -1,10 +1,9 @@
 pub mod Collected
 pub mod Items
 pub mod Keeps
-pub mod CallsAdded
 pub mod CallsHands
-pub mod CallsKinds
 pub mod CallsParts
+pub mod CallsKinds
 pub mod CallsAnnounce
 pub mod CallsFill
 pub mod CallsInfo

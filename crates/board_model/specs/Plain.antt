@@ -1,15 +1,13 @@
 -- What the plain board means: the board machine's state, and beside it what lies at each place.
-use Rattle.std.specs.Prelude.{◌≡◌, ◌≢◌, ℕ, ◌≤◌, Bool, List, [], ◌∷◌, ◌++◌, length, Option, Some, None, Result, Ok, Err, slice_get, slice_index_or}
+use Rattle.std.specs.Prelude.{◌≡◌, ◌≢◌, ℕ, ◌≤◌, Bool, List, [], ◌∷◌, length, Option, Some, None, slice_get, slice_index_or}
 use Rattle.gentl_types.specs.declared.word.Word.{Word}
-use Rattle.gentl_types.specs.declared.word.State.{State}
-use Rattle.gentl_types.specs.declared.word.State.TheVariants.{Vacant, Held, Away}
+use Rattle.gentl_types.specs.declared.word.State.TheVariants.{Vacant, Held}
 use Rattle.gev_types.specs.Filling.{Filling, empty_record}
-use Rattle.board_machine.specs.declared.events.Entry.{Entry}
-use Rattle.board_machine.specs.declared.events.Event.{Event}
+use Rattle.gev_types.specs.Limits.{place_count}
 use Rattle.board_machine.specs.Places.{times}
-use Rattle.board_machine.specs.Machine.{Board, Item, item, word_at, Stands, next}
-use Rattle.board_machine.specs.Histories.{StandsFor}
-use Rattle.board_machine.specs.Owners.{Owned, in_hands}
+use Rattle.board_machine.specs.Machine.{Board, Item, item, word_at}
+use Rattle.board_machine.specs.Owners.{IsCounted, in_hands}
+use Rattle.board_calls.specs.Infos.{used}
 
 pub record PlainState : Type 0 where
   -- the board machine's state
@@ -36,14 +34,6 @@ HasBuf s i = content_at s i ≢ nothing
 abbrev pub IsLifted : PlainState → ℕ → Type 0
 IsLifted s i = content_at s i ≡ nothing
 
-abbrev pub entry_of : ℕ → Event → Entry
-entry_of k event = record { by = k; event = event }
-
--- of a refused call that gives a buffer back, what it answers beside the buffer
-abbrev pub beside_buf : {T W : Type 0} → Result T (Filling × W) → Result T W
-beside_buf (Ok answer) = Ok answer
-beside_buf (Err refusal) = Err refusal.1
-
 -- what a place that holds nothing is read as
 abbrev pub no_filling : Filling
 no_filling = record { bytes = []; rec = empty_record }
@@ -57,16 +47,10 @@ abbrev pub items_of : List (Option Filling) → List ℕ → List Item
 items_of contents [] = []
 items_of contents (i ∷ is) = item i (filling_of (lying contents i)) ∷ items_of contents is
 
--- the state in which a place has a buffer, in a hand or elsewhere
-abbrev pub used : State → ℕ
-used Vacant = 0
-used Held = 1
-used Away = 1
-
 -- what each plain board keeps
 pub record IsPlain (b : Board) (contents : List (Option Filling)) : Type 0 where
-  pub owned : Owned b
-  pub wide : length contents ≡ 15
+  pub owned : IsCounted b
+  pub wide : length contents ≡ place_count
   -- a buffer has its word's size
   pub sized : (i : ℕ) (f : Filling) → lying contents i ≡ Some f → length f.bytes ≡ (word_at b i).size
   -- at a vacant place nothing lies
@@ -85,10 +69,6 @@ pub record AreKept (s : PlainState) : Type 0 where
 -- every buffer that lies at a place has its word's size
 abbrev pub AreOfWordSize : PlainState → Type 0
 AreOfWordSize s = (i : ℕ) (f : Filling) → content_at s i ≡ Some f → length f.bytes ≡ (word_at s.board i).size
-
--- A board that stands for a history stands, after one more entry that can be the next one, for the history with it.
-abbrev pub HistoriesGrow : Type 0
-HistoriesGrow = (b : Board) (h : List Entry) (e : Entry) → StandsFor b h → Stands b e → StandsFor (next b e) (h ++ e ∷ [])
 
 -- the board that a plain board's parts show
 abbrev pub shown : List Word → List ℕ → List ℕ → List (Option Filling) → List (Option (List ℕ)) → Bool → Bool → ℕ → Board

@@ -1,13 +1,14 @@
 ghost use Rattle.std.specs.Prelude.{◌≡◌, IfOk, replicate};
+ghost use Rattle.gev_types.specs.Limits.{place_count};
 ghost use Rattle.board_machine.specs.Machine.{empty_board};
-ghost use Rattle.board_machine.specs.Owners.{Owned};
+ghost use Rattle.board_machine.specs.Owners.{IsOwned, IsCounted};
 ghost use Rattle.board_model.specs.Plain.{nothing, AreKept, AreOfWordSize};
 
 use crate::hands::Hands;
-use crate::places::Places;
+use crate::places::{Places, ROOM};
 use arrayvec::ArrayVec;
 use gentl_types::{State, Word};
-use gev_types::{Buf, NoMemory};
+use gev_types::{Buf, NoMemory, PLACES};
 use std::alloc::Global;
 use std::marker::Model;
 
@@ -16,11 +17,11 @@ use std::marker::Model;
 ///
 /// Contracts see the board machine's state, and for each place that is neither vacant nor lifted the
 /// bytes and the record of its buffer. Only `new` takes memory.
-#[derive(Drop)]
+#[derive(Debug, Drop)]
 pub struct PlainBoard {
-    pub(crate) words: [Word; 15],
+    pub(crate) words: [Word; ROOM],
     pub(crate) pool: Places,
-    pub(crate) out: ArrayVec<u8, 15>,
+    pub(crate) out: ArrayVec<u8, ROOM>,
     pub(crate) hands: Hands,
     pub(crate) bufs: Vec<Option<Buf>>,
     pub(crate) closed: bool,
@@ -39,13 +40,13 @@ impl Model for PlainBoard {
 }
 
 impl PlainBoard {
-    /// A board with 15 vacant places and actor 0, which reserves all the memory that it needs.
+    /// A board with vacant places and actor 0, which reserves all the memory that it needs.
     pub fn new(alloc: Global) -> Result<PlainBoard, NoMemory>
         ensures board { IfOk result (λ b. b.board ≡ empty_board) }
-        ensures contents { IfOk result (λ b. b.contents ≡ replicate 15 nothing) }
+        ensures contents { IfOk result (λ b. b.contents ≡ replicate place_count nothing) }
     {
-        let mut bufs = Vec::with_capacity(alloc, 15)?;
-        for _place in 0..15u8 {
+        let mut bufs = Vec::with_capacity(alloc, ROOM)?;
+        for _place in 0..PLACES {
             bufs.push(None)?;
         }
         let vacant = Word {
@@ -54,7 +55,7 @@ impl PlainBoard {
             generation: 0,
         };
         Ok(PlainBoard {
-            words: [vacant; 15],
+            words: [vacant; ROOM],
             pool: Places::new(),
             out: ArrayVec::new(),
             hands: Hands::new(),
@@ -68,7 +69,8 @@ impl PlainBoard {
     /// Does nothing. Its clauses are what every board keeps: who owns each buffer, at which places
     /// buffers lie, and that each has its word's size.
     pub fn owned(&self)
-        ensures owned { Owned self.now.board }
+        ensures owned { IsOwned self.now.board }
+        ensures counted { IsCounted self.now.board }
         ensures kept { AreKept self.now }
         ensures sized { AreOfWordSize self.now }
     {

@@ -1,4 +1,5 @@
 ghost use Rattle.std.specs.Prelude.{◌≡◌, ℕ, ◌+◌, ◌<◌, ◌≤◌, ◌≢◌, ◌↔◌, [], ◌∷◌, ◌++◌, Some, IsTrue, length, slice_index_or, slice_set};
+ghost use Rattle.gev_types.specs.Limits.{place_count};
 ghost use Rattle.board_machine.specs.Places.{times, put_in, without, put_all};
 ghost use Rattle.board_machine.specs.Machine.{held, no_actor, empty_hands};
 
@@ -7,7 +8,7 @@ use arrayvec::ArrayVec;
 use std::marker::Model;
 
 /// The places in each actor's hands, by the actor's number; None once the actor was joined.
-#[derive(Drop)]
+#[derive(Debug, Drop)]
 pub(crate) struct Hands {
     hands: ArrayVec<Option<Places>, 16>,
 }
@@ -62,7 +63,7 @@ impl Hands {
 
     pub(crate) fn put(&mut self, actor: u8, place: u8)
         requires actor { slice_index_or self.old actor no_actor ≢ no_actor }
-        requires in_range { place < 15 }
+        requires in_range { place < place_count }
         requires missing { times place (held (slice_index_or self.old actor no_actor)) ≡ 0 }
         ensures { self.new ≡ slice_set self.old actor (Some (put_in place (held (slice_index_or self.old actor no_actor)))) }
     {
@@ -83,7 +84,7 @@ impl Hands {
     /// Puts these places into the hands of an actor, each of them once.
     pub(crate) fn put_each(&mut self, actor: u8, places: &[u8])
         requires actor { slice_index_or self.old actor no_actor ≢ no_actor }
-        requires in_range { (i : ℕ) → 1 ≤ times i places.now → i < 15 }
+        requires in_range { (i : ℕ) → 1 ≤ times i places.now → i < place_count }
         requires missing { (i : ℕ) → times i places.now + times i (held (slice_index_or self.old actor no_actor)) ≤ 1 }
         ensures { self.new ≡ slice_set self.old actor (Some (put_all places.now (held (slice_index_or self.old actor no_actor)))) }
     {

@@ -1,6 +1,7 @@
 //! What a caller may read of the board without an entry.
 
-ghost use Rattle.std.specs.Prelude.{◌≡◌, ◌<◌, ◌≤◌, ◌^◌, ◌↔◌, Some, IsTrue, length};
+ghost use Rattle.std.specs.Prelude.{◌≡◌, ◌<◌, ◌↔◌, Some, IsTrue, length};
+ghost use Rattle.gev_types.specs.Limits.{place_count};
 ghost use Rattle.board_machine.specs.Machine.{word_at, hand_at, empty_hands, IsActor, InHand};
 ghost use Rattle.board_model.specs.Plain.{HasBuf, content_at};
 
@@ -47,7 +48,7 @@ impl PlainBoard {
 
     /// The place's ownership word. No entry.
     pub fn word(&self, place: u8) -> Word
-        requires { place < 15 }
+        requires { place < place_count }
         ensures { result ≡ word_at self.now.board place }
     {
         self.words[place as usize]

@@ -1,13 +1,18 @@
-ghost use Rattle.std.specs.Prelude.{◌≡◌, ℕ, ◌+◌, ◌<◌, ◌≤◌, ◌↔◌, [], ◌∷◌, IsTrue, MatchOption, length};
+ghost use Rattle.std.specs.Prelude.{◌≡◌, ℕ, ◌+◌, ◌<◌, ◌≤◌, ◌↔◌, [], ◌∷◌, IsTrue, MatchOption};
+ghost use Rattle.gev_types.specs.Limits.{place_count};
 ghost use Rattle.board_machine.specs.Places.{times, put_in, without, put_all, tail};
 
 use arrayvec::ArrayVec;
+use gev_types::PLACES;
 use std::marker::Model;
 
+/// The number of places, as a length.
+pub(crate) const ROOM: usize = PLACES as usize;
+
 /// A set of places, which contracts see as the rising list of its members.
-#[derive(Drop)]
+#[derive(Debug, Drop)]
 pub(crate) struct Places {
-    flags: [bool; 15],
+    flags: [bool; ROOM],
 }
 
 impl Model for Places {
@@ -24,17 +29,19 @@ impl Places {
     pub(crate) fn new() -> Places
         ensures { result ≡ [] }
     {
-        Places { flags: [false; 15] }
+        Places {
+            flags: [false; ROOM],
+        }
     }
 
     pub(crate) fn has(&self, place: u8) -> bool
         ensures { IsTrue result ↔ (1 ≤ times place self.now) }
     {
-        place < 15 && self.flags[place as usize]
+        place < PLACES && self.flags[place as usize]
     }
 
     pub(crate) fn put(&mut self, place: u8)
-        requires in_range { place < 15 }
+        requires in_range { place < place_count }
         requires missing { times place self.old ≡ 0 }
         ensures { self.new ≡ put_in place self.old }
     {
@@ -50,7 +57,7 @@ impl Places {
 
     /// Puts these places in, each of them once.
     pub(crate) fn put_each(&mut self, places: &[u8])
-        requires in_range { (i : ℕ) → 1 ≤ times i places.now → i < 15 }
+        requires in_range { (i : ℕ) → 1 ≤ times i places.now → i < place_count }
         requires missing { (i : ℕ) → times i places.now + times i self.old ≤ 1 }
         ensures { self.new ≡ put_all places.now self.old }
     {
@@ -61,9 +68,9 @@ impl Places {
 
     /// The lowest place.
     pub(crate) fn first(&self) -> Option<u8>
-        ensures { MatchOption result (self.now ≡ []) (λ i. (i < 15) × (self.now ≡ i ∷ tail self.now)) }
+        ensures { MatchOption result (self.now ≡ []) (λ i. (i < place_count) × (self.now ≡ i ∷ tail self.now)) }
     {
-        for place in 0..15u8 {
+        for place in 0..PLACES {
             if self.flags[place as usize] {
                 return Some(place);
             }
@@ -72,11 +79,11 @@ impl Places {
     }
 
     /// The places, lowest first.
-    pub(crate) fn list(&self) -> ArrayVec<u8, 15>
+    pub(crate) fn list(&self) -> ArrayVec<u8, ROOM>
         ensures { result.items ≡ self.now }
     {
         let mut list = ArrayVec::new();
-        for place in 0..15u8 {
+        for place in 0..PLACES {
             if self.flags[place as usize] {
                 list.push(place);
             }

@@ -1,6 +1,6 @@
 use Rattle.std.proofs.Common.{◌≡◌, ◌≤◌}
-use Rattle.board_model.specs.Added.{AddsOf}
-use Rattle.board_model.specs.Infos.{CountsBelow}
+use Rattle.board_machine.specs.Adding.{AddsOf}
+use Rattle.board_calls.specs.Infos.{CountsBelow}
 use Rattle.board_model.proofs.board.PlainBoard.count_announced.Given as goal
 
 abbrev pub invariant-loop-place : goal.invariant-loop-place

@@ -4,5 +4,5 @@ use Rattle.board_model.proofs.board.PlainBoard.discard_all.Goals as goal
 pub returns-clause-entries : goal.returns-clause-entries
 returns-clause-entries c =
     discards_all _ _ _ _ _ _ _ _ _ _ c.as_slice.ensures.value c.as_slice-2.ensures.value
-    c.bring_pool-pooled.ensures.stands c.bring_pool-pooled.ensures.after c.bring_output-output.ensures.stands c.bring_output-output.ensures.after
+    c.sweep_pool-pooled.ensures.step c.sweep_out-output.ensures.step
     c.lay_each.ensures.entries c.lay_each-2.ensures.entries

@@ -2,4 +2,4 @@ use Rattle.board_model.proofs.CallsKinds.{discards_output}
 use Rattle.board_model.proofs.board.PlainBoard.discard_output.Goals as goal
 
 pub returns-clause-entries : goal.returns-clause-entries
-returns-clause-entries c = discards_output _ _ _ _ _ _ c.as_slice.ensures.value c.bring_output-output.ensures.stands c.bring_output-output.ensures.after c.lay_each.ensures.entries
+returns-clause-entries c = discards_output _ _ _ _ _ _ c.as_slice.ensures.value c.sweep_out-output.ensures.step c.lay_each.ensures.entries

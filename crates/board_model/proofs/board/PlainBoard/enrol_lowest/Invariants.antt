@@ -1,6 +1,6 @@
 use Rattle.std.proofs.Common.{◌≡◌, length}
-use Rattle.board_model.specs.Added.{AddsOf}
-use Rattle.board_model.specs.Rounds.{RefusedBelow}
+use Rattle.board_machine.specs.Adding.{AddsOf}
+use Rattle.board_calls.specs.Rounds.{RefusedBelow}
 use Rattle.board_model.proofs.board.PlainBoard.enrol_lowest.Given as goal
 
 abbrev pub invariant-loop-place : goal.invariant-loop-place

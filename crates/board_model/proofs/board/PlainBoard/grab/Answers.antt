@@ -3,6 +3,7 @@ use Rattle.board_machine.specs.Machine.{Board, word_at, IsActor, IsHeldAs}
 use Rattle.board_machine.specs.Owners.{due}
 use Rattle.board_model.specs.contracts.board.PlainBoard.{the_view}
 use Rattle.board_model.proofs.Keeps.{at_board, plain_grab, hand_missing}
+use Rattle.board_model.proofs.CallsHands.{picked_in}
 use Rattle.board_model.proofs.board.PlainBoard.grab.Goals as goal
 
 pub put-requires-clause-missing : goal.put-requires-clause-missing
@@ -18,3 +19,7 @@ invariant_of-self c =
     (at_board (λ (b : Board). IsActor b c.args.actor) _ _ c.self.view_is c.requires.actor)
     c.requires.in_range
     (c.is_held_as.ensures.0 c.if-not-is_held_as.false))
+
+pub returns-clause-in_hand : goal.returns-clause-in_hand
+returns-clause-in_hand c =
+    rw c.put.ensures (picked_in (the_view c.self.inside).board c.args.actor c.args.place (at_board (λ (b : Board). IsActor b c.args.actor) _ _ c.self.view_is c.requires.actor))

@@ -1,15 +1,15 @@
 use Rattle.std.proofs.Common.{[], refl, ◌∙◌}
-use Rattle.board_model.specs.Rounds.{PoolsHeldBelow, PoolsIfHeld}
-use Rattle.board_model.proofs.CallsAdded.{actor_after, adds_none, adds_more}
-use Rattle.board_model.proofs.CallsParts.{held_more}
+use Rattle.board_calls.specs.Rounds.{PoolsHeldBelow, PoolsIfHeld}
+use Rattle.board_machine.proofs.Adding.{adds_nothing, adds_more}
+use Rattle.board_calls.proofs.Lists.{held_more}
 use Rattle.board_model.proofs.board.PlainBoard.pool_held.Goals as goal
 
 pub pool_if_held-requires-clause-actor : goal.pool_if_held-requires-clause-actor
-pool_if_held-requires-clause-actor c = actor_after _ _ _ _ c.requires.actor c.loop-place.invariant.entries.adds
+pool_if_held-requires-clause-actor c = c.loop-place.invariant.entries.actors _ c.requires.actor
 
 pub loop-place-init : goal.loop-place-init
 loop-place-init c = record {
-  entries = record { events = []; kind = record { seen = []; all = refl; grabbed = tt; is = refl }; adds = adds_none _ _ };
+  entries = adds_nothing _ _ _ (record { seen = []; all = refl; grabbed = tt; is = refl });
   contents = refl;
 }
 

@@ -1,6 +1,6 @@
 use Rattle.std.proofs.Common.{◌≡◌}
-use Rattle.board_model.specs.Added.{AddsOf}
-use Rattle.board_model.specs.Rounds.{PoolsHeldBelow}
+use Rattle.board_machine.specs.Adding.{AddsOf}
+use Rattle.board_calls.specs.Rounds.{PoolsHeldBelow}
 use Rattle.board_model.proofs.board.PlainBoard.pool_held.Given as goal
 
 abbrev pub invariant-loop-place : goal.invariant-loop-place

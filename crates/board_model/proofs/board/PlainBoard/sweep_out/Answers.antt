@@ -1,7 +1,8 @@
-use Rattle.std.proofs.Common.{◌≡◌, sym, ap, ◌∙◌}
+use Rattle.std.proofs.Common.{rules, arith, ◌≡◌, sym, ap, ◌∙◌}
 use Rattle.board_machine.specs.Machine.{Board, IsActor}
 use Rattle.board_model.proofs.Items.{places_items}
 use Rattle.board_model.proofs.Keeps.{at_board, plain_sweep_out, out_missing, out_below}
+use Rattle.board_model.proofs.CallsHands.{swept_in, out_have}
 use Rattle.board_model.proofs.board.PlainBoard.sweep_out.Goals as goal
 
 pub put_each-requires-clause-in_range : goal.put_each-requires-clause-in_range
@@ -23,10 +24,22 @@ invariant_of-self c =
     (plain_sweep_out _ _ c.args.actor c.self.invariant
     (at_board (λ (b : Board). IsActor b c.args.actor) _ _ c.self.view_is c.requires.actor))
 
-pub returns-clause-stands : goal.returns-clause-stands
-returns-clause-stands c =
+pub returns-clause-step : goal.returns-clause-step
+returns-clause-step c =
+    record {
+      may = rw (← c.self.view_is)
+          (record {
+            actor = (at_board (λ (b : Board). IsActor b c.args.actor) _ _ c.self.view_is c.requires.actor);
+            meets = ap (λ xs. xs.items) c.take-swept.ensures.value ∙ sym (places_items c.self.inside.bufs.items c.self.inside.out.items);
+          });
+      after = first_of (search rules, grind arith);
+    }
+
+pub returns-clause-in_hand : goal.returns-clause-in_hand
+returns-clause-in_hand c =
     rw (← c.self.view_is)
-    (record {
-      actor = (at_board (λ (b : Board). IsActor b c.args.actor) _ _ c.self.view_is c.requires.actor);
-      meets = ap (λ xs. xs.items) c.take-swept.ensures.value ∙ sym (places_items c.self.inside.bufs.items c.self.inside.out.items);
-    })
+    (swept_in _ _ c.args.actor _ c.as_slice.result.now c.as_slice.ensures.value (at_board (λ (b : Board). IsActor b c.args.actor) _ _ c.self.view_is c.requires.actor) c.put_each.ensures)
+
+pub returns-clause-set_down : goal.returns-clause-set_down
+returns-clause-set_down c =
+    out_have _ _ _ c.self.invariant (ap (λ xs. xs.items) c.take-swept.ensures.value ∙ sym (places_items c.self.inside.bufs.items c.self.inside.out.items))

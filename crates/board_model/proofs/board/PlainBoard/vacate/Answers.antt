@@ -1,4 +1,4 @@
-use Rattle.std.proofs.Common.{◌≡◌, sym}
+use Rattle.std.proofs.Common.{rules, arith, ◌≡◌, sym}
 use Rattle.board_machine.specs.Places.{times}
 use Rattle.board_machine.specs.Machine.{Board, IsActor, InHand}
 use Rattle.board_model.specs.Plain.{nothing}
@@ -17,10 +17,13 @@ invariant_of-self c =
     (at_board (λ (b : Board). IsActor b c.args.actor) _ _ c.self.view_is c.requires.actor)
     (at_board (λ (b : Board). InHand b c.args.actor c.args.place) _ _ c.self.view_is c.requires.in_hand))
 
-pub returns-clause-after : goal.returns-clause-after
-returns-clause-after c =
+pub returns-clause-step : goal.returns-clause-step
+returns-clause-step c =
     let none : times c.args.place c.self.inside.out.items ≡ 0 =
     hand_not_out _ c.args.actor c.args.place c.self.inside.out.items (sym (places_items c.self.inside.bufs.items c.self.inside.out.items)) c.self.invariant.owned
     (at_board (λ (b : Board). InHand b c.args.actor c.args.place) _ _ c.self.view_is c.requires.in_hand)
     in
-    rw (← c.self.view_is, c.take.ensures.after, c.remove.ensures, items_apart c.self.inside.bufs.items c.args.place nothing c.self.inside.out.items none)
+    record {
+      may = first_of (search rules, grind arith);
+      after = rw (← c.self.view_is, c.take.ensures.after, c.remove.ensures, items_apart c.self.inside.bufs.items c.args.place nothing c.self.inside.out.items none);
+    }

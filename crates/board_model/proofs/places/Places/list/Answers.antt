@@ -1,4 +1,5 @@
 use Rattle.std.proofs.Common.{◌<◌, ap, ◌∙◌, length, take, arith, lit<}
+use Rattle.gev_types.specs.Limits.{place_count}
 use Rattle.std.proofs.lemmas.List.{length-take}
 use Rattle.board_model.proofs.Collected.{list_set, list_clear, length_collect}
 use Rattle.board_model.proofs.places.Places.list.Goals as goal
@@ -6,7 +7,7 @@ use Rattle.board_model.proofs.places.Places.list.Goals.{then-self-place, else-se
 
 pub push-requires : goal.push-requires
 push-requires c =
-    let few : length c.loop-place.list.items < 15 =
+    let few : length c.loop-place.list.items < place_count =
     omega (arith, ap length c.loop-place.invariant, length_collect 0 (take c.loop-place.place c.self.inside.flags), length-take c.loop-place.place c.self.inside.flags, c.self.told, c.loop-place-test.true)
     in
     (lit< tt, few)

@@ -1,0 +1,5 @@
+pub mod Ends
+pub mod Loans
+pub mod Rounds
+pub mod Calls
+pub mod Infos
