@@ -15,6 +15,7 @@ use Rattle.block_image.specs.Image.{image_bytes, placed_count, placed_end, reach
 use Rattle.block_image.specs.Sizes.{IsPayloadSize, IsBufferSize}
 use Rattle.std.proofs.lemmas.List.{append-nil, take-append-drop}
 use Rattle.std.proofs.Math.ListN.{drop_of_length-le}
+use borrow.Author.Tests.{lt-ltb}
 use native.Mathlib.Decide.{dec_le}
 use Rattle.block_image.proofs.KeptLemmas.{has_trailer_at-push, reaches_past-push, reaches_past-append, leader_in-push_first, leader_in-push_payload, leader_in-push_trailer, leader_in-none}
 use Rattle.block_image.proofs.IsKept.{AllByRecursion-push, IsKept-push, IsKept-nil, takes_parts}
@@ -121,7 +122,7 @@ min_low at n h = omega arith
 min_high : (at n : ℕ) → n ≤ at → min at n ≡ n
 min_high at n h = omega arith
 
-pub take_whole : (xs : List ℕ) (n : ℕ) → length xs ≤ n → take n xs ≡ xs
+take_whole : (xs : List ℕ) (n : ℕ) → length xs ≤ n → take n xs ≡ xs
 take_whole xs n h =
     sym (append-nil (take n xs)) ∙ ap (λ l. take n xs ++ l) (sym (drop_of_length-le xs h)) ∙ take-append-drop n xs
 
@@ -142,6 +143,15 @@ put_at-min bytes at size piece e =
           ap (λ k. put_at bytes k piece) (min_high at size (omega arith))
           ∙ put_at-past bytes size piece (omega arith) ∙ sym (put_at-past bytes at piece (omega arith))
     ]
+
+and_true : (t u : Bool) (m : ℕ) → u ≡ true → (if t then m else 0) ≡ (if t && u then m else 0)
+and_true true true m h = refl
+and_true true false m h = absurd (cc)
+and_true false u m h = refl
+
+-- where the bytes of a payload end in the buffer, for a payload that has some
+pub end_where : (start len size : ℕ) → 1 ≤ len → (if nat_lt start size then min size (start + len) else 0) ≡ end_inside start len size
+end_where start len size some = and_true (nat_lt start size) (nat_lt 0 len) (min size (start + len)) (lt-ltb 0 len some)
 
 if_one_more : (t : Bool) (n : ℕ) → (if t then n + 1 else n) ≡ n + (if t then 1 else 0)
 if_one_more true n = refl

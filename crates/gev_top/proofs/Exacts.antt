@@ -5,10 +5,8 @@ use Rattle.gev_top.specs.declared.status.Status.{Status}
 use Rattle.gev_top.specs.declared.status.Status.TheVariants.{Done, Usage, ReadFault, WriteFault, NoMemory, Unbuilt}
 use Rattle.gev_top.specs.Script.{Script}
 use Rattle.gev_top.specs.Judging.{Judged, going, whole, refused, judged, judged_after, script_of, script_or_line, start_place}
-use Rattle.gev_top.specs.Answers.{Reads, ReadsScript, HoldsScript, HoldsNone, IsUnbuilt, Replays, AnswersContent, IfTold}
-use Rattle.gev_top.specs.Headline.{KeepsFrames}
+use Rattle.gev_top.specs.Answers.{Reads, HoldsScript, HoldsNone, IsUnbuilt, Replays, AnswersContent, IfTold}
 use Rattle.gev_top.proofs.Judged.{judged_after-append, judged_after-whole, judged_after-refused}
-use Rattle.gev_top.proofs.Headlines.{keeps_frames}
 
 -- what was read, and what was left, of all that the source holds
 told_parts : (content read : List ℕ) (m : Option (List ℕ)) → Gives (Some content) m read → (rest : List ℕ) × (m ≡ Some rest) × (content ≡ read ++ rest)
@@ -40,13 +38,6 @@ exact (Unbuilt line) (Some content) m f g w x h k r = subst (AnswersContent (Unb
 exact ReadFault (Some content) m f g w x h k r = tt
 exact NoMemory (Some content) m f g w x h k r = tt
 exact (Usage place) (Some content) m f g w x h k r = absurd r
-
--- a replay that is done keeps the frames
-pub done_frames : (status : Status) (l m : Option (List ℕ)) (f g : ℕ) (w x : Option (List ℕ)) (h k : ℕ) → Replays status l m f g w x h k
-    → status ≡ Done → ReadsScript l m KeepsFrames
-done_frames status l m f g w x h k r e =
-    let done : Replays Done l m f g w x h k = subst (λ s. Replays s l m f g w x h k) e r in
-    record { script = done.script; read = done.read; holds = keeps_frames done.script }
 
 -- no replay is a fault of the words
 pub no_usage : (status : Status) (place : ℕ) (l m : Option (List ℕ)) (f g : ℕ) (w x : Option (List ℕ)) (h k : ℕ) → Replays status l m f g w x h k → status ≡ Usage place → ⊥

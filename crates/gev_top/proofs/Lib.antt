@@ -7,7 +7,6 @@ pub mod Assemblies
 pub mod Finishes
 pub mod ReadPackets
 pub mod Accounts
-pub mod Joins
-pub mod Sendings
 pub mod Headlines
 pub mod Exacts
+pub mod Goods

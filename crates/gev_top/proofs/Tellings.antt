@@ -1,6 +1,6 @@
 -- What is told of bytes, from call to call.
-use Rattle.std.proofs.Common.{ℕ, List, [], ◌++◌, Option, Some, None, refl, ap, sym, ◌∙◌, append_assoc, subst}
-use Rattle.gev_links.specs.Told.{Gives, IsSpent, Appends}
+use Rattle.std.proofs.Common.{ℕ, List, [], ◌++◌, Option, Some, None, refl, ap, sym, ◌∙◌, append_assoc}
+use Rattle.gev_links.specs.Told.{Gives, IsSpent}
 
 -- where nothing came, what was spent still is
 pub spent_after : (l m : Option (List ℕ)) → Gives l m [] → IsSpent l → IsSpent m
@@ -20,10 +20,3 @@ Gives-append (Some l) (Some m) (Some n) xs ys g h = g ∙ ap (λ t. xs ++ t) h �
 pub Gives-same : (l : Option (List ℕ)) → Gives l l []
 Gives-same None = refl
 Gives-same (Some l) = refl
-
--- bytes that were written, and then others
-pub Appends-append : (w x y : Option (List ℕ)) (xs ys : List ℕ) → Appends w x xs → Appends x y ys → Appends w y (xs ++ ys)
-Appends-append None x y xs ys g h = subst (λ v. Appends v y ys) g h
-Appends-append (Some w) x y xs ys g h =
-    let last : Appends (Some (w ++ xs)) y ys = subst (λ v. Appends v y ys) g h in
-    last ∙ ap (λ t. Some t) (append_assoc w xs ys)

@@ -1,11 +1,12 @@
 -- When the top call gives which answer, and what it has read by then.
 use Rattle.std.specs.Prelude.{◌≡◌, ⊤, ℕ, ◌≤◌, List, ◌++◌, length, Option, Some, None, Result, Ok, Err}
 use Rattle.gev_links.specs.Faults.{Rose}
-use Rattle.gev_links.specs.Told.{Gives, IsSpent, Appends}
+use Rattle.gev_links.specs.Told.{Gives, IsSpent, Appends, WritesFront}
 use Rattle.gev_top.specs.declared.status.Status.{Status}
 use Rattle.gev_top.specs.declared.status.Status.TheVariants.{Done, Usage, ReadFault, WriteFault, NoMemory, Unbuilt}
 use Rattle.gev_top.specs.Script.{Script, IsScript}
 use Rattle.gev_top.specs.Report.{report_of}
+use Rattle.gev_top.specs.Headline.{KeepsFrames}
 use Rattle.gev_top.specs.Judging.{Judged, going, whole, refused, judged}
 
 -- The call read these bytes, of which P holds.
@@ -54,17 +55,11 @@ pub record HoldsNone (status : Status) (left : Option (List ℕ)) (faults faults
   pub prompt : IsPrompt bytes
   pub cause : CauseOfStop status (judged bytes) left faults faults_after
 
--- A front of this text was written.
-pub record WritesFront (written written_after : Option (List ℕ)) (text : List ℕ) : Type 0 where
-  pub front : List ℕ
-  pub rest : List ℕ
-  pub parts : text ≡ front ++ rest
-  pub appended : Appends written written_after front
-
--- A script was read, and this holds of it.
+-- A script was read, its report tells of its frames, and this holds of it.
 pub record ReadsScript (left left_after : Option (List ℕ)) (P : Script → Type 0) : Type 0 where
   pub script : Script
   pub read : Reads left left_after (HoldsScript script)
+  pub frames : KeepsFrames script
   pub holds : P script
 
 -- What a replay has read and written by its answer, and why it answers so: `left` is what the source

@@ -2,6 +2,7 @@
 use Rattle.std.specs.Prelude.{ℕ, ◌==◌, ◌&&◌, nat_lt, nat_le, List, [], ◌∷◌, ◌++◌, length, codes, Bool, true, Option, Some, None, if◌then◌else◌}
 use Rattle.std.specs.List.{list_all}
 use Rattle.std.specs.Result.{result_ok}
+use Rattle.gev_types.specs.Limits.{min_payload_size, max_payload_size, max_buffer_size}
 use Rattle.hex.specs.Hex.{decode_of}
 use Rattle.stream_packets.specs.Packets.{StreamPacket, head_of}
 use Rattle.gvsp_wire.specs.Reading.{packet_of}
@@ -23,7 +24,7 @@ after_times text = do
 abbrev pub header_of : List ℕ → Option ℕ
 header_of text = do
   numbers ← after_front (codes "gevacq 1 ") text
-  p ← number_at 528 8952 numbers
+  p ← number_at min_payload_size max_payload_size numbers
   rest ← after_times p.1
   rounds ← next_number 0 8 rest
   at_end p.0 rounds.1
@@ -32,7 +33,7 @@ header_of text = do
 abbrev pub announce_of : List ℕ → Option ℕ
 announce_of text = do
   numbers ← after_front (codes "announce ") text
-  size ← number_at 1 67108864 numbers
+  size ← number_at 1 max_buffer_size numbers
   at_end size.0 size.1
 
 abbrev pub is_lower_hex_digit : ℕ → Bool

@@ -1,49 +1,50 @@
 -- The report of a script.
-use Rattle.std.specs.Prelude.{ℕ, List, ◌++◌, take, codes, decimal, Bool, Option, Some, None, if◌then◌else◌}
-use Rattle.sha2.specs.Sha256.{sha256}
-use Rattle.hex.specs.Hex.{encode_lower}
-use Rattle.gev_types.specs.declared.block_record.Record.{Record}
+use Rattle.std.specs.Prelude.{ℕ, List, ◌++◌, codes, Option, Some, None, Ok, Err}
+use Rattle.gentl_types.specs.declared.buffer_id.BufferId.{BufferId}
+use Rattle.gentl_types.specs.declared.errors.GcError.TheVariants.{Timeout}
+use Rattle.gentl_types.specs.Codes.{code_of}
 use Rattle.gev_types.specs.Filling.{Filling}
+use Rattle.gev_report.specs.declared.end_counts.EndCounts.{EndCounts}
+use Rattle.gev_report.specs.ReplayLines.{id_line, result_line, take_line, end_line}
 use Rattle.gev_top.specs.declared.counts.Counts.{Counts}
 use Rattle.gev_top.specs.Script.{Script}
 use Rattle.gev_top.specs.Account.{account_of, taken_of}
 
-abbrev pub flag : Bool → List ℕ
-flag b = if b then codes "1" else codes "0"
+-- the one buffer of a script that is built
+abbrev pub first_buffer : BufferId
+first_buffer = record { place = 0; generation = 1 }
 
--- the SHA-256 digest of the image in a buffer, in hex
-abbrev pub digest_text : Filling → List ℕ
-digest_text buf = encode_lower (sha256 (take buf.rec.data_len buf.bytes))
-
--- what the record of a buffer that was taken says
-abbrev pub record_text : Record → List ℕ
-record_text rec =
-    (codes "take 0.1 block=" ++ decimal rec.block) ++ (codes " complete=" ++ flag rec.complete)
-    ++ (codes " larger=" ++ flag rec.larger) ++ (codes " leader=" ++ flag rec.has_leader)
-    ++ (codes " len=" ++ decimal rec.data_len) ++ (codes " filled=" ++ decimal rec.filled)
-
--- the line of a buffer that was taken: its record, and the digest of its image
-abbrev pub taken_line : Filling → List ℕ
-taken_line buf = record_text buf.rec ++ codes " sha256=" ++ digest_text buf ++ codes "\n"
+-- the lines of the calls before the first datagram: all of them are done
+abbrev pub opening_lines : List ℕ
+opening_lines =
+    id_line (codes "announce") first_buffer ++ result_line (codes "queue") (Ok tt) ++ result_line (codes "start") (Ok tt)
 
 -- the line of a take: the buffer's, or TIMEOUT where there was none
-abbrev pub take_line : Option Filling → List ℕ
-take_line None = codes "take -1011\n"
-take_line (Some buf) = taken_line buf
+abbrev pub take_text : Option Filling → List ℕ
+take_text None = result_line (codes "take") (Err (code_of (Timeout 0 0)))
+take_text (Some buf) = take_line first_buffer buf
+
+abbrev pub buffer_count : Option Filling → ℕ
+buffer_count None = 0
+buffer_count (Some buf) = 1
 
 -- One buffer was taken, and so one block was filled and complete, or none.
-abbrev pub takes_count : Option Filling → List ℕ
-takes_count None = codes "end taken=0 fills=0 complete=0"
-takes_count (Some buf) = codes "end taken=1 fills=1 complete=1"
-
-abbrev pub end_line : Option Filling → Counts → List ℕ
-end_line taken counts =
-    takes_count taken ++ (codes " underrun=0 requests=0 foreign=" ++ decimal counts.foreign)
-    ++ (codes " late=" ++ decimal counts.late) ++ (codes " repeat=" ++ decimal counts.repeat)
-    ++ (codes " misfit=" ++ decimal counts.misfit) ++ (codes " starved=0 notice=" ++ decimal counts.notice)
-    ++ codes " idle=0\n"
+abbrev pub end_counts : Option Filling → Counts → EndCounts
+end_counts taken counts = record {
+  taken = buffer_count taken;
+  fills = buffer_count taken;
+  complete = buffer_count taken;
+  underrun = 0;
+  requests = 0;
+  foreign = counts.foreign;
+  late = counts.late;
+  repeat = counts.repeat;
+  misfit = counts.misfit;
+  starved = 0;
+  notice = counts.notice;
+  idle = 0;
+}
 
 abbrev pub report_of : Script → List ℕ
 report_of script =
-    codes "announce 0.1\nqueue ok\nstart ok\n" ++ take_line (taken_of script)
-    ++ end_line (taken_of script) (account_of script).counts
+    opening_lines ++ take_text (taken_of script) ++ end_line (end_counts (taken_of script) (account_of script).counts)

@@ -11,7 +11,7 @@ ghost use Rattle.gev_top.specs.Assembly.{IsAssembly, kept_of, SameSizes, IsRead,
 use crate::accepted::Accepted;
 use crate::assembly::Assembly;
 use crate::span::{is_good, span_of};
-use block_image::{does_fit, is_kept, is_refusal};
+use block_image::{does_fit, is_kept};
 use gev_types::{Buf, NoMemory};
 use gvsp_wire::{Head, LeaderInfo, Packet};
 use std::alloc::Global;
@@ -76,18 +76,15 @@ fn count_good(payload_size: u32, len: u32, packets: &[Packet<'_>]) -> u64
 }
 
 /// 1 where the packet is such a payload, else 0.
+#[tactic(auto, using(crate::proofs::Goods::good_bytes, crate::proofs::Goods::good_none))]
 fn good_of(payload_size: u32, len: u32, packet: &Packet<'_>) -> u64
     requires { IsPayloadSize payload_size }
     ensures count { result ≡ good_count payload_size len (payload_count payload_size len) (view packet.now ∷ []) }
     ensures within { result ≤ 1 }
 {
-    match *packet {
-        Packet::Payload(head, bytes) => {
-            u64::from(is_good(payload_size, len, head.id, bytes.len()))
-        }
-        Packet::Leader(_, _) => 0,
-        Packet::Trailer(_, _) => 0,
-        Packet::Notice(_) => 0,
+    match packet.payload() {
+        Some(bytes) => u64::from(is_good(payload_size, len, packet.head().id, bytes.len())),
+        None => 0,
     }
 }
 
@@ -179,7 +176,7 @@ pub fn accept<'a>(assembly: &mut Assembly<'a>, packet: Packet<'a>) -> Result<Acc
     ensures kept { OnOk result (kept_of assembly.new ≡ keep assembly.old.payload_size 1 (kept_of assembly.old) (view packet.entry)) }
     ensures sizes { SameSizes assembly.old assembly.new }
 {
-    if is_refusal(&packet) {
+    if packet.is_notice() {
         return Ok(Accepted::Notice);
     }
     if !does_fit(assembly.payload_size, &packet) {

@@ -4,7 +4,7 @@ ghost use Rattle.block_image.specs.Sizes.{IsPayloadSize, IsBufferSize};
 ghost use Rattle.gev_top.specs.Form.{header_of, after_times, announce_of, hex_bytes, is_lower_hex, is_lower_hex_digit, datagram_of};
 
 use crate::text::{after_front, next_number, number_at};
-use gev_types::NoMemory;
+use gev_types::{MAX_BUFFER_SIZE, MAX_PAYLOAD_SIZE, MIN_PAYLOAD_SIZE, NoMemory};
 use hex::FromHexError;
 use std::alloc::Global;
 
@@ -14,7 +14,7 @@ pub fn header_of(text: &[u8]) -> Option<u32>
     ensures within { IfSome result IsPayloadSize }
 {
     let numbers = after_front(b"gevacq 1 ", text)?;
-    let (payload_size, rest) = number_at(528, 8952, numbers)?;
+    let (payload_size, rest) = number_at(MIN_PAYLOAD_SIZE, MAX_PAYLOAD_SIZE, numbers)?;
     let rest = after_times(rest)?;
     let (_rounds, rest) = next_number(0, 8, rest)?;
     if rest.is_empty() {
@@ -40,7 +40,7 @@ pub fn announce_of(text: &[u8]) -> Option<u32>
     ensures within { IfSome result IsBufferSize }
 {
     let numbers = after_front(b"announce ", text)?;
-    let (size, rest) = number_at(1, 67_108_864, numbers)?;
+    let (size, rest) = number_at(1, MAX_BUFFER_SIZE, numbers)?;
     if rest.is_empty() { Some(size) } else { None }
 }
 

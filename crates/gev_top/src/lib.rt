@@ -17,7 +17,6 @@ mod reading;
 mod report;
 mod running;
 mod script;
-mod sending;
 mod span;
 mod stage;
 mod status;
@@ -27,7 +26,6 @@ mod text;
 mod top;
 mod usage;
 mod verdict;
-mod writing;
 
 pub use status::Status;
 pub use top::gevacq_top;

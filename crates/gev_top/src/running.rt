@@ -11,9 +11,9 @@ use crate::assembling::new_assembly;
 use crate::counts::Counts;
 use crate::finishing::finish;
 use crate::hearing::hear;
-use crate::report::{add_end_line, add_take_line};
+use crate::report::{add_opening, add_take, end_counts};
 use crate::script::Script;
-use crate::writing::add;
+use gev_report::line_end;
 use gev_types::{Buf, NoMemory};
 use std::alloc::Global;
 
@@ -26,9 +26,9 @@ pub fn report(alloc: Global, script: &Script) -> Result<Vec<u8>, NoMemory>
     let counts = acquisition.counts;
     let taken = taken(acquisition);
     let mut text = Vec::new(alloc);
-    add(&mut text, b"announce 0.1\nqueue ok\nstart ok\n")?;
-    add_take_line(alloc, &mut text, &taken)?;
-    add_end_line(&mut text, &taken, &counts)?;
+    add_opening(alloc, &mut text)?;
+    add_take(alloc, &taken, &mut text)?;
+    line_end(alloc, &end_counts(&taken, &counts), &mut text)?;
     Ok(text)
 }
 

@@ -1,8 +1,7 @@
-ghost use Rattle.std.specs.Prelude.{◌≡◌, ◌+◌, ◌-◌, ◌≤◌, ◌<◌, ◌^◌, min, nat_lt, nat_le, ◌&&◌};
+ghost use Rattle.std.specs.Prelude.{◌≡◌, ◌+◌, ◌-◌, ◌≤◌, ◌<◌, ◌^◌, min, nat_lt, nat_le, ◌&&◌, if◌then◌else◌};
 ghost use Rattle.stream_packets.specs.FramePackets.{payload_count, payload_start};
 ghost use Rattle.block_image.specs.Sizes.{IsPayloadSize, IsBufferSize};
 ghost use Rattle.block_image.specs.Image.{is_long_enough};
-ghost use Rattle.block_image.proofs.CountLemmas.{end_inside};
 
 use block_image::{count_payloads, has_its_bytes, start_of_payload};
 
@@ -27,7 +26,7 @@ pub fn span_of(payload_size: u32, size: u32, id: u32, len: usize) -> Span
     requires some { 1 ≤ len }
     ensures start { result.start ≡ min (payload_start payload_size id) size }
     ensures count { result.count ≡ min size (payload_start payload_size id + len) - min size (payload_start payload_size id) }
-    ensures end { result.end ≡ end_inside (payload_start payload_size id) len size }
+    ensures end { result.end ≡ (if nat_lt (payload_start payload_size id) size then min size (payload_start payload_size id + len) else 0) }
     ensures past { result.past ≡ nat_lt size (payload_start payload_size id + len) }
 {
     let start = start_of_payload(payload_size, id);

@@ -1,17 +1,15 @@
 ghost use Rattle.std.specs.Prelude.{◌≡◌, ◌↔◌, ℕ, Some, None, map};
 ghost use Rattle.std.specs.String.{string_bytes};
 ghost use Rattle.gev_links.specs.Faults.{Rose};
-ghost use Rattle.gev_top.specs.Answers.{Replays, ReadsScript, IfTold, AnswersContent};
-ghost use Rattle.gev_top.specs.Headline.{KeepsFrames};
+ghost use Rattle.gev_top.specs.Answers.{Replays, IfTold, AnswersContent};
 ghost use Rattle.gev_top.specs.Judging.{script_of};
 ghost use Rattle.gev_top.specs.Usage.{usage_fault};
 
 use crate::reader::read_script;
 use crate::running::report;
-use crate::sending::write_all;
 use crate::status::Status;
 use crate::usage::usage_fault;
-use gev_links::{Failed, Sink, Source};
+use gev_links::{Failed, Sink, Source, write_all};
 use gev_types::NoMemory;
 use std::alloc::Global;
 
@@ -29,9 +27,11 @@ pub fn gevacq_top<S: Source, K: Sink>(
     // Words that aren't a command line are answered by their place, and nothing is read or written.
     ensures usage { (place : ℕ) → (result ≡ Status.Usage place) ↔ (usage_fault (map (λ word. string_bytes word) words.now) ≡ Some place) }
     ensures unused { (place : ℕ) → usage_fault (map (λ word. string_bytes word) words.now) ≡ Some place
-        → (S.left source.new ≡ S.left source.old) × (K.written sink.new ≡ K.written sink.old) }
+        → (S.left source.new ≡ S.left source.old) × (K.written sink.new ≡ K.written sink.old)
+        × (S.faults source.new ≡ S.faults source.old) × (K.faults sink.new ≡ K.faults sink.old) }
 
-    // Each other answer has its cause: what was read and written, and whose count of faults rose.
+    // Each other answer has its cause: what was read and written, and whose count of faults rose. The
+    // image of the take line is its block's frame, and it comes where all of the frame came.
     ensures cause { usage_fault (map (λ word. string_bytes word) words.now) ≡ None
         → Replays result (S.left source.old) (S.left source.new) (S.faults source.old) (S.faults source.new)
         (K.written sink.old) (K.written sink.new) (K.faults sink.old) (K.faults sink.new) }
@@ -39,9 +39,6 @@ pub fn gevacq_top<S: Source, K: Sink>(
     // Where the source tells what it holds, its bytes decide, but for faults and want of memory.
     ensures exact { usage_fault (map (λ word. string_bytes word) words.now) ≡ None
         → IfTold (S.left source.old) (λ content. AnswersContent result (script_of content)) }
-
-    // The image of the take line is its block's frame, and it comes where all of the frame came.
-    ensures frames { result ≡ Status.Done → ReadsScript (S.left source.old) (S.left source.new) KeepsFrames }
 {
     match usage_fault(words) {
         Some(place) => Status::Usage { place },

@@ -3,7 +3,7 @@ use Rattle.std.specs.Prelude.{◌||◌}
 use Rattle.gev_types.specs.Placing.{put_at}
 use Rattle.gvsp_wire.specs.View.{views}
 use Rattle.stream_packets.specs.FramePackets.{payload_start}
-use Rattle.gev_top.proofs.Assemblies.{payload_kept, placed_fits, views_push}
+use Rattle.gev_top.proofs.Assemblies.{payload_kept, placed_fits, views_push, end_where}
 use Rattle.gev_top.proofs.assembling.keep_payload.Goals as goal
 use Rattle.gev_top.proofs.assembling.keep_payload.Goals.{then-assembly, else-assembly}
 
@@ -22,6 +22,6 @@ returns-clause-assembly c =
     (ap length c.in_ok-push.ensures.items ∙ length-append _ _)
     (c.put.ensures.bytes ∙ ap (λ k. put_at c.args.assembly.now.buf.bytes k c.args.bytes.now) c.span_of-span.ensures.start)
     (ap (λ n. c.args.assembly.now.placed + n) c.span_of-span.ensures.count)
-    (c.max-assembly.ensures ∙ ap (λ n. max c.args.assembly.now.end n) c.span_of-span.ensures.end)
+    (c.max-assembly.ensures ∙ ap (λ n. max c.args.assembly.now.end n) (c.span_of-span.ensures.end ∙ end_where (payload_start c.args.assembly.now.payload_size c.args.head.id) (length c.args.bytes.now) c.args.assembly.now.size c.requires.some))
     (past ∙ ap (λ r. c.args.assembly.now.past || r) c.span_of-span.ensures.past)
     (sym c.good_with-assembly.ensures)

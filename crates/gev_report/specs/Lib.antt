@@ -1,0 +1,5 @@
+pub mod Pieces
+pub mod ReplayLines
+pub mod StepLine
+pub mod CameraLines
+pub mod SoakLine

@@ -1,9 +1,0 @@
-use Rattle.std.proofs.Common.{arith}
-use Rattle.gev_top.proofs.Sendings.{sent_slice}
-use Rattle.gev_top.proofs.sending.write_all.Goals as goal
-
-pub loop-rest-preserved : goal.loop-rest-preserved
-loop-rest-preserved g c = record {
-  sent = sent_slice _ _ _ c.args.text.now c.loop-rest.rest.now c.in_ok-count.count c.loop-rest.invariant.sent c.in_ok-count.ensures.written;
-  faults = omega (arith, c.loop-rest.invariant.faults, c.write.ensures.never_falls);
-}
