@@ -1,0 +1,4 @@
+pub mod Stored
+pub mod Sortings
+pub mod Ordered
+pub mod Histories
