@@ -1,0 +1,50 @@
+-- The laws of the control client over lists of events, the latest of which comes first.
+use Rattle.std.specs.Prelude.{◌≡◌, ◌≢◌, ◌↔◌, ℕ, ◌+◌, false, List, ◌∷◌, Some, None, Ok, IsTrue}
+use Rattle.gvcp_wire.specs.declared.status.Status.TheVariants as statuses
+use Rattle.gvcp_wire.specs.Status.{status_code}
+use Rattle.gvcp_wire.specs.Messages.{PlainAck}
+use Rattle.gvcp_wire.specs.Reading.{ack_reading}
+use Rattle.client_machine.specs.declared.outcome.Outcome.TheVariants.{Acked, Refused, NoAnswer}
+use Rattle.client_machine.specs.Commands.{is_match}
+use Rattle.client_machine.specs.Machine.{Asked, Client, HasSubmittedNone, ticked, received}
+use Rattle.client_machine.specs.Events.{Event, after, NoneSubmit, Request, sends_of, answers}
+
+-- A client is as new exactly as long as nothing was submitted to it.
+abbrev pub IsNewUntilSubmitted : List Event → Type 0
+IsNewUntilSubmitted es = HasSubmittedNone (after es) ↔ NoneSubmit es
+
+-- So many events made the bytes of the command wait, and since the first of them no matching acknowledge
+-- arrived.
+pub data HasWaited (r : Request) : ℕ → List Event → Type 0 where
+  first : (e : Event) (es : List Event) → sends_of (after es) e ≡ Some r → HasWaited r 1 (e ∷ es)
+  again : (n : ℕ) (e : Event) (es : List Event) → HasWaited r n es → sends_of (after es) e ≡ Some r → HasWaited r (n + 1) (e ∷ es)
+  meanwhile : (n : ℕ) (e : Event) (es : List Event) → HasWaited r n es → sends_of (after es) e ≡ None → answers r e ≡ false → HasWaited r n (e ∷ es)
+
+-- A command with this request number waited for three sends of the same bytes, without an acknowledge.
+pub record HadNoAnswer (es : List Event) (req : ℕ) : Type 0 where
+  pub request : Request
+  pub req_is : request.req ≡ req
+  pub waited : HasWaited request 3 es
+
+-- what a tick that tells that a command had no answer comes after
+abbrev pub NoAnswerComesLast : List Event → ℕ → ℕ → Type 0
+NoAnswerComesLast es moment req = (ticked (after es) moment).outcome ≡ NoAnswer req → HadNoAnswer es req
+
+-- The bytes are a matching acknowledge of the outstanding command, with this status.
+pub record IsAnswered (s : Client) (bytes : List ℕ) (status : ℕ) : Type 0 where
+  pub asked : Asked
+  pub ack : PlainAck
+  pub outstanding : s.asked ≡ Some asked
+  pub read : ack_reading bytes ≡ Ok ack
+  pub matches : IsTrue (is_match asked.code asked.req ack)
+  pub status_is : ack.status ≡ status
+
+-- Each of the outcomes that end a command comes at its own events alone, and always there.
+pub record EndsAreExact (s : Client) : Type 0 where
+  pub refused : (bytes : List ℕ) (moment status : ℕ)
+      → ((received s bytes moment).outcome ≡ Refused status) ↔ (IsAnswered s bytes status × (status ≢ status_code statuses.Success))
+  pub acked : (bytes : List ℕ) (moment : ℕ)
+      → ((received s bytes moment).outcome ≡ Acked) ↔ IsAnswered s bytes (status_code statuses.Success)
+  pub no_tick_refuses : (moment status : ℕ) → (ticked s moment).outcome ≢ Refused status
+  pub no_tick_acks : (moment : ℕ) → (ticked s moment).outcome ≢ Acked
+  pub only_ticks_give_up : (bytes : List ℕ) (moment req : ℕ) → (received s bytes moment).outcome ≢ NoAnswer req

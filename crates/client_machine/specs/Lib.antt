@@ -1,0 +1,4 @@
+pub mod Commands
+pub mod Machine
+pub mod Events
+pub mod Laws

@@ -1,0 +1,24 @@
+//! Laws over the definitions of the control client. These functions do nothing: their contracts are
+//! the laws.
+
+ghost use Rattle.std.specs.Prelude.{ℕ, List};
+ghost use Rattle.client_machine.specs.Machine.{Client};
+ghost use Rattle.client_machine.specs.Events.{Event};
+ghost use Rattle.client_machine.specs.Laws.{IsNewUntilSubmitted, NoAnswerComesLast, EndsAreExact};
+
+/// A client is as new exactly as long as nothing was submitted to it.
+pub fn a_client_is_new_until_a_submission()
+    ensures { (es : List Event) → IsNewUntilSubmitted es }
+{}
+
+/// That a command had no answer is told only after three events made its bytes wait, and after no
+/// matching acknowledge since the first of them.
+pub fn no_answer_comes_after_three_sends()
+    ensures { (es : List Event) (moment req : ℕ) → NoAnswerComesLast es moment req }
+{}
+
+/// Acked and Refused come exactly at a matching acknowledge, Refused with its status, and NoAnswer at
+/// ticks alone.
+pub fn outcomes_that_end_a_command_are_exact()
+    ensures { (s : Client) → EndsAreExact s }
+{}

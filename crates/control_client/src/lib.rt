@@ -1,0 +1,14 @@
+//! The host's control side: one command outstanding, sent at most three times, with one outcome, and a
+//! heartbeat that keeps the control (GigE Vision 2.0, GVCP).
+//!
+//! The definition is the machine of the crate `client_machine`; each call here is one of its events.
+#![tactic(auto)]
+
+mod client;
+mod sending;
+mod steps;
+#[cfg(test)]
+mod tests;
+
+pub use client::Client;
+pub use client_machine::Outcome;

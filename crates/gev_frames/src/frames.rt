@@ -1,0 +1,45 @@
+ghost use Rattle.std.specs.Prelude.{◌≡◌, IfOk};
+ghost use Rattle.gev_types.specs.FrameSize.{IsImageSize, IsFrame};
+ghost use Rattle.gev_frames.specs.Generator.{noise};
+ghost use Rattle.gev_frames.specs.Frames.{shape_size, frame_of};
+
+use crate::lcg::Lcg;
+use gev_types::{Bytes, Frame, NoMemory, Shape, frame_size};
+use std::alloc::Global;
+
+// One byte of each draw, the top 8 of its 32 bits.
+fn noise(alloc: Global, count: u32, mut generator: Lcg) -> Result<Vec<u8>, NoMemory>
+    ensures { IfOk result (λ bytes. bytes.items ≡ noise count generator) }
+{
+    let mut bytes = Vec::with_capacity(alloc, count as usize)?;
+    for _drawn in 0..count {
+        bytes.push_reserved((generator.draw() >> 24) as u8);
+    }
+    Ok(bytes)
+}
+
+/// The test image of a camera with this seed in this block, without offset and padding.
+///
+/// The block id is the timestamp too. The bytes are those that a generator draws which starts at the
+/// sum of seed and block id, modulo 2^64.
+pub fn frame_of(alloc: Global, seed: u64, block: u64, shape: Shape) -> Result<Frame, NoMemory>
+    // `frame_size` of the shape without padding is Some.
+    requires { IsImageSize (shape_size shape) }
+    ensures made { IfOk result (λ frame. frame ≡ frame_of seed block shape) }
+    ensures valid { IfOk result IsFrame }
+{
+    let size = frame_size(shape.pixel, shape.size_x, shape.size_y, 0, 0).unwrap();
+    let pixels = noise(alloc, size, Lcg::new(seed.wrapping_add(block)))?;
+    Ok(Frame {
+        block,
+        timestamp: block,
+        pixel: shape.pixel,
+        size_x: shape.size_x,
+        size_y: shape.size_y,
+        offset_x: 0,
+        offset_y: 0,
+        padding_x: 0,
+        padding_y: 0,
+        pixels: Bytes::of(pixels),
+    })
+}

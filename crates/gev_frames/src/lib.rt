@@ -1,0 +1,16 @@
+//! The test images of the simulated camera: a generator of numbers, and the frame that it makes of a
+//! seed and a block id.
+//!
+//! `specs/Generator.antt` defines the generator and `specs/Frames.antt` the frames; the functions of
+//! `laws` say what they amount to.
+#![tactic(auto)]
+
+mod frames;
+mod laws;
+mod lcg;
+#[cfg(test)]
+mod tests;
+
+pub use frames::frame_of;
+pub use laws::{drawn_bytes_are_draws, made_frames_are_valid};
+pub use lcg::Lcg;

@@ -1,0 +1,4 @@
+pub mod Sent
+pub mod Pushes
+pub mod Shelf
+pub mod Laws
