@@ -1,0 +1,6 @@
+pub mod Addresses
+pub mod Registers
+pub mod Words
+pub mod Changes
+pub mod Writables
+pub mod Laws
