@@ -1,0 +1,11 @@
+pub mod Splitting
+pub mod Numerals
+pub mod Bindings
+pub mod Joined
+pub mod NumberWords
+pub mod Spelled
+pub mod Unspelled
+pub mod Parsed
+pub mod LineKinds
+pub mod Tellings
+pub mod Windows

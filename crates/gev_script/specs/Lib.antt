@@ -1,0 +1,11 @@
+pub mod Lines
+pub mod Words
+pub mod Tables
+pub mod Numbers
+pub mod Fields
+pub mod Grammar
+pub mod Spelling
+pub mod Laws
+pub mod Writing
+pub mod Streams
+pub mod Window

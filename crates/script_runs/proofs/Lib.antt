@@ -1,0 +1,3 @@
+pub mod Looping
+pub mod Simulations
+pub mod Exacts

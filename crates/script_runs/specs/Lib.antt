@@ -1,0 +1,5 @@
+pub mod Runs
+pub mod Outcomes
+pub mod Turns
+pub mod Simulation
+pub mod Verdicts

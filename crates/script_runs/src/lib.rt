@@ -1,0 +1,22 @@
+//! The loop that runs a script: each line is run as it's read, and its report written before the next
+//! line is read.
+//!
+//! What a line does is said by a `Machine`. `specs/Runs.antt` says what a run over some lines is, and
+//! `specs/Outcomes.antt` what a run has read and written by how it ended.
+#![tactic(auto)]
+
+mod ending;
+mod machine;
+mod modelled;
+mod ran;
+mod running;
+mod stop;
+#[cfg(test)]
+mod tests;
+
+pub use ending::Ending;
+pub use machine::Machine;
+pub use modelled::{Modelled, run_modelled};
+pub use ran::Ran;
+pub use running::run_script;
+pub use stop::Stop;
