@@ -1,0 +1,9 @@
+pub mod Marks
+pub mod Shorts
+pub mod Keeps
+pub mod Counts
+pub mod Covers
+pub mod Wholes
+pub mod Accepts
+pub mod ReadPackets
+pub mod VerdictLemmas

@@ -1,0 +1,5 @@
+use Rattle.block_assembly.proofs.Accepts.{sound}
+use Rattle.block_assembly.proofs.assembly.Assembly.is_complete.Goals as goal
+
+pub completes-requires : goal.completes-requires
+completes-requires c = sound c.args.self.now c.requires

@@ -1,0 +1,5 @@
+use Rattle.block_assembly.proofs.Accepts.{sound}
+use Rattle.block_assembly.proofs.assembly.Assembly.top.Goals as goal
+
+pub top-requires : goal.top-requires
+top-requires c = sound c.args.self.now c.requires

@@ -1,0 +1,78 @@
+-- What the assembly of a block stands for: the packets of the block that it took, in order of arrival.
+use Rattle.std.specs.Prelude.{◌≡◌, ⊤, ℕ, ◌-◌, ◌≤◌, ◌<◌, ◌^◌, min, ◌==◌, List, length, Bool, false, Option, Some, None, is_some}
+use Rattle.gev_types.specs.Limits.{max_buffer_size}
+use Rattle.stream_packets.specs.declared.fields.LeaderInfo.{LeaderInfo}
+use Rattle.stream_packets.specs.Packets.{StreamPacket}
+use Rattle.block_image.specs.Kept.{kept, has_id, has_trailer}
+use Rattle.block_image.specs.KeptFacts.{IsKept, ArePayloadsNumbered, AreLeadersFirst}
+use Rattle.block_image.specs.Image.{image_bytes, placed_count, placed_end, reaches_past, leader_in, has_trailer_at}
+use Rattle.block_image.specs.Sizes.{IsPayloadSize, IsBufferSize}
+use Rattle.missing_ranges.specs.Missing.{has_gone, highest}
+use Rattle.packet_bitmap.specs.Bits.{has}
+use Rattle.block_assembly.specs.declared.assembly.Assembly.{Assembly}
+use Rattle.block_assembly.specs.declared.assembly.TheConstants.{PACKET_IDS}
+use Rattle.block_assembly.specs.Shortest.{IsShortest}
+
+-- the trailer among these has this id, if there is one
+abbrev pub is_trailer_id : Option ℕ → ℕ → Bool
+is_trailer_id None k = false
+is_trailer_id (Some id) k = id == k
+
+-- the image of a leader is one that a frame may have
+abbrev pub IsInLimits : Option LeaderInfo → Type 0
+IsInLimits None = ⊤
+IsInLimits (Some i) = i.size ≤ max_buffer_size
+
+-- The assembly after just these packets were kept: each of its fields is what they give.
+pub record IsAssembly (a : Assembly) (ks : List StreamPacket) : Type 0 where
+  pub payload_size : IsPayloadSize a.payload_size
+  pub size : IsBufferSize a.size
+  pub are_kept : IsKept a.payload_size a.block ks
+  pub numbered : ArePayloadsNumbered ks
+  pub leaders : AreLeadersFirst ks
+  pub bytes : a.buf.bytes ≡ image_bytes a.payload_size ks a.size
+  pub wide : length a.kept ≡ PACKET_IDS
+  pub ids : (k : ℕ) → has a.kept k ≡ has_id k ks
+  pub leader : a.leader ≡ leader_in ks
+  pub in_limits : IsInLimits a.leader
+  pub trailer : (k : ℕ) → has_trailer_at k ks ≡ is_trailer_id a.trailer k
+  pub ended : is_some a.trailer ≡ has_trailer ks
+  pub count : a.count ≡ min (length ks) (2 ^ 32 - 1)
+  pub highest : a.highest ≡ highest ks
+  pub shortest : IsShortest a.payload_size ks a.shortest
+  pub placed : a.placed ≡ placed_count a.payload_size ks a.size
+  pub end : a.end ≡ placed_end a.payload_size ks a.size
+  pub past : a.past ≡ reaches_past a.payload_size a.size ks
+
+-- The assembly of block b, with payloads of p bytes at most, in a buffer of this size, after it took
+-- these packets of its block.
+pub record AssemblyStands (a : Assembly) (p b size : ℕ) (heard : List StreamPacket) : Type 0 where
+  pub payload_size : a.payload_size ≡ p
+  pub block : a.block ≡ b
+  pub buffer_size : a.size ≡ size
+  pub assembly : IsAssembly a (kept a.payload_size a.block heard)
+  pub wide : length a.refused ≡ PACKET_IDS
+  pub gone : (k : ℕ) → k < PACKET_IDS → has a.refused k ≡ has_gone k heard
+
+-- it is the assembly of some block after some packets
+pub record StandsForSome (a : Assembly) : Type 0 where
+  pub p : ℕ
+  pub b : ℕ
+  pub size : ℕ
+  pub heard : List StreamPacket
+  pub stands : AssemblyStands a p b size heard
+
+-- the block that is assembled
+abbrev pub block_of : Assembly → ℕ
+block_of a = a.block
+
+-- what the steps rest on
+pub record IsSound (a : Assembly) : Type 0 where
+  pub payload_size : IsPayloadSize a.payload_size
+  pub size : IsBufferSize a.size
+  pub wide : length a.kept ≡ PACKET_IDS
+  pub wide_refused : length a.refused ≡ PACKET_IDS
+  pub in_limits : IsInLimits a.leader
+  pub buffer : length a.buf.bytes ≡ a.size
+  pub placed : a.placed ≤ a.size
+  pub end : a.end ≤ a.size

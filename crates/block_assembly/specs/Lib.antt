@@ -1,0 +1,5 @@
+pub mod Shortest
+pub mod Assembly
+pub mod Verdicts
+pub mod Steps
+pub mod Laws

@@ -1,0 +1,130 @@
+//! The calls of an assembly.
+
+ghost use Rattle.std.specs.Prelude.{◌≡◌, ℕ, ◌+◌, ◌≤◌, ◌<◌, List, [], ◌∷◌, ◌++◌, length, IfSome};
+ghost use Rattle.stream_packets.specs.Packets.{StreamPacket, head_of};
+ghost use Rattle.gvsp_wire.specs.View.{view};
+ghost use Rattle.block_image.specs.Kept.{kept, has_id};
+ghost use Rattle.block_image.specs.Image.{image};
+ghost use Rattle.block_image.specs.Sizes.{IsPayloadSize};
+ghost use Rattle.missing_ranges.specs.Missing.{top_of, has_gone};
+ghost use Rattle.packet_bitmap.specs.Bits.{has};
+ghost use Rattle.block_assembly.specs.Assembly.{AssemblyStands, StandsForSome, block_of};
+ghost use Rattle.block_assembly.specs.Verdicts.{IsRead, verdict_of};
+
+use crate::assembly::{Assembly, PACKET_IDS};
+use crate::completing::{completes, top};
+use crate::judging::judge;
+use crate::keeping::act;
+use crate::recording::record;
+use crate::verdict::Verdict;
+use gev_types::Buf;
+use gvsp_wire::Packet;
+use packet_bitmap::Bitmap;
+
+impl Assembly {
+    /// An assembly of this block that has taken nothing, over a buffer and two bitmaps, which it clears.
+    /// `payload_size` is the most bytes of a payload packet.
+    pub fn start(buf: Buf, kept: Bitmap, refused: Bitmap, block: u64, payload_size: u32) -> Assembly
+        requires payload_size { IsPayloadSize payload_size }
+        requires kept { length kept ≡ PACKET_IDS }
+        requires refused { length refused ≡ PACKET_IDS }
+        ensures stands { AssemblyStands result payload_size block (length buf.bytes) [] }
+        ensures some { StandsForSome result }
+        ensures of_block { block_of result ≡ block }
+    {
+        let mut buf = buf;
+        let mut kept = kept;
+        let mut refused = refused;
+        let size = buf.bytes().len() as u32;
+        buf.clear();
+        kept.reset();
+        refused.reset();
+        Assembly {
+            payload_size,
+            block,
+            size,
+            buf,
+            kept,
+            refused,
+            leader: None,
+            trailer: None,
+            count: 0,
+            highest: None,
+            shortest: None,
+            placed: 0,
+            end: 0,
+            past: false,
+        }
+    }
+
+    /// Takes a packet of the block, and says what becomes of it.
+    pub fn accept(&mut self, packet: &Packet<'_>) -> Verdict
+        requires stands { StandsForSome self.old }
+        requires read { IsRead (view packet.now) }
+        requires of_block { (head_of (view packet.now)).block ≡ block_of self.old }
+        ensures verdict { (p b size : ℕ) (heard : List StreamPacket) → AssemblyStands self.old p b size heard
+            → result ≡ verdict_of p b heard (view packet.now) }
+        ensures stands { (p b size : ℕ) (heard : List StreamPacket) → AssemblyStands self.old p b size heard
+            → AssemblyStands self.new p b size (heard ++ view packet.now ∷ []) }
+        ensures some { StandsForSome self.new }
+        ensures same_block { block_of self.new ≡ block_of self.old }
+    {
+        let verdict = judge(self, packet);
+        act(self, verdict, packet);
+        verdict
+    }
+
+    /// Whether the whole image is in the buffer.
+    pub fn is_complete(&self) -> bool
+        requires { StandsForSome self.now }
+        ensures { (p b size : ℕ) (heard : List StreamPacket) → AssemblyStands self.now p b size heard
+            → result ≡ (image p b size heard).rec.complete }
+    {
+        completes(self)
+    }
+
+    /// The last id up to which packets may be missing: the trailer's where the leader tells it, else the
+    /// highest that was kept. None where nothing was kept.
+    pub fn top(&self) -> Option<u32>
+        requires { StandsForSome self.now }
+        ensures top { (p b size : ℕ) (heard : List StreamPacket) → AssemblyStands self.now p b size heard
+            → result ≡ top_of p (kept p b heard) }
+        ensures in_range { IfSome result (λ top. top < PACKET_IDS) }
+    {
+        top(self)
+    }
+
+    /// The ids of the packets that were kept.
+    pub fn kept(&self) -> &Bitmap
+        requires { StandsForSome self.now }
+        ensures ids { (p b size : ℕ) (heard : List StreamPacket) → AssemblyStands self.now p b size heard
+            → (id : ℕ) → has result.now id ≡ has_id id (kept p b heard) }
+        ensures wide { length result.now ≡ PACKET_IDS }
+    {
+        &self.kept
+    }
+
+    /// The ids of the packets that the camera can't send again, by its notices.
+    pub fn refused(&self) -> &Bitmap
+        requires { StandsForSome self.now }
+        ensures ids { (p b size : ℕ) (heard : List StreamPacket) → AssemblyStands self.now p b size heard
+            → (id : ℕ) → id < PACKET_IDS → has result.now id ≡ has_gone id heard }
+        ensures wide { length result.now ≡ PACKET_IDS }
+    {
+        &self.refused
+    }
+
+    /// The buffer with the block's image and record, and the two bitmaps for another block.
+    pub fn finish(self) -> (Buf, Bitmap, Bitmap)
+        requires { StandsForSome self }
+        ensures image { (p b size : ℕ) (heard : List StreamPacket) → AssemblyStands self p b size heard
+            → result.0 ≡ image p b size heard }
+        ensures kept { length result.1 ≡ PACKET_IDS }
+        ensures refused { length result.2 ≡ PACKET_IDS }
+    {
+        let rec = record(&self);
+        let mut buf = self.buf;
+        buf.set_rec(rec);
+        (buf, self.kept, self.refused)
+    }
+}

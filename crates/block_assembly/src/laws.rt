@@ -1,0 +1,9 @@
+//! Laws over the definitions, each the contract of a function with nothing to do.
+
+ghost use Rattle.block_assembly.specs.Laws.{VerdictsTell};
+
+/// A packet is kept exactly where the list of kept packets grows by it, a notice exactly where it is one,
+/// and a misfit exactly where it is no notice and doesn't fit.
+pub fn verdicts_tell()
+    ensures { VerdictsTell }
+{}

@@ -1,0 +1,22 @@
+//! One block on its way into its buffer.
+//!
+//! An `Assembly` stands for the packets of its block that came, in order of arrival
+//! (`specs/Assembly.antt`). What it answers is what the definitions of kept packets, of the block image
+//! and of missing ranges give of that list, in whatever order the packets came.
+#![tactic(auto)]
+
+mod assembly;
+mod calls;
+mod completing;
+mod judging;
+mod keeping;
+mod laws;
+mod recording;
+mod span;
+#[cfg(test)]
+mod tests;
+mod verdict;
+
+pub use assembly::{Assembly, PACKET_IDS};
+pub use laws::verdicts_tell;
+pub use verdict::Verdict;

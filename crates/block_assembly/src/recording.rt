@@ -1,0 +1,53 @@
+//! The record of a block.
+
+ghost use Rattle.std.specs.Prelude.{◌≡◌, ◌≤◌, List};
+ghost use Rattle.stream_packets.specs.Packets.{StreamPacket};
+ghost use Rattle.block_image.specs.Image.{is_larger, image_len, leader_in, record_of};
+ghost use Rattle.block_assembly.specs.Assembly.{IsAssembly, IsSound};
+
+use crate::assembly::Assembly;
+use crate::completing::{completes, extent};
+use gev_types::Record;
+
+/// Whether the block has more bytes than the buffer.
+fn is_larger(assembly: &Assembly) -> bool
+    requires { IsSound assembly.now }
+    ensures { (ks : List StreamPacket) → IsAssembly assembly.now ks
+        → result ≡ is_larger assembly.now.payload_size assembly.now.size ks (leader_in ks) }
+{
+    match extent(assembly) {
+        Some(len) => assembly.size < len,
+        None => assembly.past,
+    }
+}
+
+/// The length of the image in the buffer, in bytes.
+fn image_len(assembly: &Assembly) -> u32
+    requires { IsSound assembly.now }
+    ensures value { (ks : List StreamPacket) → IsAssembly assembly.now ks
+        → result ≡ image_len assembly.now.payload_size assembly.now.size ks (leader_in ks) }
+    ensures within { result ≤ assembly.now.size }
+{
+    match extent(assembly) {
+        Some(len) => len.min(assembly.size),
+        None => assembly.end,
+    }
+}
+
+/// What is known of the block.
+pub(crate) fn record(assembly: &Assembly) -> Record
+    requires { IsSound assembly.now }
+    ensures value { (ks : List StreamPacket) → IsAssembly assembly.now ks
+        → result ≡ record_of assembly.now.payload_size assembly.now.block assembly.now.size ks }
+    ensures data_len { result.data_len ≤ assembly.now.size }
+    ensures filled { result.filled ≤ assembly.now.size }
+{
+    Record {
+        block: assembly.block,
+        complete: completes(assembly),
+        larger: is_larger(assembly),
+        has_leader: assembly.leader.is_some(),
+        data_len: image_len(assembly),
+        filled: assembly.placed,
+    }
+}

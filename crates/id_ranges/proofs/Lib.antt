@@ -1,0 +1,2 @@
+pub mod HoleLemmas
+pub mod FirstLemmas

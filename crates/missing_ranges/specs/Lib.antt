@@ -1,0 +1,3 @@
+pub mod Missing
+pub mod Laws
+pub mod Worked
