@@ -1,0 +1,15 @@
+pub mod WorkedRows
+pub mod Order
+pub mod Retiring
+pub mod Numbers
+pub mod Turned
+pub mod Joining
+pub mod Window
+pub mod Keeping
+pub mod Frames
+pub mod Since
+pub mod Counting
+pub mod Buffers
+pub mod Once
+pub mod Asking
+pub mod Causes

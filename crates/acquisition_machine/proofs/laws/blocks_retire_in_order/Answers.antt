@@ -1,0 +1,5 @@
+use Rattle.acquisition_machine.proofs.Window.{blocks_retire_in_order}
+use Rattle.acquisition_machine.proofs.laws.blocks_retire_in_order.Goals as goal
+
+pub returns : goal.returns
+returns c = blocks_retire_in_order

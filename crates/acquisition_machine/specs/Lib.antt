@@ -1,0 +1,11 @@
+pub mod Blocks
+pub mod Machine
+pub mod Runs
+pub mod Worked
+pub mod WorkedTimes
+pub mod WorkedLaws
+pub mod Sound
+pub mod Laws
+pub mod TurnLaws
+pub mod RequestLaws
+pub mod FrameLaws
