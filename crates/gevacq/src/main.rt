@@ -14,7 +14,7 @@ use std::{env, io};
 const HELP: &str = "usage: gevacq replay\n";
 
 /// The program's name and version.
-const VERSION: &str = "gevacq 0.1.0\n";
+const VERSION: &str = "gevacq 0.2.0\n";
 
 fn main(rt: HostRuntime) -> ExitCode {
     let status = match words(&rt) {
