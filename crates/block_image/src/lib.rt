@@ -19,6 +19,5 @@ pub use laws::{
     ignores_leader_info, keeps_in_order, keeps_no_id_twice, keeps_one_trailer, keeps_the_first,
     keeps_what_fits, misses_nothing, packets_agree,
 };
-pub use looking::is_refusal;
 pub use plain::block_image;
 pub use records::{count_payloads, has_its_bytes, start_of_payload};

@@ -1,19 +1,11 @@
 //! What a list of packets has, by a look at each of them.
 
 ghost use Rattle.std.specs.Prelude.{◌≡◌, ◌+◌, ◌-◌, ◌<◌, ◌≤◌};
-ghost use Rattle.stream_packets.specs.Packets.{is_notice};
-ghost use Rattle.gvsp_wire.specs.View.{view, views};
+ghost use Rattle.gvsp_wire.specs.View.{views};
 ghost use Rattle.block_image.specs.Kept.{has_id, has_trailer};
 ghost use Rattle.block_image.specs.Image.{leader_in, has_trailer_at};
 
 use gvsp_wire::{LeaderInfo, Packet};
-
-/// Whether the packet is a notice, by which the camera says that it can't send a packet again.
-pub fn is_refusal(packet: &Packet<'_>) -> bool
-    ensures { result ≡ is_notice (view packet.now) }
-{
-    packet.is_notice()
-}
 
 /// Whether some packet has this id.
 pub fn contains_id(id: u32, packets: &[Packet<'_>]) -> bool
