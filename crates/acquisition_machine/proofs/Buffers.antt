@@ -106,7 +106,7 @@ takes_claim : (c : AcqConfig) (s : State) (given : Option Given) (asked : Option
 takes_claim c s given None sound e = takes_none given (held s.opens)
 takes_claim c s given (Some b) sound e = takes_put given b s.now s.opens (put_new (opened b given s.now) s.opens (sound.claim b e).others)
 
-keeps_buffers : (c : AcqConfig) (s : State) (i : Input) → 1 ≤ c.window → IsSound c s → KeepsBuffers c s i (step c s i)
+pub keeps_buffers : (c : AcqConfig) (s : State) (i : Input) → 1 ≤ c.window → IsSound c s → KeepsBuffers c s i (step c s i)
 keeps_buffers c s (datagram bytes) some sound = gives_back c s (datagram bytes) (step c s (datagram bytes)) tt (turned c s (datagram bytes) some sound)
 keeps_buffers c s (claimed given) some sound = (refl, takes_claim c s given s.asked sound refl)
 keeps_buffers c s (tick moment) some sound = gives_back c s (tick moment) (step c s (tick moment)) tt (turned c s (tick moment) some sound)

@@ -28,7 +28,7 @@ rise_changed c s sound (taken b given f e) =
     subst (λ l. RiseFrom s.floor l) f.now
     (rise_put s.floor (opened b given s.now) s.opens (sound.claim b e).above (sound.claim b e).others sound.rise)
 
-room_changed : (c : AcqConfig) (s : State) {i : Input} {mid : List Open} → IsSound c s → Changed s i mid → length mid ≤ c.window
+pub room_changed : (c : AcqConfig) (s : State) {i : Input} {mid : List Open} → IsSound c s → Changed s i mid → length mid ≤ c.window
 room_changed c s sound (nothing none) = sound.room
 room_changed c s sound (passed bytes x is others) = sound.room
 room_changed c s sound (heard bytes x o n f is h) =
@@ -73,7 +73,7 @@ rise_opens : (c : AcqConfig) (now low : ℕ) (rest opens : List Open) → (opens
 rise_opens c now low rest opens (inl e) r = subst (λ l. RiseFrom low l) (sym e) r
 rise_opens c now low rest opens (inr e) r = subst (λ l. RiseFrom low l) (sym e) (rise_rounds c now low rest r)
 
-length-opens : (c : AcqConfig) (now : ℕ) (rest opens : List Open) → (opens ≡ rest) ⊎ (opens ≡ after_rounds c now rest) → length opens ≡ length rest
+pub length-opens : (c : AcqConfig) (now : ℕ) (rest opens : List Open) → (opens ≡ rest) ⊎ (opens ≡ after_rounds c now rest) → length opens ≡ length rest
 length-opens c now rest opens (inl e) = ap length e
 length-opens c now rest opens (inr e) = ap length e ∙ length-rounds c now rest
 

@@ -1,0 +1,32 @@
+-- What holds of every trace.
+use Rattle.std.proofs.Common.{◌≡◌, sym, subst}
+use Rattle.std.specs.List.{AllByRecursion}
+use Rattle.board_machine.specs.Machine.{Item}
+use Rattle.board_machine.specs.Histories.{Run}
+use Rattle.board_machine.proofs.Forms.{prefix_cases}
+use Rattle.board_machine.proofs.Handouts.{run_legal}
+use Rattle.script_trace.specs.Opening.{opening}
+use Rattle.script_trace.specs.Fills.{tried_blocks, retired_items, IsRetired, IsHandedSo}
+use Rattle.script_trace.specs.Laws.{TracesKeepPromises}
+use Rattle.script_trace.proofs.Histories.{opening_runs, leads_run}
+use Rattle.script_trace.proofs.BlockFills.{leads_agree, opening_agrees}
+use Rattle.script_trace.proofs.Acquisitions.{retired_blocks}
+use Rattle.script_trace.proofs.Starting.{leads_clean, opening_clean}
+use Rattle.script_trace.proofs.Handing.{leads_empty, opening_empty, filled_all, handed_all}
+
+pub traces_keep : TracesKeepPromises
+traces_keep c lines t some are leads =
+    let run : Run t.entries = leads_run c opening lines t leads opening_runs in
+    let P : Item → Type 0 = IsRetired c t.inputs in
+    let agree : tried_blocks t ≡ retired_items c t.inputs = leads_agree c opening lines t are leads (opening_agrees c) in
+    let clean = leads_clean c opening lines t leads (opening_clean c) in
+    let blocks : AllByRecursion P (tried_blocks t) = subst (λ l. AllByRecursion P l) (sym agree) (retired_blocks c t.inputs some clean.starts) in
+    let empty = leads_empty c opening lines t leads opening_empty in
+    record {
+      run = run;
+      owned = λ front rest is. prefix_cases t.entries front rest run is;
+      legal = run_legal t.entries run;
+      retired = agree;
+      blocks = blocks;
+      handed = handed_all (IsHandedSo c t.inputs) t.entries (filled_all P t.entries empty blocks);
+    }

@@ -1,0 +1,5 @@
+use Rattle.script_trace.proofs.OneReport.{report_one}
+use Rattle.script_trace.proofs.laws.report_is_one.Goals as goal
+
+pub returns : goal.returns
+returns c = report_one

@@ -1,0 +1,95 @@
+-- What holds of the trace of every replay script.
+use Rattle.std.specs.Prelude.{◌≡◌, ◌≢◌, ⊤, ℕ, ◌+◌, ◌≤◌, List, [], ◌++◌, length, None}
+use Rattle.std.specs.List.{AllByRecursion}
+use Rattle.gev_script.specs.Lines.{ScriptLine}
+use Rattle.gev_script.specs.Spelling.{IsScriptLine}
+use Rattle.script_runs.specs.declared.ran.Ran.{Ran}
+use Rattle.script_runs.specs.Runs.{RunsLines, AreLines}
+use Rattle.script_runs.specs.Verdicts.{Judges}
+use Rattle.board_machine.specs.declared.events.Entry.{Entry}
+use Rattle.board_machine.specs.Histories.{After, Run}
+use Rattle.board_machine.specs.Handout.{IsLegal, handed_items}
+use Rattle.board_machine.specs.Owners.{IsOwned}
+use Rattle.acquisition_machine.specs.declared.config.AcqConfig.{AcqConfig}
+use Rattle.acquisition_machine.specs.Runs.{After as AcqAfter}
+use Rattle.script_trace.specs.Trace.{Trace, board}
+use Rattle.script_trace.specs.Adding.{Leads}
+use Rattle.script_trace.specs.Opening.{opening}
+use Rattle.script_trace.specs.Standing.{Standing, first, running, ReplayRuns, ReplayRefuses, replay_verdict, IsBehind}
+use Rattle.script_trace.specs.Fills.{tried_blocks, retired_items, IsRetired, IsHandedSo}
+
+-- The history is one that the board machine makes; at each step of it each buffer has one owner; filled
+-- buffers are handed out once, in the order of their fills, and none after a close. What the acquisition
+-- filled, or tried to fill where the stream was closed, are the blocks that the acquisition machine
+-- retires with a buffer, all of them and in order. Each of them holds its block's frame, or what came of
+-- it; and so does each buffer that was handed out, but for those with the empty record.
+pub record KeepsPromises (c : AcqConfig) (t : Trace) : Type 0 where
+  pub run : Run t.entries
+  pub owned : (front rest : List Entry) → t.entries ≡ front ++ rest → IsOwned (After front)
+  pub legal : IsLegal t.entries
+  pub retired : tried_blocks t ≡ retired_items c t.inputs
+  pub blocks : AllByRecursion (IsRetired c t.inputs) (tried_blocks t)
+  pub handed : AllByRecursion (IsHandedSo c t.inputs) (handed_items t.entries)
+
+-- so it is of every trace that lines lead to
+abbrev pub TracesKeepPromises : Type 0
+TracesKeepPromises =
+    (c : AcqConfig) (lines : List ScriptLine) (t : Trace) → 1 ≤ c.window → AllByRecursion IsScriptLine lines
+    → Leads c opening lines t → KeepsPromises c t
+
+-- Between two lines the acquisition awaits no claim; and where the stream isn't running no block is open, so
+-- that a start may come.
+pub record Rests (c : AcqConfig) (t : Trace) : Type 0 where
+  pub unasked : (AcqAfter c t.inputs).asked ≡ None
+  pub none_open : (board t).run ≢ 1 → (AcqAfter c t.inputs).opens ≡ []
+
+abbrev pub TracesRest : Type 0
+TracesRest = (c : AcqConfig) (lines : List ScriptLine) (t : Trace) → 1 ≤ c.window → Leads c opening lines t → Rests c t
+
+abbrev pub StandsWell : Standing → Type 0
+StandsWell first = ⊤
+StandsWell (running c t) = KeepsPromises c t
+
+-- this is the report so far
+abbrev pub HasSaid : List ℕ → Standing → Type 0
+HasSaid text first = text ≡ []
+HasSaid text (running c t) = t.text ≡ text
+
+-- So it is of every script, however far it was run, with the last line that was run too; and the trace's
+-- text is the report of its lines.
+pub record RunsKeepPromises : Type 0 where
+  pub so_far :
+      (lines : List (List ℕ)) (text : List ℕ) (new : Standing) → AreLines lines
+      → RunsLines ReplayRuns first 0 lines text new → StandsWell new
+  pub last :
+      (lines : List (List ℕ)) (text line report : List ℕ) (ran : Ran) (now new : Standing) → AreLines lines → length line ≤ 20000
+      → RunsLines ReplayRuns first 0 lines text now → ReplayRuns now (length lines + 1) line ran report new → StandsWell new
+  pub said :
+      (lines : List (List ℕ)) (text : List ℕ) (new : Standing)
+      → RunsLines ReplayRuns first 0 lines text new → HasSaid text new
+
+-- The lines are judged by their numbers and bytes alone.
+abbrev pub LinesAreJudged : Type 0
+LinesAreJudged = Judges ReplayRuns ReplayRefuses replay_verdict IsBehind
+
+-- Lines lead to one trace.
+abbrev pub TraceIsOne : Type 0
+TraceIsOne =
+    (c : AcqConfig) (lines : List ScriptLine) (t a b : Trace) → AllByRecursion IsScriptLine lines
+    → Leads c t lines a → Leads c t lines b → a ≡ b
+
+-- two reports, and how the script stands after each
+pub record IsSame (said said_also : List ℕ) (new new_also : Standing) : Type 0 where
+  pub text : said ≡ said_also
+  pub standing : new ≡ new_also
+
+-- One script has one report: the same lines lead from the same standing to one report and one standing,
+-- and a line can't both go on and end the script.
+pub record ReportIsOne : Type 0 where
+  pub lines_agree :
+      (m : Standing) (n : ℕ) (lines : List (List ℕ)) (text text_also : List ℕ) (new new_also : Standing) → AreLines lines
+      → RunsLines ReplayRuns m n lines text new → RunsLines ReplayRuns m n lines text_also new_also → IsSame text text_also new new_also
+  pub line_agrees :
+      (m : Standing) (n : ℕ) (line : List ℕ) (ran ran_also : Ran) (text text_also : List ℕ) (new new_also : Standing) → length line ≤ 20000
+      → ReplayRuns m n line ran text new → ReplayRuns m n line ran_also text_also new_also
+      → (ran ≡ ran_also) × IsSame text text_also new new_also

@@ -1,0 +1,14 @@
+pub mod Trace
+pub mod Contents
+pub mod Answers
+pub mod BoardLines
+pub mod StreamLines
+pub mod HandleLines
+pub mod StepLines
+pub mod Adding
+pub mod Opening
+pub mod Ending
+pub mod Standing
+pub mod Fills
+pub mod Laws
+pub mod Worked
