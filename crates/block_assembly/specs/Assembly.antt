@@ -66,6 +66,10 @@ pub record StandsForSome (a : Assembly) : Type 0 where
 abbrev pub block_of : Assembly → ℕ
 block_of a = a.block
 
+-- its buffer's size in bytes
+abbrev pub size_of : Assembly → ℕ
+size_of a = a.size
+
 -- what the steps rest on
 pub record IsSound (a : Assembly) : Type 0 where
   pub payload_size : IsPayloadSize a.payload_size

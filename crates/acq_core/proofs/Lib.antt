@@ -1,0 +1,12 @@
+pub mod Ranges
+pub mod Settling
+pub mod Places
+pub mod Acting
+pub mod Judging
+pub mod Wanting
+pub mod Noting
+pub mod Listening
+pub mod Stopping
+pub mod Opening
+pub mod Rounding
+pub mod Receiving

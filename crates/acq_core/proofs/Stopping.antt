@@ -1,0 +1,83 @@
+-- All blocks retire.
+use Rattle.std.proofs.Common.{◌≡◌, ℕ, ◌<◌, List, [], ◌∷◌, ◌++◌, length, refl, sym, ap, subst, ◌∙◌, append_assoc, arith}
+use Rattle.std.specs.Prelude.{Some, None, vec_len}
+use Rattle.acquisition_machine.specs.declared.config.AcqConfig.{AcqConfig}
+use Rattle.acquisition_machine.specs.Blocks.{Open, fill_of, fills}
+use Rattle.acquisition_machine.specs.Machine.{State, stop, restart, floor_after, all_stopped, step}
+use Rattle.acq_core.specs.declared.machine.Machine.{Machine}
+use Rattle.acq_core.specs.Standing.{SlotsStand, AreSlots, Acts, floor_of, HasRoom}
+use Rattle.acq_core.specs.Retiring.{ChangesSlots, RetiresFirst, RetiresAll}
+use Rattle.acq_core.specs.Turning.{Gives}
+use Rattle.acq_core.proofs.Acting.{append_nil}
+use Rattle.acq_core.proofs.Settling.{no_left, mid_config, slots_left}
+
+-- how far stopping has come from the blocks with which it began
+pub record StopsTo (first last : Machine) (os : List Open) : Type 0 where
+  pub left : List Open
+  pub slots : SlotsStand first.config.p last.slots.items left
+  pub fills : last.fills.items ++ fills first.config.p (all_stopped left) ≡ first.fills.items ++ fills first.config.p (all_stopped os)
+  pub floor : floor_after (floor_of last.floor) (all_stopped left) ≡ floor_after (floor_of first.floor) (all_stopped os)
+
+pub record Stopping (first last : Machine) : Type 0 where
+  pub part : (os : List Open) → SlotsStand first.config.p first.slots.items os → StopsTo first last os
+  pub slots : AreSlots last
+  pub changes : ChangesSlots first last
+  pub room : HasRoom last
+
+stop_left : (first mid last : Machine) (os left : List Open) → SlotsStand first.config.p mid.slots.items left → mid.config ≡ first.config → 0 < length mid.slots.items
+    → ((o : Open) (rest : List Open) → SlotsStand mid.config.p mid.slots.items (o ∷ rest) → RetiresFirst mid last o rest)
+    → mid.fills.items ++ fills first.config.p (all_stopped left) ≡ first.fills.items ++ fills first.config.p (all_stopped os)
+    → floor_after (floor_of mid.floor) (all_stopped left) ≡ floor_after (floor_of first.floor) (all_stopped os)
+    → StopsTo first last os
+stop_left first mid last os [] s config some r fill floor = absurd (no_left first.config.p mid.slots.items s some)
+stop_left first mid last os (o ∷ left) s config some r fill floor =
+    let one = r o left (subst (λ (k : AcqConfig). SlotsStand k.p mid.slots.items (o ∷ left)) (sym config) s) in
+    let p : ℕ = first.config.p in
+    record {
+      left = left;
+      slots = subst (λ (k : AcqConfig). SlotsStand k.p last.slots.items left) config one.slots;
+      fills = ap (λ l. l ++ fills p (all_stopped left)) (one.fills ∙ ap (λ (k : AcqConfig). mid.fills.items ++ fill_of k.p o o.given) config)
+          ∙ append_assoc mid.fills.items (fill_of p o o.given) (fills p (all_stopped left)) ∙ fill;
+      floor = ap (λ k. floor_after k (all_stopped left)) one.floor ∙ floor;
+    }
+
+pub stopping_one : (first mid last : Machine) → Stopping first mid → 0 < vec_len mid.slots
+    → ((o : Open) (rest : List Open) → SlotsStand mid.config.p mid.slots.items (o ∷ rest) → RetiresFirst mid last o rest)
+    → ChangesSlots mid last → HasRoom last → Stopping first last
+stopping_one first mid last s some r ch room =
+    let count : mid.slots.len ≡ length mid.slots.items = mid.slots.ok.0 in
+    let more : 0 < length mid.slots.items = omega arith in
+    record {
+      part = λ os stands.
+          let m = s.part os stands in
+          stop_left first mid last os m.left m.slots (mid_config first mid s.changes) more r m.fills m.floor;
+      slots = slots_left mid last s.slots.0 s.slots.1 (mid_config mid last ch) more r;
+      changes = ch ∙ ap (λ (m : Machine). record m { floor = last.floor; slots = last.slots; spare = last.spare; fills = last.fills }) s.changes;
+      room = room;
+    }
+
+-- the turn
+pub stop_gives : (a b : Machine) (s : State) → Acts a s → RetiresAll (record a { asked = None }) b (all_stopped s.opens) [] → ChangesSlots (record a { asked = None }) b → Gives a b (step a.config s stop)
+stop_gives a b s acts r ch =
+    let config : b.config ≡ a.config = ap (λ (m : Machine). m.config) ch in
+    record {
+      acts = record {
+        moment = ap (λ (m : Machine). m.moment) ch ∙ acts.moment;
+        floor = r.floor ∙ ap (λ low. floor_after low (all_stopped s.opens)) acts.floor;
+        slots = subst (λ (k : AcqConfig). SlotsStand k.p b.slots.items []) (sym config) r.slots;
+        asked = ap (λ (m : Machine). m.asked) ch;
+        counts = ap (λ (m : Machine). m.counts) ch ∙ acts.counts;
+        number = ap (λ (m : Machine). m.number) ch ∙ acts.number;
+      };
+      fills = r.fills;
+      requests = ap (λ (m : Machine). m.requests.items) ch ∙ sym (append_nil a.requests.items);
+      config = config;
+    }
+
+pub restart_gives : (a : Machine) (s : State) → Acts a s → Gives a (record a { asked = None; floor = Some 1 }) (step a.config s restart)
+restart_gives a s acts = record {
+  acts = record { moment = acts.moment; floor = refl; slots = acts.slots; asked = refl; counts = acts.counts; number = acts.number };
+  fills = sym (append_nil a.fills.items);
+  requests = sym (append_nil a.requests.items);
+  config = refl;
+}

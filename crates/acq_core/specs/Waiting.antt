@@ -1,0 +1,24 @@
+-- What waits to be taken: fills, and requests as the bytes that are sent.
+use Rattle.std.specs.Prelude.{ℕ, ◌≤◌, List, map}
+use Rattle.std.specs.List.{AllByRecursion}
+use Rattle.gvcp_wire.specs.Control.{plain}
+use Rattle.gvcp_aux.specs.Bodies.{resend_head, resend_command}
+use Rattle.acquisition_machine.specs.declared.retired.Retired.{Retired}
+use Rattle.acq_core.specs.declared.asked.Asked.{Asked}
+use Rattle.acq_core.specs.declared.machine.Machine.{Machine}
+
+-- the command's 28 bytes
+abbrev pub asked_bytes : Asked → List ℕ
+asked_bytes a = plain (resend_head a.number) (resend_command a.resend)
+
+-- the fills that wait, first in first
+abbrev pub waiting_fills : Machine → List Retired
+waiting_fills m = m.fills.items
+
+-- the requests that wait, first in first
+abbrev pub waiting_requests : Machine → List (List ℕ)
+waiting_requests m = map asked_bytes m.requests.items
+
+-- each has a number from 1 on
+abbrev pub AreNumbered : Machine → Type 0
+AreNumbered m = AllByRecursion (λ a. 1 ≤ a.number) m.requests.items

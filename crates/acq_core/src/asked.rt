@@ -1,0 +1,10 @@
+use gvcp_aux::Resend;
+
+/// A request that waits to be sent.
+#[derive(Clone, Copy, Debug, PartialEq, Eq)]
+pub struct Asked {
+    /// Its request number, from 1 on.
+    pub(crate) number: u16,
+    /// What it asks for.
+    pub(crate) resend: Resend,
+}
