@@ -1,0 +1,9 @@
+pub mod Words
+pub mod Jobs
+pub mod Past
+pub mod Passing
+pub mod Repeats
+pub mod Sound
+pub mod Sending
+pub mod Order
+pub mod Strangers

@@ -1,0 +1,10 @@
+pub mod Words
+pub mod Camera
+pub mod Access
+pub mod Stream
+pub mod Commands
+pub mod Events
+pub mod Rows
+pub mod Laws
+pub mod Primary
+pub mod Sending
