@@ -1,0 +1,16 @@
+pub mod Decoding
+pub mod Frames
+pub mod Shelves
+pub mod Own
+pub mod Grown
+pub mod Later
+pub mod Holders
+pub mod Opens
+pub mod Meets
+pub mod Bits
+pub mod Pools
+pub mod Turns
+pub mod Carried
+pub mod Handling
+pub mod Partings
+pub mod Waits

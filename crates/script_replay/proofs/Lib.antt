@@ -1,0 +1,16 @@
+pub mod Quiet
+pub mod Places
+pub mod Told
+pub mod Lines
+pub mod Flushed
+pub mod Announced
+pub mod Lent
+pub mod Stepping
+pub mod Named
+pub mod Began
+pub mod Closing
+pub mod Retiring
+pub mod Driving
+pub mod Claiming
+pub mod Decoding
+pub mod Resting

@@ -1,0 +1,129 @@
+-- The acquisition beside the board: where the buffers of its open blocks are, and what a line that drives it
+-- does to both.
+use Rattle.std.specs.Prelude.{◌≡◌, ◌≢◌, ⊤, ℕ, ◌<◌, Bool, List, [], ◌∷◌, ◌++◌, length, Option, None, Some, slice_set}
+use Rattle.gev_report.specs.ReplayLines.{request_line}
+use Rattle.board_machine.specs.declared.events.Entry.{Entry}
+use Rattle.board_machine.specs.declared.events.Event.{Event}
+use Rattle.board_machine.specs.declared.events.Event.TheVariants.{Claim}
+use Rattle.board_machine.specs.Machine.{InHand, word_at}
+use Rattle.board_machine.specs.Adding.{entries_of, Adds, AddsEntry, KeepsActors}
+use Rattle.board_machine.specs.Histories.{RunsFrom}
+use Rattle.board_machine.specs.Handout.{handed}
+use Rattle.board_calls.specs.Rounds.{filled_or_laid}
+use Rattle.board_model.specs.Plain.{PlainState, IsLifted}
+use Rattle.acquisition_machine.specs.declared.retired.Retired.{Retired}
+use Rattle.acquisition_machine.specs.Blocks.{Given, fills}
+use Rattle.acquisition_machine.specs.Machine.{Input, claimed}
+use Rattle.acquisition_machine.specs.Runs.{turn}
+use Rattle.acq_core.specs.declared.machine.Machine.{Machine}
+use Rattle.acq_core.specs.Standing.{IsConfig}
+use Rattle.acq_core.specs.Receiver.{config_of, asked_block, buffers, Stands, Takes}
+use Rattle.acq_core.specs.Waiting.{waiting_fills, waiting_requests}
+use Rattle.script_trace.specs.Trace.{Trace, Part, board, grown, acquirer}
+use Rattle.script_trace.specs.Contents.{contents_of, FillsFrom}
+use Rattle.script_trace.specs.StreamLines.{FillsRetired, outcome}
+use Rattle.script_replay.specs.Boards.{IsLeftBy, IsReady}
+
+-- ---- the buffers of open blocks
+
+-- The buffer is the acquisition's: its place is in the acquisition's hands, and the buffer is lifted out of it.
+pub record IsAway (s : PlainState) (g : Given) : Type 0 where
+  pub in_hand : InHand s.board acquirer g.place
+  pub lifted : IsLifted s g.place
+  pub size : g.size ≡ (word_at s.board g.place).size
+  pub within : g.place < length s.contents
+
+-- none of these is the buffer of this place
+abbrev pub AreApart : ℕ → List Given → Type 0
+AreApart i [] = ⊤
+AreApart i (g ∷ gs) = (g.place ≢ i) × AreApart i gs
+
+-- These buffers are the acquisition's, each of another place.
+abbrev pub AreAway : PlainState → List Given → Type 0
+AreAway s [] = ⊤
+AreAway s (g ∷ gs) = IsAway s g × AreApart g.place gs × AreAway s gs
+
+-- Between two lines nothing waits in the receiver, it awaits no claim, and the buffers of its open blocks
+-- are the acquisition's.
+pub record IsAtRest (s : PlainState) (m : Machine) : Type 0 where
+  pub ready : IsReady s
+  pub config : IsConfig (config_of m)
+  pub inputs : List Input
+  pub stands : Stands m inputs
+  pub no_fill : waiting_fills m ≡ []
+  pub no_request : waiting_requests m ≡ []
+  pub unasked : asked_block m ≡ None
+  pub away : AreAway s (buffers m)
+
+-- What is lifted out of a place in the acquisition's hands stays lifted.
+pub record KeepsLifted (s new : PlainState) : Type 0 where
+  pub lifted : (i : ℕ) → InHand s.board acquirer i → IsLifted s i → IsLifted new i
+  pub wide : length new.contents ≡ length s.contents
+
+-- ---- buffers that come back
+
+-- The buffer is filled into the output, or laid where the stream was closed.
+pub record FillsOne (x : Retired) (s new : PlainState) : Type 0 where
+  pub filled : Bool
+  pub adds : Adds s.board acquirer (filled_or_laid x.place x.buf filled) new.board
+  pub contents : new.contents ≡ slice_set s.contents x.place (Some x.buf)
+
+-- These are filled, in order, or laid where the stream was closed.
+pub record FillsAll (xs : List Retired) (s new : PlainState) : Type 0 where
+  pub events : List Event
+  pub filled : FillsRetired xs events
+  pub adds : Adds s.board acquirer events new.board
+  pub actors : KeepsActors s.board new.board
+  pub none_taken : handed (entries_of acquirer events) ≡ []
+  pub sizes : (i : ℕ) → (word_at new.board i).size ≡ (word_at s.board i).size
+  pub left : (h : List Entry) → IsLeftBy s h → IsLeftBy new (h ++ entries_of acquirer events)
+
+-- An input came to a receiver in which nothing waited, and these buffers were taken out.
+pub record Turned (m n : Machine) (i : Input) (xs : List Retired) : Type 0 where
+  pub stands : (q : List Input) → Stands m q → Stands n (q ++ i ∷ [])
+  pub fills : (q : List Input) → Stands m q → xs ≡ fills (config_of m).p (turn (config_of m) q i).retired
+  pub config : config_of n ≡ config_of m
+
+-- An input came, and the buffers that came back were filled.
+pub record Settled (i : Input) (s : PlainState) (m : Machine) (new : PlainState) (n : Machine) : Type 0 where
+  pub retired : List Retired
+  pub turned : Turned m n i retired
+  pub all : FillsAll retired s new
+
+-- ---- claims
+
+-- A place was claimed and its buffer lifted out, or the pool was empty; and the receiver was told the outcome.
+pub record Claims (s : PlainState) (m : Machine) (new : PlainState) (n : Machine) : Type 0 where
+  pub claim : Option ℕ
+  pub step : AddsEntry s.board acquirer (Claim claim) new.board
+  pub takes : Takes m n (claimed (outcome s.board claim))
+  pub left : (h : List Entry) → IsLeftBy s h → IsLeftBy new (h ++ entries_of acquirer (Claim claim ∷ []))
+
+-- ---- lines
+
+-- the lines of these requests, each by its bytes
+abbrev pub lines_of : List (List ℕ) → List ℕ
+lines_of [] = []
+lines_of (r ∷ rs) = request_line r ++ lines_of rs
+
+-- The board and the receiver are what the trace leaves.
+pub record IsBehindTrace (t : Trace) (s : PlainState) (m : Machine) : Type 0 where
+  pub board : IsLeftBy s t.entries
+  pub inputs : Stands m t.inputs
+
+-- The line adds a part with this report, which counts so many datagrams as idle and hands no buffer out,
+-- and the trace with it leaves the new board and receiver.
+pub record DrivesAt (Line : Trace → Part → Type 0) (idle : ℕ) (said : List ℕ) (new : PlainState) (n : Machine) (t : Trace) : Type 0 where
+  pub part : Part
+  pub spells : Line t part
+  pub runs : RunsFrom (board t) part.entries
+  pub fills : FillsFrom (contents_of t.entries) part.entries
+  pub handles : part.handles ≡ t.handles
+  pub idles : part.idle ≡ idle
+  pub text : part.text ≡ said
+  pub none_taken : handed part.entries ≡ []
+  pub behind : IsBehindTrace (grown t part) new n
+
+-- So it is at every trace that left the old ones.
+abbrev pub Drives : (Trace → Part → Type 0) → ℕ → PlainState → Machine → List ℕ → PlainState → Machine → Type 0
+Drives Line idle s m said new n = (t : Trace) → IsBehindTrace t s m → DrivesAt Line idle said new n t

@@ -1,0 +1,5 @@
+pub mod Boards
+pub mod Takes
+pub mod Steps
+pub mod Closes
+pub mod Acquiring
