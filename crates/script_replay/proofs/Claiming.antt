@@ -38,8 +38,11 @@ use Rattle.acq_core.specs.Waiting.{waiting_fills, waiting_requests}
 use Rattle.script_trace.specs.Trace.{Part, board, acquirer}
 use Rattle.script_trace.specs.Contents.{contents_of}
 use Rattle.script_trace.specs.StreamLines.{FillsRetired, HeardAgain, Hears, outcome, told_twice, retired_by, tells}
+use Rattle.script_replay.specs.declared.fill_counts.FillCounts.{FillCounts}
 use Rattle.script_replay.specs.Boards.{LiesAsTold, IsLeftBy, IsReady}
 use Rattle.script_replay.specs.Acquiring.{IsAway, AreApart, AreAway, IsAtRest, FillsAll, Settled, Drives, Claims}
+use Rattle.script_replay.specs.Counting.{counted_on, blocks_in}
+use Rattle.script_replay.proofs.Counted.{counted-append, blocks_grow}
 use Rattle.script_replay.proofs.Lines.{contents-append}
 use Rattle.script_replay.proofs.Places.{set_apart}
 use Rattle.script_replay.proofs.Retiring.{own_fills}
@@ -142,8 +145,8 @@ beside_lies s new told i j beside away as_told = go (cases_eq i j) as_told
     go (inr apart) (inl e) = inl (beside.lies i apart ∙ e)
     go (inr apart) (inr lifted) = inr (beside.lies i apart ∙ lifted.0, beside.hands i lifted.1)
 
-counted : (s : PlainState) → IsReady s → IsCounted s.board
-counted s ready = subst IsCounted (sym ready.left.board.state) (run_owned ready.history ready.left.board.run)
+well_owned : (s : PlainState) → IsReady s → IsCounted s.board
+well_owned s ready = subst IsCounted (sym ready.left.board.state) (run_owned ready.history ready.left.board.run)
 
 -- the pool was empty
 pub claims_none : (s new : PlainState) (m n : Machine) → AddsEntry s.board acquirer (Claim None) new.board → new.contents ≡ s.contents → Takes m n (claimed None) → Claims s m new n
@@ -191,7 +194,7 @@ pub some_away : (s mid new : PlainState) (m n : Machine) (place : ℕ) (buf : Fi
     → length buf.bytes ≡ (word_at mid.board place).size → new.board ≡ mid.board → new.contents ≡ set mid.contents place nothing → TakesGiven (given_as (Some (place, buf))) (asked_block m) (buffers m) (buffers n) → AreAway s (buffers m) → AreAway new (buffers n)
 some_away s mid new m n place buf ready step same has lies size board_same gone takes away =
     given_away s new (record { place = place; size = length buf.bytes }) (asked_block m) (buffers m) (buffers n) takes (claimed_beside s mid new place step same board_same gone)
-    (all_apart s place (buffers m) (λ i mine. claim_apart s.board acquirer i place mid.board (counted s ready) step mine) away)
+    (all_apart s place (buffers m) (λ i mine. claim_apart s.board acquirer i place mid.board (well_owned s ready) step mine) away)
     (claimed_away mid new place buf has lies size board_same gone) away
 
 pub claims_actors : (s new : PlainState) (m n : Machine) → Claims s m new n → KeepsActors s.board new.board
@@ -207,14 +210,14 @@ claims_ready s new m n claims ready = record {
 -- ---- a datagram
 
 -- what an input left, where its buffers were filled
-pub settled_by : (s new : PlainState) (m mid n : Machine) (i : Input) → Takes m mid i → KeepsBlocks mid n → waiting_fills m ≡ [] → FillsAll (waiting_fills mid) s new → Settled i s m new n
-settled_by s new m mid n i takes keeps none all = record { retired = waiting_fills mid; turned = turned m mid n i takes keeps none; all = all }
+pub settled_by : (s new : PlainState) (m mid n : Machine) (a b : FillCounts) (i : Input) → Takes m mid i → KeepsBlocks mid n → waiting_fills m ≡ [] → FillsAll (waiting_fills mid) s a new b → Settled i s m a new n b
+settled_by s new m mid n a b i takes keeps none all = record { retired = waiting_fills mid; turned = turned m mid n i takes keeps none; all = all }
 
 -- A datagram that wants no buffer.
-pub hears_at : (s new : PlainState) (m n : Machine) (bytes : List ℕ) (need : Need) → Settled (datagram bytes) s m new n → ((q : List Input) → Stands m q → (turn (config_of m) q (datagram bytes)).need ≡ Some need) → asked_by (Some need) ≡ None
-    → Drives (λ t. Hears (config_of m) t bytes (asked_by (turn (config_of m) t.inputs (datagram bytes)).need)) 0 s m [] new n
-hears_at s new m n bytes need settled answer none t behind =
-    settles_at s s new m n [] (datagram bytes) settled.retired [] [] (λ u. Hears (config_of m) u bytes (asked_by (turn (config_of m) u.inputs (datagram bytes)).need)) t
+pub hears_at : (s new : PlainState) (m n : Machine) (a b : FillCounts) (bytes : List ℕ) (need : Need) → Settled (datagram bytes) s m a new n b → ((q : List Input) → Stands m q → (turn (config_of m) q (datagram bytes)).need ≡ Some need) → asked_by (Some need) ≡ None
+    → Drives (λ t. Hears (config_of m) t bytes (asked_by (turn (config_of m) t.inputs (datagram bytes)).need)) 0 s m a [] new n b
+hears_at s new m n a b bytes need settled answer none t behind =
+    settles_at s s new m n a b [] (datagram bytes) settled.retired [] [] (λ u. Hears (config_of m) u bytes (asked_by (turn (config_of m) u.inputs (datagram bytes)).need)) t
     (λ es filled. subst (λ (wanted : Option ℕ). Hears (config_of m) t bytes wanted (tells t [] (datagram bytes) es [])) (sym (ap asked_by (answer t.inputs behind.inputs) ∙ none))
     (record { events = es; filled = filled; is = refl }))
     (none_called s) settled.all settled.turned refl behind
@@ -224,10 +227,10 @@ twice : (q : List Input) (i j k : Input) → ((q ++ i ∷ []) ++ j ∷ []) ++ k 
 twice q i j k = append_assoc (q ++ i ∷ []) (j ∷ []) (k ∷ []) ∙ append_assoc q (i ∷ []) (j ∷ k ∷ [])
 
 -- A datagram that wants a buffer.
-pub hears_twice : (s given_up given new : PlainState) (m first held n : Machine) (bytes : List ℕ) (block : ℕ) → Settled (datagram bytes) s m given_up first → Claims given_up first given held → Settled (datagram bytes) given held new n
+pub hears_twice : (s given_up given new : PlainState) (m first held n : Machine) (a b c : FillCounts) (bytes : List ℕ) (block : ℕ) → Settled (datagram bytes) s m a given_up first b → Claims given_up first given held → Settled (datagram bytes) given held b new n c
     → ((q : List Input) → Stands m q → (turn (config_of m) q (datagram bytes)).need ≡ Some (Buffer block))
-    → Drives (λ t. Hears (config_of m) t bytes (asked_by (turn (config_of m) t.inputs (datagram bytes)).need)) 0 s m [] new n
-hears_twice s given_up given new m first held n bytes block settled claims again answer t behind = record {
+    → Drives (λ t. Hears (config_of m) t bytes (asked_by (turn (config_of m) t.inputs (datagram bytes)).need)) 0 s m a [] new n c
+hears_twice s given_up given new m first held n a b c bytes block settled claims again answer t behind = record {
   part = part;
   spells = subst (λ (wanted : Option ℕ). Hears (config_of m) t bytes wanted part) (sym (ap asked_by (answer t.inputs behind.inputs))) heard;
   runs = runs_three;
@@ -240,6 +243,7 @@ hears_twice s given_up given new m first held n bytes block settled claims again
     board = subst (λ (h : List Entry). IsLeftBy new h) entries (again.all.left ((t.entries ++ entries_of acquirer one) ++ entries_of acquirer (Claim claims.claim ∷ [])) (claims.left (t.entries ++ entries_of acquirer one) (settled.all.left t.entries behind.board)));
     inputs = subst (λ (q : List Input). Stands n q) (twice t.inputs (datagram bytes) (claimed (outcome (board t) claims.claim)) (datagram bytes)) (again.turned.stands ((t.inputs ++ datagram bytes ∷ []) ++ claimed (outcome (board t) claims.claim) ∷ []) held_stands);
   };
+  counted = counted;
 }
   where
     one : List Event
@@ -283,6 +287,14 @@ hears_twice s given_up given new m first held n bytes block settled claims again
         ap handed (entries_of-append acquirer one (Claim claims.claim ∷ two)) ∙ handed-append (entries_of acquirer one) (entries_of acquirer (Claim claims.claim ∷ two))
         ∙ ap (λ is. is ++ handed (entries_of acquirer two)) settled.all.none_taken ∙ again.all.none_taken
 
+    blocks : blocks_in (entries_of acquirer (one ++ Claim claims.claim ∷ two)) ≡ blocks_in (entries_of acquirer one) ++ blocks_in (entries_of acquirer two)
+    blocks = ap blocks_in (entries_of-append acquirer one (Claim claims.claim ∷ two)) ∙ blocks_grow (entries_of acquirer one) (entries_of acquirer (Claim claims.claim ∷ two))
+
+    counted : c ≡ counted_on a (blocks_in part.entries)
+    counted =
+        again.all.counted ∙ ap (λ (k : FillCounts). counted_on k (blocks_in (entries_of acquirer two))) settled.all.counted
+        ∙ sym (counted-append a (blocks_in (entries_of acquirer one)) (blocks_in (entries_of acquirer two))) ∙ ap (counted_on a) (sym blocks)
+
     all_adds : Adds s.board acquirer (one ++ Claim claims.claim ∷ two) new.board
     all_adds =
         adds_both s.board given_up.board new.board acquirer one (Claim claims.claim ∷ two) settled.all.adds
@@ -299,13 +311,13 @@ hears_twice s given_up given new m first held n bytes block settled claims again
       displaced = subst (λ (ys : List Retired). FillsRetired ys one) (settled.turned.fills t.inputs behind.inputs) settled.all.filled;
       filled = subst (λ (ys : List Retired). FillsRetired ys two)
           (again.turned.fills ((t.inputs ++ datagram bytes ∷ []) ++ claimed (outcome (board t) claims.claim) ∷ []) held_stands
-          ∙ ap (λ (c : AcqConfig). retired_by c ((t.inputs ++ datagram bytes ∷ []) ++ claimed (outcome (board t) claims.claim) ∷ []) (datagram bytes)) config_held
+          ∙ ap (λ (g : AcqConfig). retired_by g ((t.inputs ++ datagram bytes ∷ []) ++ claimed (outcome (board t) claims.claim) ∷ []) (datagram bytes)) config_held
           ∙ ap (λ (q : List Input). retired_by (config_of m) q (datagram bytes)) (append_assoc t.inputs (datagram bytes ∷ []) (claimed (outcome (board t) claims.claim) ∷ []))) again.all.filled;
       is = refl;
     }
 
 -- after the outcome was told, the datagram asks for no buffer
-pub asks_no_more : (s given_up given : PlainState) (m first held : Machine) (bytes : List ℕ) (block : ℕ) (q : List Input) (again : Need) → IsConfig (config_of m) → Stands m q → Settled (datagram bytes) s m given_up first → Claims given_up first given held
+pub asks_no_more : {a b : FillCounts} (s given_up given : PlainState) (m first held : Machine) (bytes : List ℕ) (block : ℕ) (q : List Input) (again : Need) → IsConfig (config_of m) → Stands m q → Settled (datagram bytes) s m a given_up first b → Claims given_up first given held
     → ((r : List Input) → Stands m r → (turn (config_of m) r (datagram bytes)).need ≡ Some (Buffer block))
     → ((r : List Input) → Stands held r → (turn (config_of held) r (datagram bytes)).need ≡ Some again) → asked_by (Some again) ≡ None
 asks_no_more s given_up given m first held bytes block q again config stands settled claims answer answer_too =
@@ -324,7 +336,7 @@ asks_no_more s given_up given m first held bytes block q again config stands set
     none_again None = refl
     none_again (Some g) = refl
 
-pub hear_rests : (s new : PlainState) (m n : Machine) (bytes : List ℕ) → IsAtRest s m → Settled (datagram bytes) s m new n → IsReady new → waiting_fills n ≡ [] → waiting_requests n ≡ [] → asked_block n ≡ None → AreAway new (buffers n) → IsAtRest new n
+pub hear_rests : {a b : FillCounts} (s new : PlainState) (m n : Machine) (bytes : List ℕ) → IsAtRest s m → Settled (datagram bytes) s m a new n b → IsReady new → waiting_fills n ≡ [] → waiting_requests n ≡ [] → asked_block n ≡ None → AreAway new (buffers n) → IsAtRest new n
 hear_rests s new m n bytes rest settled ready no_fill no_request asked away = record {
   ready = ready;
   config = subst IsConfig (sym settled.turned.config) rest.config;
@@ -336,7 +348,7 @@ hear_rests s new m n bytes rest settled ready no_fill no_request asked away = re
   away = away;
 }
 
-pub hear_rests_again : (s given_up given new : PlainState) (m first held n : Machine) (bytes : List ℕ) → IsAtRest s m → Settled (datagram bytes) s m given_up first → Claims given_up first given held → Settled (datagram bytes) given held new n
+pub hear_rests_again : {a b c : FillCounts} (s given_up given new : PlainState) (m first held n : Machine) (bytes : List ℕ) → IsAtRest s m → Settled (datagram bytes) s m a given_up first b → Claims given_up first given held → Settled (datagram bytes) given held b new n c
     → IsReady new → waiting_fills n ≡ [] → waiting_requests n ≡ [] → asked_block n ≡ None → AreAway new (buffers n) → IsAtRest new n
 hear_rests_again s given_up given new m first held n bytes rest settled claims again ready no_fill no_request asked away = record {
   ready = ready;

@@ -1,9 +1,8 @@
 -- The line of a datagram: its digits, and whether the stream is running.
-use Rattle.std.proofs.Common.{◌≡◌, ◌≢◌, ℕ, ◌*◌, ◌==◌, Bool, true, false, List, [], length, Result, Ok, Err, refl, sym, ap, subst, ◌∙◌, append-nil, eq-eqb, ne_eqb}
-use Rattle.std.specs.Prelude.{IsOk, MatchResult}
+use Rattle.std.proofs.Common.{◌≡◌, ◌≢◌, ℕ, ◌==◌, Bool, true, false, List, [], Result, Ok, Err, refl, sym, ap, subst, ◌∙◌, append-nil, eq-eqb, ne_eqb}
+use Rattle.std.specs.Prelude.{IsOk}
 use Rattle.hex.specs.declared.error.FromHexError.{FromHexError}
-use Rattle.hex.specs.Hex.{decode_of, decode_sized}
-use Rattle.hex.proofs.HexLemmas.{decode_sized-twice}
+use Rattle.hex.specs.Hex.{decode_of}
 use Rattle.board_machine.specs.declared.events.Entry.{Entry}
 use Rattle.board_machine.specs.Machine.{Board}
 use Rattle.board_model.specs.Plain.{PlainState}
@@ -15,30 +14,16 @@ use Rattle.acq_core.specs.declared.machine.Machine.{Machine}
 use Rattle.acq_core.specs.Receiver.{Stands}
 use Rattle.script_trace.specs.Trace.{board}
 use Rattle.script_trace.specs.StreamLines.{DatagramLine, Hears, HearsIfRunning, idles}
+use Rattle.script_replay.specs.declared.fill_counts.FillCounts.{FillCounts}
 use Rattle.script_replay.specs.Boards.{IsLeftBy}
 use Rattle.script_replay.specs.Acquiring.{DrivesAt, Drives}
 
-ok_value : (r : Result (List ℕ) FromHexError) → IsOk r → (bytes : List ℕ) × (r ≡ Ok bytes)
+pub ok_value : (r : Result (List ℕ) FromHexError) → IsOk r → (bytes : List ℕ) × (r ≡ Ok bytes)
 ok_value (Ok bytes) h = (bytes, refl)
 ok_value (Err e) h = cc
 
-pub decoded : (digits old new : List ℕ) (result : Result (Unit {0}) FromHexError) → IsOk (decode_of digits) → length digits ≡ 2 * length old
-    → MatchResult (decode_sized digits (length old)) (λ bytes. (result ≡ Ok tt) × (new ≡ bytes)) (λ e. result ≡ Err e) → decode_of digits ≡ Ok new
-decoded digits old new result spelled room value = is.1 ∙ ap (λ (bytes : List ℕ). Ok bytes) (sym written.1)
-  where
-    is : (bytes : List ℕ) × (decode_of digits ≡ Ok bytes)
-    is = ok_value (decode_of digits) spelled
-
-    sized : decode_sized digits (length old) ≡ Ok is.0
-    sized = decode_sized-twice digits (length old) room ∙ is.1
-
-    written : (result ≡ Ok tt) × (new ≡ is.0)
-    written = subst (λ (r : Result (List ℕ) FromHexError). MatchResult r (λ bytes. (result ≡ Ok tt) × (new ≡ bytes)) (λ e. result ≡ Err e)) sized value
-
--- ---- the line
-
-pub idle_drives : (c : AcqConfig) (s : PlainState) (m : Machine) (digits : List ℕ) → IsOk (decode_of digits) → s.board.run ≢ 1 → Drives (λ t. DatagramLine c t digits) 1 s m [] s m
-idle_drives c s m digits spelled stands_still t behind = record {
+pub idle_drives : (c : AcqConfig) (s : PlainState) (m : Machine) (a : FillCounts) (digits : List ℕ) → IsOk (decode_of digits) → s.board.run ≢ 1 → Drives (λ t. DatagramLine c t digits) 1 s m a [] s m a
+idle_drives c s m a digits spelled stands_still t behind = record {
   part = idles t;
   spells = (is.0, is.1, subst (λ (runs : Bool). HearsIfRunning c t is.0 runs (idles t)) (sym still) refl);
   runs = tt;
@@ -51,6 +36,7 @@ idle_drives c s m digits spelled stands_still t behind = record {
     board = subst (λ (h : List Entry). IsLeftBy s h) (sym (append-nil t.entries)) behind.board;
     inputs = subst (λ (q : List Input). Stands m q) (sym (append-nil t.inputs)) behind.inputs;
   };
+  counted = refl;
 }
   where
     is : (bytes : List ℕ) × (decode_of digits ≡ Ok bytes)
@@ -59,9 +45,9 @@ idle_drives c s m digits spelled stands_still t behind = record {
     still : ((board t).run == 1) ≡ false
     still = ne_eqb (board t).run 1 (λ e. stands_still (ap (λ (b : Board). b.run) behind.board.board.state ∙ e))
 
-pub running_drives : (c : AcqConfig) (s new : PlainState) (m n : Machine) (digits bytes : List ℕ) → decode_of digits ≡ Ok bytes → s.board.run ≡ 1
-    → Drives (λ t. Hears c t bytes (asked_by (turn c t.inputs (datagram bytes)).need)) 0 s m [] new n → Drives (λ t. DatagramLine c t digits) 0 s m [] new n
-running_drives c s new m n digits bytes is running drives t behind = record {
+pub running_drives : (c : AcqConfig) (s new : PlainState) (m n : Machine) (a b : FillCounts) (digits bytes : List ℕ) → decode_of digits ≡ Ok bytes → s.board.run ≡ 1
+    → Drives (λ t. Hears c t bytes (asked_by (turn c t.inputs (datagram bytes)).need)) 0 s m a [] new n b → Drives (λ t. DatagramLine c t digits) 0 s m a [] new n b
+running_drives c s new m n a b digits bytes is running drives t behind = record {
   part = heard.part;
   spells = (bytes, is, subst (λ (runs : Bool). HearsIfRunning c t bytes runs heard.part) (sym runs_now) heard.spells);
   runs = heard.runs;
@@ -71,9 +57,10 @@ running_drives c s new m n digits bytes is running drives t behind = record {
   text = heard.text;
   none_taken = heard.none_taken;
   behind = heard.behind;
+  counted = heard.counted;
 }
   where
-    heard : DrivesAt (λ u. Hears c u bytes (asked_by (turn c u.inputs (datagram bytes)).need)) 0 [] new n t
+    heard : DrivesAt (λ u. Hears c u bytes (asked_by (turn c u.inputs (datagram bytes)).need)) 0 a [] new n b t
     heard = drives t behind
 
     runs_now : ((board t).run == 1) ≡ true

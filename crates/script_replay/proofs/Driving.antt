@@ -30,8 +30,11 @@ use Rattle.script_trace.specs.Trace.{Trace, Part, board, caller, acquirer, acts}
 use Rattle.script_trace.specs.Contents.{contents_of}
 use Rattle.script_trace.specs.StreamLines.{FillsRetired, tells, retired_by, requests_text, TickLine, StopLine, StartLine}
 use Rattle.script_trace.specs.Answers.{done_text, refused_text}
+use Rattle.script_replay.specs.declared.fill_counts.FillCounts.{FillCounts}
 use Rattle.script_replay.specs.Boards.{IsLeftBy, IsReady, Acts, ActsAs}
 use Rattle.script_replay.specs.Acquiring.{IsAway, AreAway, IsAtRest, FillsAll, lines_of, Turned, IsBehindTrace, DrivesAt, Drives}
+use Rattle.script_replay.specs.Counting.{counted_on, blocks_in}
+use Rattle.script_replay.proofs.Counted.{blocks_grow, none_by}
 use Rattle.script_replay.proofs.Quiet.{AreQuiet, quiet_fills, quiet_hands, start_quiet, stop_quiet}
 use Rattle.script_replay.proofs.Lines.{left_quiet, quiet_acts, quiet_ready, stays_in_hand, caller_apart}
 use Rattle.script_replay.proofs.Retiring.{keeps_twice, keeps_itself, fills_none, own_fills, fills-append, ready_after}
@@ -53,10 +56,10 @@ turned m mid n i takes keeps none = record {
 }
 
 -- The line settles.
-pub settles_at : (s mid new : PlainState) (m n : Machine) (calls : List Event) (i : Input) (xs : List Retired) (text said : List ℕ) (Line : Trace → Part → Type 0) (t : Trace)
+pub settles_at : (s mid new : PlainState) (m n : Machine) (a b : FillCounts) (calls : List Event) (i : Input) (xs : List Retired) (text said : List ℕ) (Line : Trace → Part → Type 0) (t : Trace)
     → ((es : List Event) → FillsRetired (retired_by (config_of m) t.inputs i) es → Line t (tells t calls i es text))
-    → Called s calls mid → FillsAll xs mid new → Turned m n i xs → said ≡ text → IsBehindTrace t s m → DrivesAt Line 0 said new n t
-settles_at s mid new m n calls i xs text said Line t spells called all goes is behind = record {
+    → Called s calls mid → FillsAll xs mid a new b → Turned m n i xs → said ≡ text → IsBehindTrace t s m → DrivesAt Line 0 a said new n b t
+settles_at s mid new m n a b calls i xs text said Line t spells called all goes is behind = record {
   part = tells t calls i all.events text;
   spells = spells all.events (subst (λ (ys : List Retired). FillsRetired ys all.events) (goes.fills t.inputs behind.inputs) all.filled);
   runs = runs-append (board t) (entries_of caller calls) (entries_of acquirer all.events) first second;
@@ -69,6 +72,10 @@ settles_at s mid new m n calls i xs text said Line t spells called all goes is b
     board = subst (λ (h : List Entry). IsLeftBy new h) (append_assoc t.entries (entries_of caller calls) (entries_of acquirer all.events)) (all.left (t.entries ++ entries_of caller calls) (called.left t.entries behind.board));
     inputs = goes.stands t.inputs behind.inputs;
   };
+  counted =
+      all.counted
+      ∙ ap (counted_on a)
+      (sym (blocks_grow (entries_of caller calls) (entries_of acquirer all.events) ∙ ap (λ xs. xs ++ blocks_in (entries_of acquirer all.events)) (none_by caller calls caller_apart)));
 }
   where
     first : RunsFrom (board t) (entries_of caller calls)
@@ -84,7 +91,7 @@ pub away_before : (s : PlainState) (m mid : Machine) → waiting_fills m ≡ [] 
 away_before s m mid none keeps away =
     subst (λ (gs : List Given). AreAway s gs) (sym (keeps ∙ ap (λ xs. map given_of xs ++ buffers m) none)) away
 
-pub rests : (xs : List Retired) (s new : PlainState) (m mid n : Machine) (i : Input) → IsAtRest s m → Takes m mid i → KeepsBlocks mid n → asked_block mid ≡ None → IsReady s → FillsAll xs s new → waiting_fills n ≡ [] → waiting_requests n ≡ [] → AreAway new (buffers n) → IsAtRest new n
+pub rests : {a b : FillCounts} (xs : List Retired) (s new : PlainState) (m mid n : Machine) (i : Input) → IsAtRest s m → Takes m mid i → KeepsBlocks mid n → asked_block mid ≡ None → IsReady s → FillsAll xs s a new b → waiting_fills n ≡ [] → waiting_requests n ≡ [] → AreAway new (buffers n) → IsAtRest new n
 rests xs s new m mid n i rest takes keeps asked ready all no_fill no_request away = record {
   ready = ready_after xs s new all ready;
   config = subst IsConfig (sym (keeps.config ∙ takes.config)) rest.config;
@@ -146,8 +153,8 @@ none_of [] e = refl
 none_of (x ∷ xs) e = absurd (omega (arith, e))
 
 -- a line that doesn't come to the acquisition
-pub drives_as : (Line : Trace → Part → Type 0) (k : ℕ) (said : List ℕ) (s new : PlainState) (m : Machine) → Acts Line k 0 s said new → Drives Line 0 s m said new m
-drives_as Line k said s new m acts_so t behind = record {
+pub drives_as : (Line : Trace → Part → Type 0) (k : ℕ) (said : List ℕ) (s new : PlainState) (m : Machine) (a : FillCounts) → acquirer ≢ k → Acts Line k 0 s said new → Drives Line 0 s m a said new m a
+drives_as Line k said s new m a apart acts_so t behind = record {
   part = acts t k did.events said;
   spells = did.spells;
   runs = did.runs;
@@ -157,6 +164,7 @@ drives_as Line k said s new m acts_so t behind = record {
   text = refl;
   none_taken = none_of (handed (entries_of k did.events)) did.taken;
   behind = record { board = did.left; inputs = subst (λ (q : List Input). Stands m q) (sym (append-nil t.inputs)) behind.inputs };
+  counted = ap (counted_on a) (sym (none_by k did.events apart));
 }
   where
     did : ActsAs Line k 0 said new t
@@ -164,20 +172,20 @@ drives_as Line k said s new m acts_so t behind = record {
 
 -- ---- stop
 
-pub stop_drives : (s mid new : PlainState) (m stopped_at n : Machine) (flags : ℕ) (said : List ℕ) → IsAtRest s m → (called : AddsOf s.board caller (Stops flags (Ok tt)) mid.board) → mid.contents ≡ s.contents
-    → Takes m stopped_at stop → FillsAll (waiting_fills stopped_at) mid new → KeepsBlocks stopped_at n → said ≡ done_text (codes "stop") → Drives (λ t. StopLine (config_of m) t flags) 0 s m said new n
-stop_drives s mid new m stopped_at n flags said rest called same takes all keeps is t behind =
-    settles_at s mid new m n called.events stop (waiting_fills stopped_at) (done_text (codes "stop")) said (λ u. StopLine (config_of m) u flags) t
+pub stop_drives : (s mid new : PlainState) (m stopped_at n : Machine) (a b : FillCounts) (flags : ℕ) (said : List ℕ) → IsAtRest s m → (called : AddsOf s.board caller (Stops flags (Ok tt)) mid.board) → mid.contents ≡ s.contents
+    → Takes m stopped_at stop → FillsAll (waiting_fills stopped_at) mid a new b → KeepsBlocks stopped_at n → said ≡ done_text (codes "stop") → Drives (λ t. StopLine (config_of m) t flags) 0 s m a said new n b
+stop_drives s mid new m stopped_at n a b flags said rest called same takes all keeps is t behind =
+    settles_at s mid new m n a b called.events stop (waiting_fills stopped_at) (done_text (codes "stop")) said (λ u. StopLine (config_of m) u flags) t
     (λ es filled. (Ok tt, called.events, called.kind, record { events = es; filled = filled; is = refl }))
     (called_by s mid (Stops flags (Ok tt)) (stop_quiet flags (Ok tt)) called same) all (turned m stopped_at n stop takes keeps rest.no_fill) is behind
 
-pub no_stop_drives : (s mid : PlainState) (m : Machine) (c : AcqConfig) (flags : ℕ) (error : GcError) (said : List ℕ) → AddsOf s.board caller (Stops flags (Err error)) mid.board → mid.contents ≡ s.contents → said ≡ refused_text (codes "stop") error → Drives (λ t. StopLine c t flags) 0 s m said mid m
-no_stop_drives s mid m c flags error said called same is =
-    drives_as (λ t. StopLine c t flags) caller said s mid m
+pub no_stop_drives : (s mid : PlainState) (m : Machine) (a : FillCounts) (c : AcqConfig) (flags : ℕ) (error : GcError) (said : List ℕ) → AddsOf s.board caller (Stops flags (Err error)) mid.board → mid.contents ≡ s.contents → said ≡ refused_text (codes "stop") error → Drives (λ t. StopLine c t flags) 0 s m a said mid m a
+no_stop_drives s mid m a c flags error said called same is =
+    drives_as (λ t. StopLine c t flags) caller said s mid m a caller_apart
     (quiet_acts s mid caller (Stops flags (Err error)) (λ t. StopLine c t flags) (refused_text (codes "stop") error) said caller_apart (stop_quiet flags (Err error)) (λ t es kind. (Err error, es, kind, refl)) called same is)
 
-pub stop_rests : (s mid new : PlainState) (m stopped_at n : Machine) (flags : ℕ) → IsAtRest s m → AddsOf s.board caller (Stops flags (Ok tt)) mid.board → mid.contents ≡ s.contents → Takes m stopped_at stop → KeepsBlocks stopped_at n → asked_block stopped_at ≡ None
-    → FillsAll (waiting_fills stopped_at) mid new → waiting_fills n ≡ [] → waiting_requests n ≡ [] → AreAway new (buffers n) → IsAtRest new n
+pub stop_rests : {a b : FillCounts} (s mid new : PlainState) (m stopped_at n : Machine) (flags : ℕ) → IsAtRest s m → AddsOf s.board caller (Stops flags (Ok tt)) mid.board → mid.contents ≡ s.contents → Takes m stopped_at stop → KeepsBlocks stopped_at n → asked_block stopped_at ≡ None
+    → FillsAll (waiting_fills stopped_at) mid a new b → waiting_fills n ≡ [] → waiting_requests n ≡ [] → AreAway new (buffers n) → IsAtRest new n
 stop_rests s mid new m stopped_at n flags rest called same takes keeps asked all no_fill no_request away =
     rests (waiting_fills stopped_at) mid new m stopped_at n stop (rest_called s mid m (Stops flags (Ok tt)) (stop_quiet flags (Ok tt)) rest called same) takes keeps asked
     (quiet_ready s mid caller (Stops flags (Ok tt)) caller_apart (stop_quiet flags (Ok tt)) rest.ready called same) all no_fill no_request away
@@ -190,17 +198,17 @@ not_running b new called =
     let runs : RunsFrom b (entries_of caller (LookOut called.kind.output false ∷ Start (Ok tt) ∷ [])) = subst (λ (es : List Event). RunsFrom b (entries_of caller es)) called.kind.is called.adds.runs in
     runs.1.0.meets
 
-pub start_drives : (s mid : PlainState) (m n : Machine) (said : List ℕ) → IsAtRest s m → (called : AddsOf s.board caller (Starts (Ok tt)) mid.board) → mid.contents ≡ s.contents → Takes m n restart → waiting_fills n ≡ waiting_fills m → said ≡ done_text (codes "start")
-    → Drives StartLine 0 s m said mid n
-start_drives s mid m n said rest called same takes none is t behind =
-    settles_at s mid mid m n called.events restart (waiting_fills n) (done_text (codes "start")) said StartLine t
+pub start_drives : (s mid : PlainState) (m n : Machine) (a : FillCounts) (said : List ℕ) → IsAtRest s m → (called : AddsOf s.board caller (Starts (Ok tt)) mid.board) → mid.contents ≡ s.contents → Takes m n restart → waiting_fills n ≡ waiting_fills m → said ≡ done_text (codes "start")
+    → Drives StartLine 0 s m a said mid n a
+start_drives s mid m n a said rest called same takes none is t behind =
+    settles_at s mid mid m n a a called.events restart (waiting_fills n) (done_text (codes "start")) said StartLine t
     (λ es filled. (Ok tt, called.events, called.kind, ap (λ fs. tells t called.events restart fs (done_text (codes "start"))) filled))
-    (called_by s mid (Starts (Ok tt)) (start_quiet (Ok tt)) called same) (subst (λ (xs : List Retired). FillsAll xs mid mid) (sym (none ∙ rest.no_fill)) (fills_none mid))
+    (called_by s mid (Starts (Ok tt)) (start_quiet (Ok tt)) called same) (subst (λ (xs : List Retired). FillsAll xs mid a mid a) (sym (none ∙ rest.no_fill)) (fills_none mid a))
     (turned m n n restart takes (keeps_itself n) rest.no_fill) is behind
 
-pub no_start_drives : (s mid : PlainState) (m : Machine) (error : GcError) (said : List ℕ) → AddsOf s.board caller (Starts (Err error)) mid.board → mid.contents ≡ s.contents → said ≡ refused_text (codes "start") error → Drives StartLine 0 s m said mid m
-no_start_drives s mid m error said called same is =
-    drives_as StartLine caller said s mid m
+pub no_start_drives : (s mid : PlainState) (m : Machine) (a : FillCounts) (error : GcError) (said : List ℕ) → AddsOf s.board caller (Starts (Err error)) mid.board → mid.contents ≡ s.contents → said ≡ refused_text (codes "start") error → Drives StartLine 0 s m a said mid m a
+no_start_drives s mid m a error said called same is =
+    drives_as StartLine caller said s mid m a caller_apart
     (quiet_acts s mid caller (Starts (Err error)) StartLine (refused_text (codes "start") error) said caller_apart (start_quiet (Err error)) (λ t es kind. (Err error, es, kind, refl)) called same is)
 
 pub start_rests : (s mid : PlainState) (m n : Machine) → IsAtRest s m → AddsOf s.board caller (Starts (Ok tt)) mid.board → mid.contents ≡ s.contents → Takes m n restart → waiting_fills n ≡ waiting_fills m → waiting_requests n ≡ waiting_requests m → buffers n ≡ [] → asked_block n ≡ None → IsAtRest mid n
@@ -221,10 +229,10 @@ lines-are : (rs : List Request) → lines_of (map request_bytes rs) ≡ requests
 lines-are [] = refl
 lines-are (r ∷ rs) = ap (λ text. request_line (request_bytes r) ++ text) (lines-are rs)
 
-pub tick_drives : (s new : PlainState) (m mid fed n : Machine) (moment : ℕ) (old said : List ℕ) → IsAtRest s m → Takes m mid (tick moment) → FillsAll (waiting_fills mid) s new → KeepsBlocks mid fed → waiting_requests fed ≡ waiting_requests mid → KeepsBlocks fed n
-    → old ≡ [] → said ≡ old ++ lines_of (waiting_requests fed) → Drives (λ t. TickLine (config_of m) t moment) 0 s m said new n
-tick_drives s new m mid fed n moment old said rest takes all keeps same keeps_too empty is t behind =
-    settles_at s s new m n [] (tick moment) (waiting_fills mid) (requests_text (turn (config_of m) t.inputs (tick moment)).requests) said (λ u. TickLine (config_of m) u moment) t (λ es filled. record { events = es; filled = filled; is = refl })
+pub tick_drives : (s new : PlainState) (m mid fed n : Machine) (a b : FillCounts) (moment : ℕ) (old said : List ℕ) → IsAtRest s m → Takes m mid (tick moment) → FillsAll (waiting_fills mid) s a new b → KeepsBlocks mid fed → waiting_requests fed ≡ waiting_requests mid → KeepsBlocks fed n
+    → old ≡ [] → said ≡ old ++ lines_of (waiting_requests fed) → Drives (λ t. TickLine (config_of m) t moment) 0 s m a said new n b
+tick_drives s new m mid fed n a b moment old said rest takes all keeps same keeps_too empty is t behind =
+    settles_at s s new m n a b [] (tick moment) (waiting_fills mid) (requests_text (turn (config_of m) t.inputs (tick moment)).requests) said (λ u. TickLine (config_of m) u moment) t (λ es filled. record { events = es; filled = filled; is = refl })
     (none_called s) all (turned m mid n (tick moment) takes (keeps_twice mid fed n keeps keeps_too) rest.no_fill)
     (is ∙ ap (λ w. w ++ lines_of (waiting_requests fed)) empty ∙ ap lines_of (same ∙ takes.requests t.inputs behind.inputs ∙ ap (λ rs. rs ++ map request_bytes (turn (config_of m) t.inputs (tick moment)).requests) rest.no_request)
     ∙ lines-are (turn (config_of m) t.inputs (tick moment)).requests)

@@ -14,3 +14,9 @@ pub mod Driving
 pub mod Claiming
 pub mod Decoding
 pub mod Resting
+pub mod FirstNames
+pub mod Counted
+pub mod Spelled
+pub mod Replaying
+pub mod InPlace
+pub mod Standings

@@ -26,13 +26,13 @@ use Rattle.board_model.specs.Holdings.{emptied, fresh, with_empty_records}
 use Rattle.acquisition_machine.specs.Blocks.{Given}
 use Rattle.acq_core.specs.declared.machine.Machine.{Machine}
 use Rattle.acq_core.specs.Receiver.{buffers}
-use Rattle.script_trace.specs.Trace.{Trace, Part, acquirer}
-use Rattle.script_replay.specs.Boards.{IsLeftBy, IsReady, Acts, ActsAs}
+use Rattle.script_trace.specs.Trace.{Trace, board, acquirer}
+use Rattle.script_replay.specs.Boards.{IsLeftBy, IsReady}
 use Rattle.script_replay.specs.Acquiring.{IsAway, AreAway, IsAtRest, KeepsLifted}
 use Rattle.script_replay.proofs.Lines.{hands_stay, caller_apart}
 use Rattle.script_replay.proofs.Places.{set_apart, set_nothing}
 
-none_own : (k : ℕ) (es : List Event) → acquirer ≢ k → own_of acquirer (entries_of k es) ≡ []
+pub none_own : (k : ℕ) (es : List Event) → acquirer ≢ k → own_of acquirer (entries_of k es) ≡ []
 none_own k [] apart = refl
 none_own k (e ∷ es) apart =
     cond-false (k == acquirer) (entry k e ∷ own_of acquirer (entries_of k es)) (own_of acquirer (entries_of k es)) (ne_eqb k acquirer (λ e. apart (sym e))) ∙ none_own k es apart
@@ -55,8 +55,8 @@ stay_away s new k es (g ∷ gs) apart owned runs after keeps away =
     (stays_away s new k es g apart owned runs after keeps away.0, away.1, stay_away s new k es gs apart owned runs after keeps away.2)
 
 -- A line that is acts of another actor, and keeps what is lifted, leaves the acquisition at rest.
-pub rest_acts : (Line : Trace → Part → Type 0) (k count : ℕ) (said : List ℕ) (s new : PlainState) (m : Machine) (t : Trace) → acquirer ≢ k → IsLeftBy s t.entries → Acts Line k count s said new → IsReady new → KeepsLifted s new → IsAtRest s m → IsAtRest new m
-rest_acts Line k count said s new m t apart left acts_so ready keeps rest = record {
+pub rest_by : (k : ℕ) (es : List Event) (s new : PlainState) (m : Machine) (t : Trace) → acquirer ≢ k → IsLeftBy s t.entries → RunsFrom (board t) (entries_of k es) → IsLeftBy new (t.entries ++ entries_of k es) → IsReady new → KeepsLifted s new → IsAtRest s m → IsAtRest new m
+rest_by k es s new m t apart left runs_so left_new ready keeps rest = record {
   ready = ready;
   config = rest.config;
   inputs = rest.inputs;
@@ -64,20 +64,17 @@ rest_acts Line k count said s new m t apart left acts_so ready keeps rest = reco
   no_fill = rest.no_fill;
   no_request = rest.no_request;
   unasked = rest.unasked;
-  away = stay_away s new k did.events (buffers m) apart owned runs after keeps rest.away;
+  away = stay_away s new k es (buffers m) apart owned runs after keeps rest.away;
 }
   where
-    did : ActsAs Line k count said new t
-    did = acts_so t left
-
     owned : IsCounted s.board
     owned = subst IsCounted (sym left.board.state) (run_owned t.entries left.board.run)
 
-    runs : RunsFrom s.board (entries_of k did.events)
-    runs = subst (λ (b : Board). RunsFrom b (entries_of k did.events)) (sym left.board.state) did.runs
+    runs : RunsFrom s.board (entries_of k es)
+    runs = subst (λ (b : Board). RunsFrom b (entries_of k es)) (sym left.board.state) runs_so
 
-    after : new.board ≡ after_from s.board (entries_of k did.events)
-    after = did.left.board.state ∙ after-append _ t.entries (entries_of k did.events) ∙ ap (λ (b : Board). after_from b (entries_of k did.events)) (sym left.board.state)
+    after : new.board ≡ after_from s.board (entries_of k es)
+    after = left_new.board.state ∙ after-append _ t.entries (entries_of k es) ∙ ap (λ (b : Board). after_from b (entries_of k es)) (sym left.board.state)
 
 -- ---- what keeps what is lifted
 
@@ -98,6 +95,16 @@ lifted_put s new j x others put = record {
   lifted = λ i mine none. ap (λ c. lying c i) put ∙ set_apart s.contents j i x (others i mine) ∙ none;
   wide = ap length put ∙ length-set s.contents j x;
 }
+
+-- a buffer that lay at its place was lifted and put back with another record
+pub lifted_back : (s between new : PlainState) (j : ℕ) (f old : Filling) → lying s.contents j ≡ Some old → between.contents ≡ set s.contents j nothing → new.contents ≡ set between.contents j (Some f) → KeepsLifted s new
+lifted_back s between new j f old lies gone put = record {
+  lifted = λ i mine none. ap (λ c. lying c i) (put ∙ ap (λ c. set c j (Some f)) gone) ∙ set_apart (set s.contents j nothing) j i (Some f) (other i none) ∙ set_apart s.contents j i nothing (other i none) ∙ none;
+  wide = ap length put ∙ length-set between.contents j (Some f) ∙ ap length gone ∙ length-set s.contents j nothing;
+}
+  where
+    other : (i : ℕ) → lying s.contents i ≡ nothing → i ≢ j
+    other i none e = let both : Some old ≡ nothing = sym lies ∙ ap (λ n. lying s.contents n) (sym e) ∙ none in cc
 
 -- buffers were given the empty record
 none_emptied : (c : List (Option Filling)) (j i : ℕ) → lying c i ≡ nothing → lying (set c j (emptied (lying c j))) i ≡ nothing

@@ -1,5 +1,5 @@
 -- Buffers that the acquisition fills into the output, or lays.
-use Rattle.std.proofs.Common.{◌≡◌, ◌≢◌, ◌⊎◌, ℕ, ◌<◌, ◌≤◌, Bool, true, false, List, [], ◌∷◌, ◌++◌, length, map, set, get_or, Option, Some, refl, sym, ap, subst, ◌∙◌, inl, inr, arith, append-nil, append_assoc}
+use Rattle.std.proofs.Common.{◌≡◌, ◌≢◌, ◌⊎◌, ℕ, ◌<◌, ◌≤◌, Bool, true, false, if◌then◌else◌, List, [], ◌∷◌, ◌++◌, length, map, set, get_or, Option, Some, refl, sym, ap, subst, ◌∙◌, inl, inr, arith, append-nil, append_assoc}
 use Rattle.std.proofs.lemmas.List.{get_or-set_same, length-set, set_past}
 use Rattle.std.proofs.lemmas.Bool.{cases_eq, cases_lt}
 use Rattle.gev_types.specs.Filling.{Filling}
@@ -30,8 +30,11 @@ use Rattle.acq_core.specs.Receiver.{buffers, KeepsBlocks}
 use Rattle.acq_core.specs.Waiting.{waiting_fills, waiting_requests}
 use Rattle.script_trace.specs.Trace.{acquirer}
 use Rattle.script_trace.specs.Contents.{contents_of, contents_from, FillsFrom, FillsAsLay}
+use Rattle.script_replay.specs.declared.fill_counts.FillCounts.{FillCounts}
 use Rattle.script_replay.specs.Boards.{LiesAsTold, IsLeftBy, IsReady}
-use Rattle.script_replay.specs.Acquiring.{IsAway, AreApart, AreAway, FillsOne, FillsAll}
+use Rattle.script_replay.specs.Acquiring.{IsAway, AreApart, AreAway, FillsOne, CountsOne, FillsAll}
+use Rattle.script_replay.specs.Counting.{with_fill, counted_on, blocks_in}
+use Rattle.script_replay.proofs.Counted.{counted-append, blocks_grow}
 use Rattle.script_replay.proofs.Lines.{contents-append}
 use Rattle.script_replay.proofs.Places.{set_apart, told_wide}
 
@@ -117,17 +120,23 @@ ends_nobody i f false = (tt, (tt, tt))
 pub one_actors : (x : Retired) (s new : PlainState) → FillsOne x s new → KeepsActors s.board new.board
 one_actors x s new one = list_keeps s.board new.board acquirer (filled_or_laid x.place x.buf one.filled) (ends_nobody x.place x.buf one.filled) one.adds
 
-pub one_filled : (x : Retired) (s new : PlainState) → AddsEntry s.board acquirer (Fill x.place x.buf true) new.board → new.contents ≡ set s.contents x.place (Some x.buf) → FillsOne x s new
-one_filled x s new step contents = record { filled = true; adds = adds_one s.board new.board acquirer (Fill x.place x.buf true) step; contents = contents }
+pub one_filled : (x : Retired) (s new : PlainState) (a b : FillCounts) → AddsEntry s.board acquirer (Fill x.place x.buf true) new.board → new.contents ≡ set s.contents x.place (Some x.buf) → b ≡ with_fill a x.buf.rec.complete → CountsOne x s a new b
+one_filled x s new a b step contents counted = record {
+  one = record { filled = true; adds = adds_one s.board new.board acquirer (Fill x.place x.buf true) step; contents = contents };
+  counted = counted;
+}
 
 -- the close mark stood: set down, and laid
-pub one_laid : (x : Retired) (s mid down new : PlainState) (back : Filling) → AddsEntry s.board acquirer (Fill x.place x.buf false) mid.board → mid.contents ≡ s.contents → back ≡ x.buf
-    → down.board ≡ mid.board → down.contents ≡ set mid.contents x.place (Some back) → AddsEntry down.board acquirer (Lay x.place) new.board → new.contents ≡ down.contents → FillsOne x s new
-one_laid x s mid down new back step same is put contents lay same_too = record {
-  filled = false;
-  adds = adds_after s.board mid.board new.board acquirer (Fill x.place x.buf false) (Lay x.place ∷ []) step
-      (adds_one mid.board new.board acquirer (Lay x.place) (subst (λ (b : Board). AddsEntry b acquirer (Lay x.place) new.board) put lay));
-  contents = same_too ∙ contents ∙ ap (λ c. set c x.place (Some back)) same ∙ ap (λ (f : Filling). set s.contents x.place (Some f)) is;
+pub one_laid : (x : Retired) (s mid down new : PlainState) (a b : FillCounts) (back : Filling) → AddsEntry s.board acquirer (Fill x.place x.buf false) mid.board → mid.contents ≡ s.contents → back ≡ x.buf
+    → down.board ≡ mid.board → down.contents ≡ set mid.contents x.place (Some back) → AddsEntry down.board acquirer (Lay x.place) new.board → new.contents ≡ down.contents → b ≡ a → CountsOne x s a new b
+one_laid x s mid down new a b back step same is put contents lay same_too counted = record {
+  one = record {
+    filled = false;
+    adds = adds_after s.board mid.board new.board acquirer (Fill x.place x.buf false) (Lay x.place ∷ []) step
+        (adds_one mid.board new.board acquirer (Lay x.place) (subst (λ (b : Board). AddsEntry b acquirer (Lay x.place) new.board) put lay));
+    contents = same_too ∙ contents ∙ ap (λ c. set c x.place (Some back)) same ∙ ap (λ (f : Filling). set s.contents x.place (Some f)) is;
+  };
+  counted = counted;
 }
 
 -- what a refused fill leaves
@@ -151,8 +160,8 @@ one_hands_none : (i : ℕ) (f : Filling) (full : Bool) (rest : List Event) → h
 one_hands_none i f true rest none = none
 one_hands_none i f false rest none = none
 
-pub fills_none : (s : PlainState) → FillsAll [] s s
-fills_none s = record {
+pub fills_none : (s : PlainState) (a : FillCounts) → FillsAll [] s a s a
+fills_none s a = record {
   events = [];
   filled = refl;
   adds = adds_none s.board acquirer;
@@ -160,10 +169,15 @@ fills_none s = record {
   none_taken = refl;
   sizes = λ i. refl;
   left = λ h left. subst (λ (g : List Entry). IsLeftBy s g) (sym (append-nil h)) left;
+  counted = refl;
 }
 
-pub fills_more : (x : Retired) (xs : List Retired) (s mid new : PlainState) → IsAway s (given_of x) → FillsOne x s mid → FillsAll xs mid new → FillsAll (x ∷ xs) s new
-fills_more x xs s mid new away one rest = record {
+one_counted : (a : FillCounts) (i : ℕ) (f : Filling) (full : Bool) → counted_on a (blocks_in (entries_of acquirer (filled_or_laid i f full))) ≡ (if full then with_fill a f.rec.complete else a)
+one_counted a i f true = refl
+one_counted a i f false = refl
+
+pub fills_more : (x : Retired) (xs : List Retired) (s mid new : PlainState) (a b c : FillCounts) → IsAway s (given_of x) → CountsOne x s a mid b → FillsAll xs mid b new c → FillsAll (x ∷ xs) s a new c
+fills_more x xs s mid new a b c away counts rest = record {
   events = first ++ rest.events;
   filled = (one.filled, rest.events, refl, rest.filled);
   adds = adds_both s.board mid.board new.board acquirer first rest.events one.adds rest.adds;
@@ -173,12 +187,19 @@ fills_more x xs s mid new away one rest = record {
   left = λ h left. subst (λ (g : List Entry). IsLeftBy new g)
       (append_assoc h (entries_of acquirer first) (entries_of acquirer rest.events) ∙ ap (λ g. h ++ g) (sym (entries_of-append acquirer first rest.events)))
       (rest.left (h ++ entries_of acquirer first) (one_left x s mid h one away left));
+  counted =
+      rest.counted ∙ ap (λ (k : FillCounts). counted_on k (blocks_in (entries_of acquirer rest.events))) (counts.counted ∙ sym (one_counted a x.place x.buf one.filled))
+      ∙ sym (counted-append a (blocks_in (entries_of acquirer first)) (blocks_in (entries_of acquirer rest.events)))
+      ∙ ap (counted_on a) (sym (ap blocks_in (entries_of-append acquirer first rest.events) ∙ blocks_grow (entries_of acquirer first) (entries_of acquirer rest.events)));
 }
   where
+    one : FillsOne x s mid
+    one = counts.one
+
     first : List Event
     first = filled_or_laid x.place x.buf one.filled
 
-pub ready_after : (xs : List Retired) (s new : PlainState) → FillsAll xs s new → IsReady s → IsReady new
+pub ready_after : {a b : FillCounts} (xs : List Retired) (s new : PlainState) → FillsAll xs s a new b → IsReady s → IsReady new
 ready_after xs s new all ready = record {
   actors = λ k low. all.actors k (ready.actors k low);
   history = ready.history ++ entries_of acquirer all.events;
@@ -200,33 +221,36 @@ pub keeps_itself : (a : Machine) → KeepsBlocks a a
 keeps_itself a = record { stands = λ q stands. stands; buffers = refl; opens = refl; asked = refl; config = refl }
 
 -- What is still to be filled, then what was.
-pub record FillsOn (s now : PlainState) (m n : Machine) : Type 0 where
-  pub goes_on : (new : PlainState) → FillsAll (waiting_fills n) now new → FillsAll (waiting_fills m) s new
+pub record FillsOn (s : PlainState) (a : FillCounts) (now : PlainState) (b : FillCounts) (m n : Machine) : Type 0 where
+  pub goes_on : (new : PlainState) (c : FillCounts) → FillsAll (waiting_fills n) now b new c → FillsAll (waiting_fills m) s a new c
   pub away : AreAway now (map given_of (waiting_fills n) ++ buffers n)
   pub actor : IsActor now.board acquirer
   pub requests : waiting_requests n ≡ waiting_requests m
   pub rest : KeepsBlocks m n
 
 -- nothing waits any longer
-pub fills_done : (s now : PlainState) (m n : Machine) → waiting_fills n ≡ [] → FillsOn s now m n → FillsAll (waiting_fills m) s now
-fills_done s now m n none on = on.goes_on now (subst (λ (xs : List Retired). FillsAll xs now now) (sym none) (fills_none now))
+pub fills_done : (s now : PlainState) (a b : FillCounts) (m n : Machine) → waiting_fills n ≡ [] → FillsOn s a now b m n → FillsAll (waiting_fills m) s a now b
+fills_done s now a b m n none on = on.goes_on now b (subst (λ (xs : List Retired). FillsAll xs now b now b) (sym none) (fills_none now b))
 
-pub away_done : (s now : PlainState) (m n after : Machine) → waiting_fills n ≡ [] → KeepsBlocks n after → FillsOn s now m n → AreAway now (buffers after)
+pub away_done : {a b : FillCounts} (s now : PlainState) (m n after : Machine) → waiting_fills n ≡ [] → KeepsBlocks n after → FillsOn s a now b m n → AreAway now (buffers after)
 away_done s now m n after none rest on = subst (λ (gs : List Given). AreAway now gs) (ap (λ xs. map given_of xs ++ buffers n) none ∙ sym rest.buffers) on.away
 
-pub fills_on : (s now next : PlainState) (m n after : Machine) (x : Retired) → FillsOn s now m n → waiting_fills n ≡ x ∷ waiting_fills after → waiting_requests after ≡ waiting_requests n → KeepsBlocks n after → FillsOne x now next → FillsOn s next m after
-fills_on s now next m n after x on is requests rest one = record {
-  goes_on = λ new all. on.goes_on new (subst (λ (xs : List Retired). FillsAll xs now new) (sym is) (fills_more x (waiting_fills after) now next new away.0 one all));
+pub fills_on : (s now next : PlainState) (a b c : FillCounts) (m n after : Machine) (x : Retired) → FillsOn s a now b m n → waiting_fills n ≡ x ∷ waiting_fills after → waiting_requests after ≡ waiting_requests n → KeepsBlocks n after → CountsOne x now b next c → FillsOn s a next c m after
+fills_on s now next a b c m n after x on is requests rest counts = record {
+  goes_on = λ new d all. on.goes_on new d (subst (λ (xs : List Retired). FillsAll xs now b new d) (sym is) (fills_more x (waiting_fills after) now next new b c d away.0 counts all));
   away = rest_away x now next (map given_of (waiting_fills after) ++ buffers after) one away.1 away.2;
   actor = one_actors x now next one acquirer on.actor;
   requests = requests ∙ on.requests;
   rest = keeps_twice m n after on.rest rest;
 }
   where
+    one : FillsOne x now next
+    one = counts.one
+
     away : AreAway now (given_of x ∷ map given_of (waiting_fills after) ++ buffers after)
     away = subst (λ (gs : List Given). AreAway now gs) (ap (λ xs. map given_of xs ++ buffers n) is ∙ ap (λ gs. given_of x ∷ map given_of (waiting_fills after) ++ gs) (sym rest.buffers)) on.away
 
-pub first_away : (s now : PlainState) (m n : Machine) (x : Retired) (xs : List Retired) → FillsOn s now m n → waiting_fills n ≡ x ∷ xs → IsAway now (given_of x)
+pub first_away : {a b : FillCounts} (s now : PlainState) (m n : Machine) (x : Retired) (xs : List Retired) → FillsOn s a now b m n → waiting_fills n ≡ x ∷ xs → IsAway now (given_of x)
 first_away s now m n x xs on is =
     let away : AreAway now (given_of x ∷ map given_of xs ++ buffers n) = subst (λ (gs : List Given). AreAway now gs) (ap (λ ys. map given_of ys ++ buffers n) is) on.away in
     away.0

@@ -1,6 +1,6 @@
 -- The acquisition beside the board: where the buffers of its open blocks are, and what a line that drives it
 -- does to both.
-use Rattle.std.specs.Prelude.{◌≡◌, ◌≢◌, ⊤, ℕ, ◌<◌, Bool, List, [], ◌∷◌, ◌++◌, length, Option, None, Some, slice_set}
+use Rattle.std.specs.Prelude.{◌≡◌, ◌≢◌, ⊤, ℕ, ◌<◌, Bool, if◌then◌else◌, List, [], ◌∷◌, ◌++◌, length, Option, None, Some, slice_set}
 use Rattle.gev_report.specs.ReplayLines.{request_line}
 use Rattle.board_machine.specs.declared.events.Entry.{Entry}
 use Rattle.board_machine.specs.declared.events.Event.{Event}
@@ -22,7 +22,9 @@ use Rattle.acq_core.specs.Waiting.{waiting_fills, waiting_requests}
 use Rattle.script_trace.specs.Trace.{Trace, Part, board, grown, acquirer}
 use Rattle.script_trace.specs.Contents.{contents_of, FillsFrom}
 use Rattle.script_trace.specs.StreamLines.{FillsRetired, outcome}
+use Rattle.script_replay.specs.declared.fill_counts.FillCounts.{FillCounts}
 use Rattle.script_replay.specs.Boards.{IsLeftBy, IsReady}
+use Rattle.script_replay.specs.Counting.{with_fill, counted_on, blocks_in}
 
 -- ---- the buffers of open blocks
 
@@ -68,8 +70,13 @@ pub record FillsOne (x : Retired) (s new : PlainState) : Type 0 where
   pub adds : Adds s.board acquirer (filled_or_laid x.place x.buf filled) new.board
   pub contents : new.contents ≡ slice_set s.contents x.place (Some x.buf)
 
--- These are filled, in order, or laid where the stream was closed.
-pub record FillsAll (xs : List Retired) (s new : PlainState) : Type 0 where
+-- And it is counted, where it was filled.
+pub record CountsOne (x : Retired) (s : PlainState) (a : FillCounts) (new : PlainState) (b : FillCounts) : Type 0 where
+  pub one : FillsOne x s new
+  pub counted : b ≡ (if one.filled then with_fill a x.buf.rec.complete else a)
+
+-- These are filled and counted, in order, or laid where the stream was closed.
+pub record FillsAll (xs : List Retired) (s : PlainState) (a : FillCounts) (new : PlainState) (b : FillCounts) : Type 0 where
   pub events : List Event
   pub filled : FillsRetired xs events
   pub adds : Adds s.board acquirer events new.board
@@ -77,6 +84,7 @@ pub record FillsAll (xs : List Retired) (s new : PlainState) : Type 0 where
   pub none_taken : handed (entries_of acquirer events) ≡ []
   pub sizes : (i : ℕ) → (word_at new.board i).size ≡ (word_at s.board i).size
   pub left : (h : List Entry) → IsLeftBy s h → IsLeftBy new (h ++ entries_of acquirer events)
+  pub counted : b ≡ counted_on a (blocks_in (entries_of acquirer events))
 
 -- An input came to a receiver in which nothing waited, and these buffers were taken out.
 pub record Turned (m n : Machine) (i : Input) (xs : List Retired) : Type 0 where
@@ -85,10 +93,10 @@ pub record Turned (m n : Machine) (i : Input) (xs : List Retired) : Type 0 where
   pub config : config_of n ≡ config_of m
 
 -- An input came, and the buffers that came back were filled.
-pub record Settled (i : Input) (s : PlainState) (m : Machine) (new : PlainState) (n : Machine) : Type 0 where
+pub record Settled (i : Input) (s : PlainState) (m : Machine) (a : FillCounts) (new : PlainState) (n : Machine) (b : FillCounts) : Type 0 where
   pub retired : List Retired
   pub turned : Turned m n i retired
-  pub all : FillsAll retired s new
+  pub all : FillsAll retired s a new b
 
 -- ---- claims
 
@@ -112,8 +120,8 @@ pub record IsBehindTrace (t : Trace) (s : PlainState) (m : Machine) : Type 0 whe
   pub inputs : Stands m t.inputs
 
 -- The line adds a part with this report, which counts so many datagrams as idle and hands no buffer out,
--- and the trace with it leaves the new board and receiver.
-pub record DrivesAt (Line : Trace → Part → Type 0) (idle : ℕ) (said : List ℕ) (new : PlainState) (n : Machine) (t : Trace) : Type 0 where
+-- the trace with it leaves the new board and receiver, and its fills are counted.
+pub record DrivesAt (Line : Trace → Part → Type 0) (idle : ℕ) (a : FillCounts) (said : List ℕ) (new : PlainState) (n : Machine) (b : FillCounts) (t : Trace) : Type 0 where
   pub part : Part
   pub spells : Line t part
   pub runs : RunsFrom (board t) part.entries
@@ -123,7 +131,8 @@ pub record DrivesAt (Line : Trace → Part → Type 0) (idle : ℕ) (said : List
   pub text : part.text ≡ said
   pub none_taken : handed part.entries ≡ []
   pub behind : IsBehindTrace (grown t part) new n
+  pub counted : b ≡ counted_on a (blocks_in part.entries)
 
 -- So it is at every trace that left the old ones.
-abbrev pub Drives : (Trace → Part → Type 0) → ℕ → PlainState → Machine → List ℕ → PlainState → Machine → Type 0
-Drives Line idle s m said new n = (t : Trace) → IsBehindTrace t s m → DrivesAt Line idle said new n t
+abbrev pub Drives : (Trace → Part → Type 0) → ℕ → PlainState → Machine → FillCounts → List ℕ → PlainState → Machine → FillCounts → Type 0
+Drives Line idle s m a said new n b = (t : Trace) → IsBehindTrace t s m → DrivesAt Line idle a said new n b t

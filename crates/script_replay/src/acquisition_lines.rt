@@ -8,11 +8,14 @@ ghost use Rattle.acquisition_machine.specs.TurnLaws.{asked_by};
 ghost use Rattle.acq_core.specs.Receiver.{config_of, open_count, asked_block, buffers, Stands};
 ghost use Rattle.acq_core.specs.Waiting.{waiting_fills, waiting_requests};
 ghost use Rattle.script_trace.specs.StreamLines.{StartLine, StopLine, TickLine, DatagramLine, Hears};
+ghost use Rattle.script_replay.specs.declared.fill_counts.FillCounts.{FillCounts};
 ghost use Rattle.script_replay.specs.Boards.{IsReady};
 ghost use Rattle.script_replay.specs.Acquiring.{IsAtRest, AreAway, Settled, Drives};
 
 use crate::answers::{line_done, line_refused};
 use crate::board_lines::CALLER;
+use crate::fill_counts::FillCounts;
+use crate::hex_digits::decode;
 use crate::retired::{fill_retired, give_claimed, write_requests};
 use acq_core::{Acq, Need};
 use board_model::PlainBoard;
@@ -29,7 +32,7 @@ pub fn start(
     requires rest { IsAtRest board.old acq.old }
     requires none_open { board.old.board.run ≢ 1 → open_count acq.old ≡ 0 }
     requires empty { out.old.items ≡ [] }
-    ensures drives { OnOk result (Drives StartLine 0 board.old acq.old out.new.items board.new acq.new) }
+    ensures drives { OnOk result ((a : FillCounts) → Drives StartLine 0 board.old acq.old a out.new.items board.new acq.new a) }
     ensures rest { IsAtRest board.new acq.new }
     ensures config { config_of acq.new ≡ config_of acq.old }
 {
@@ -48,19 +51,20 @@ pub fn stop(
     alloc: Global,
     board: &mut PlainBoard,
     acq: &mut Acq,
+    counts: &mut FillCounts,
     flags: u32,
     out: &mut Vec<u8>,
 ) -> Result<(), NoMemory>
     requires rest { IsAtRest board.old acq.old }
     requires empty { out.old.items ≡ [] }
-    ensures drives { OnOk result (Drives (λ t. StopLine (config_of acq.old) t flags) 0 board.old acq.old out.new.items board.new acq.new) }
+    ensures drives { OnOk result (Drives (λ t. StopLine (config_of acq.old) t flags) 0 board.old acq.old counts.old out.new.items board.new acq.new counts.new) }
     ensures rest { IsAtRest board.new acq.new }
     ensures config { config_of acq.new ≡ config_of acq.old }
 {
     match board.ds_stop(CALLER, flags) {
         Ok(()) => {
             acq.stop();
-            fill_retired(board, acq);
+            fill_retired(board, acq, counts);
             line_done(alloc, "stop", out)
         }
         Err(error) => line_refused(alloc, "stop", error, out),
@@ -73,28 +77,29 @@ pub fn tick(
     alloc: Global,
     board: &mut PlainBoard,
     acq: &mut Acq,
+    counts: &mut FillCounts,
     moment: u64,
     out: &mut Vec<u8>,
 ) -> Result<(), NoMemory>
     requires rest { IsAtRest board.old acq.old }
     requires empty { out.old.items ≡ [] }
-    ensures drives { OnOk result (Drives (λ t. TickLine (config_of acq.old) t moment) 0 board.old acq.old out.new.items board.new acq.new) }
+    ensures drives { OnOk result (Drives (λ t. TickLine (config_of acq.old) t moment) 0 board.old acq.old counts.old out.new.items board.new acq.new counts.new) }
     ensures rest { OnOk result (IsAtRest board.new acq.new) }
     ensures config { config_of acq.new ≡ config_of acq.old }
 {
     acq.tick(moment);
-    fill_retired(board, acq);
+    fill_retired(board, acq, counts);
     write_requests(alloc, acq, out)
 }
 
 /// Tells a datagram, and fills the buffers that come back. The answer is what the datagram needs.
-fn settle(board: &mut PlainBoard, acq: &mut Acq, bytes: &[u8]) -> Need
+fn settle(board: &mut PlainBoard, acq: &mut Acq, counts: &mut FillCounts, bytes: &[u8]) -> Need
     requires ready { IsReady board.old }
     requires no_fill { waiting_fills acq.old ≡ [] }
     requires no_request { waiting_requests acq.old ≡ [] }
     requires away { AreAway board.old (buffers acq.old) }
     ensures need { (q : List Input) → Stands acq.old q → (turn (config_of acq.old) q (came bytes.now)).need ≡ Some result }
-    ensures settled { Settled (came bytes.now) board.old acq.old board.new acq.new }
+    ensures settled { Settled (came bytes.now) board.old acq.old counts.old board.new acq.new counts.new }
     ensures ready { IsReady board.new }
     ensures no_fill { waiting_fills acq.new ≡ [] }
     ensures no_request { waiting_requests acq.new ≡ [] }
@@ -102,45 +107,42 @@ fn settle(board: &mut PlainBoard, acq: &mut Acq, bytes: &[u8]) -> Need
     ensures away { AreAway board.new (buffers acq.new) }
 {
     let need = acq.datagram(bytes);
-    fill_retired(board, acq);
+    fill_retired(board, acq, counts);
     need
 }
 
 /// Tells a datagram. Where it wants a buffer, one is claimed, and the datagram is told again.
-fn hear(board: &mut PlainBoard, acq: &mut Acq, bytes: &[u8])
+fn hear(board: &mut PlainBoard, acq: &mut Acq, counts: &mut FillCounts, bytes: &[u8])
     requires rest { IsAtRest board.old acq.old }
-    ensures drives { Drives (λ t. Hears (config_of acq.old) t bytes.now (asked_by (turn (config_of acq.old) t.inputs (came bytes.now)).need)) 0 board.old acq.old [] board.new acq.new }
+    ensures drives { Drives (λ t. Hears (config_of acq.old) t bytes.now (asked_by (turn (config_of acq.old) t.inputs (came bytes.now)).need)) 0 board.old acq.old counts.old [] board.new acq.new counts.new }
     ensures rest { IsAtRest board.new acq.new }
     ensures config { config_of acq.new ≡ config_of acq.old }
 {
-    match settle(board, acq, bytes) {
+    match settle(board, acq, counts, bytes) {
         Need::Buffer(_block) => {
             give_claimed(board, acq);
-            let _again = settle(board, acq, bytes);
+            let _again = settle(board, acq, counts, bytes);
         }
         Need::Done => {}
         Need::Ignored(_why) => {}
     }
 }
 
-/// Writes the bytes that the hex digits spell.
-fn decode(digits: &[u8], bytes: &mut [u8])
-    requires spelled { IsOk (decode_of digits.now) }
-    requires room { length digits.now ≡ 2 * length bytes.old }
-    ensures { decode_of digits.now ≡ Ok bytes.new }
-{
-    let _decoded = hex::decode_to_slice(digits, bytes);
-}
-
 /// Tells the datagram that these hex digits spell, where the stream is running: what it wants, is claimed,
 /// and the buffers that come back are filled. The bytes are decoded into the room, which is at least half
 /// as long as the digits. The answer is how many datagrams were idle: 1 where the stream isn't running,
 /// else 0.
-pub fn datagram(board: &mut PlainBoard, acq: &mut Acq, digits: &[u8], room: &mut [u8]) -> u64
+pub fn datagram(
+    board: &mut PlainBoard,
+    acq: &mut Acq,
+    counts: &mut FillCounts,
+    digits: &[u8],
+    room: &mut [u8],
+) -> u64
     requires rest { IsAtRest board.old acq.old }
     requires spelled { IsOk (decode_of digits.now) }
     requires room { length digits.now ≤ 2 * length room.old }
-    ensures drives { Drives (λ t. DatagramLine (config_of acq.old) t digits.now) result board.old acq.old [] board.new acq.new }
+    ensures drives { Drives (λ t. DatagramLine (config_of acq.old) t digits.now) result board.old acq.old counts.old [] board.new acq.new counts.new }
     ensures rest { IsAtRest board.new acq.new }
     ensures config { config_of acq.new ≡ config_of acq.old }
 {
@@ -149,6 +151,6 @@ pub fn datagram(board: &mut PlainBoard, acq: &mut Acq, digits: &[u8], room: &mut
     }
     let bytes = &mut room[..digits.len() / 2];
     decode(digits, bytes);
-    hear(board, acq, bytes);
+    hear(board, acq, counts, bytes);
     0
 }

@@ -5,6 +5,7 @@ ghost use Rattle.std.specs.List.{list_any};
 ghost use Rattle.gentl_handles.specs.Closing.{closing, without_closed, is_among};
 ghost use Rattle.gentl_handles.specs.Storing.{serials_of};
 ghost use Rattle.script_replay.specs.Boards.{IsReady, Acts};
+ghost use Rattle.script_replay.specs.Acquiring.{KeepsLifted};
 ghost use Rattle.script_replay.specs.Closes.{ClosesUnder, ClosesIf};
 
 use crate::answers::{line_done, line_refused};
@@ -44,6 +45,7 @@ pub fn close_all(
     ensures acts { OnOk result (ClosesUnder tree.old serial board.old out.new.items board.new) }
     ensures after { tree.new ≡ without_closed tree.old serial (closing tree.old serial) }
     ensures ready { IsReady board.new }
+    ensures lifted { KeepsLifted board.old board.new }
 {
     match close_under(tree, serial) {
         Ok(closed) => close_board(alloc, board, names_stream(closed.as_slice()), out),
@@ -62,6 +64,7 @@ fn close_board(
     requires empty { out.old.items ≡ [] }
     ensures acts { OnOk result (Acts (λ t. ClosesIf t named) 0 0 board.old out.new.items board.new) }
     ensures ready { IsReady board.new }
+    ensures lifted { KeepsLifted board.old board.new }
 {
     if named {
         board.ds_close(CALLER);

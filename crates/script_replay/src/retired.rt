@@ -7,8 +7,10 @@ ghost use Rattle.acq_core.specs.Receiver.{asked_block, buffers, KeepsBlocks};
 ghost use Rattle.acq_core.specs.Waiting.{waiting_fills, waiting_requests};
 ghost use Rattle.script_trace.specs.Trace.{acquirer};
 ghost use Rattle.script_replay.specs.Boards.{IsReady};
-ghost use Rattle.script_replay.specs.Acquiring.{IsAway, AreAway, FillsOne, FillsAll, Claims, lines_of};
+ghost use Rattle.script_replay.specs.Counting.{with_fill};
+ghost use Rattle.script_replay.specs.Acquiring.{IsAway, AreAway, CountsOne, FillsAll, Claims, lines_of};
 
+use crate::fill_counts::FillCounts;
 use acq_core::{Acq, Retired};
 use board_calls::FillEnd;
 use board_model::PlainBoard;
@@ -19,15 +21,26 @@ use std::alloc::Global;
 /// Who claims, fills and lays for the acquisition.
 pub(crate) const ACQUIRER: u8 = 5;
 
-/// Fills a buffer into the output, or lays it where the stream was closed.
-fn fill_one(board: &mut PlainBoard, fill: Retired)
+/// Counts a buffer that was filled into the output.
+fn count_fill(counts: &mut FillCounts, complete: bool)
+    ensures { counts.new ≡ with_fill counts.old complete }
+{
+    counts.fills = counts.fills.saturating_add(1);
+    if complete {
+        counts.complete = counts.complete.saturating_add(1);
+    }
+}
+
+/// Fills a buffer into the output and counts it, or lays it where the stream was closed.
+fn fill_one(board: &mut PlainBoard, counts: &mut FillCounts, fill: Retired)
     requires actor { IsActor board.old.board acquirer }
     requires away { IsAway board.old (given_of fill) }
-    ensures { FillsOne fill board.old board.new }
+    ensures { CountsOne fill board.old counts.old board.new counts.new }
 {
     let place = fill.place;
+    let complete = fill.buf.rec().complete;
     match board.fill(ACQUIRER, place, fill.buf) {
-        FillEnd::Filled => {}
+        FillEnd::Filled => count_fill(counts, complete),
         FillEnd::Closed(back) => {
             board.set_down(ACQUIRER, place, back);
             board.lay(ACQUIRER, place);
@@ -35,18 +48,18 @@ fn fill_one(board: &mut PlainBoard, fill: Retired)
     }
 }
 
-/// Fills each buffer that waits in the receiver, first in first.
-pub(crate) fn fill_retired(board: &mut PlainBoard, acq: &mut Acq)
+/// Fills each buffer that waits in the receiver, first in first, and counts those that came into the output.
+pub(crate) fn fill_retired(board: &mut PlainBoard, acq: &mut Acq, counts: &mut FillCounts)
     requires actor { IsActor board.old.board acquirer }
     requires away { AreAway board.old (map given_of (waiting_fills acq.old) ++ buffers acq.old) }
-    ensures fills { FillsAll (waiting_fills acq.old) board.old board.new }
+    ensures fills { FillsAll (waiting_fills acq.old) board.old counts.old board.new counts.new }
     ensures no_fill { waiting_fills acq.new ≡ [] }
     ensures requests { waiting_requests acq.new ≡ waiting_requests acq.old }
     ensures rest { KeepsBlocks acq.old acq.new }
     ensures away { AreAway board.new (buffers acq.new) }
 {
     while let Some(fill) = acq.next_fill() {
-        fill_one(board, fill);
+        fill_one(board, counts, fill);
     }
 }
 

@@ -5,6 +5,7 @@ ghost use Rattle.gev_types.specs.Limits.{place_count};
 ghost use Rattle.gev_report.specs.StepLine.{step_line};
 ghost use Rattle.script_trace.specs.StepLines.{StepLine, StepBy};
 ghost use Rattle.script_replay.specs.Boards.{IsReady, Acts};
+ghost use Rattle.script_replay.specs.Acquiring.{KeepsLifted};
 ghost use Rattle.script_replay.specs.Steps.{word_of};
 
 use crate::steps::{claim, close, fill, grab, lay, pool, sweep_out, sweep_pool, take};
@@ -38,6 +39,7 @@ fn make_step(board: &mut PlainBoard, actor: u8, act: Act, place: u8) -> (StepTex
     requires in_range { place < place_count }
     ensures acts { (said : List ℕ) → said ≡ step_line actor (word_of act) result.0 → Acts (λ t. StepBy t actor act place) actor result.1 board.old said board.new }
     ensures ready { IsReady board.new }
+    ensures lifted { KeepsLifted board.old board.new }
 {
     match act {
         Act::Grab => (grab(board, actor, place), 0),
@@ -68,6 +70,7 @@ pub fn step(
     requires empty { out.old.items ≡ [] }
     ensures acts { IfOk result (λ count. Acts (λ t. StepLine t actor act place) actor count board.old out.new.items board.new) }
     ensures ready { IsReady board.new }
+    ensures lifted { KeepsLifted board.old board.new }
 {
     let (text, taken) = make_step(board, actor, act, place.unwrap_or(0));
     line_step(alloc, actor, word_of(act), text, out)?;

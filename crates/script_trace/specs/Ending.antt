@@ -1,5 +1,5 @@
 -- The last line of the report, counted from the trace.
-use Rattle.std.specs.Prelude.{ℕ, List, length, count_by}
+use Rattle.std.specs.Prelude.{ℕ, ◌-◌, ◌^◌, min, List, length, count_by}
 use Rattle.gev_report.specs.declared.end_counts.EndCounts.{EndCounts}
 use Rattle.gev_report.specs.ReplayLines.{end_line}
 use Rattle.board_machine.specs.Machine.{Item}
@@ -10,24 +10,28 @@ use Rattle.acquisition_machine.specs.declared.counts.Counts.{Counts}
 use Rattle.acquisition_machine.specs.Runs.{After}
 use Rattle.script_trace.specs.Trace.{Trace, acquirer}
 
+-- A count stands still at its type's end.
+abbrev pub as_count : ℕ → ℕ
+as_count n = min n (2 ^ 64 - 1)
+
 -- what the acquisition filled into the output
 abbrev pub filled_blocks : Trace → List Item
 filled_blocks t = filled (own_of acquirer t.entries)
 
 abbrev pub with_counts : Trace → Counts → EndCounts
 with_counts t counts = record {
-  taken = length (handed t.entries);
-  fills = length (filled_blocks t);
-  complete = count_by (λ x. x.filling.rec.complete) (filled_blocks t);
-  underrun = counts.underrun;
-  requests = counts.requests;
-  foreign = counts.foreign;
-  late = counts.late;
-  repeat = counts.repeat;
-  misfit = counts.misfit;
-  starved = counts.starved;
-  notice = counts.notice;
-  idle = t.idle;
+  taken = as_count (length (handed t.entries));
+  fills = as_count (length (filled_blocks t));
+  complete = as_count (count_by (λ x. x.filling.rec.complete) (filled_blocks t));
+  underrun = as_count counts.underrun;
+  requests = as_count counts.requests;
+  foreign = as_count counts.foreign;
+  late = as_count counts.late;
+  repeat = as_count counts.repeat;
+  misfit = as_count counts.misfit;
+  starved = as_count counts.starved;
+  notice = as_count counts.notice;
+  idle = as_count t.idle;
 }
 
 abbrev pub end_counts : AcqConfig → Trace → EndCounts

@@ -1,0 +1,35 @@
+-- How many buffers the acquisition filled into the output, and how many of these were complete.
+use Rattle.std.specs.Prelude.{ℕ, ◌+◌, ◌-◌, ◌^◌, min, Bool, if◌then◌else◌, List, [], ◌∷◌}
+use Rattle.board_machine.specs.declared.events.Entry.{Entry}
+use Rattle.board_machine.specs.Machine.{Item}
+use Rattle.board_machine.specs.Histories.{own_of}
+use Rattle.board_machine.specs.Handout.{filled}
+use Rattle.script_trace.specs.Trace.{acquirer}
+use Rattle.script_replay.specs.declared.fill_counts.FillCounts.{FillCounts}
+
+-- where a count stands still
+abbrev pub most_count : ℕ
+most_count = 2 ^ 64 - 1
+
+abbrev pub one_more : ℕ → ℕ
+one_more n = min (n + 1) most_count
+
+-- with one more buffer that was filled, complete or not
+abbrev pub with_fill : FillCounts → Bool → FillCounts
+with_fill counts complete = record {
+  fills = one_more counts.fills;
+  complete = if complete then one_more counts.complete else counts.complete;
+}
+
+-- with these, in order
+abbrev pub counted_on : FillCounts → List Item → FillCounts
+counted_on counts [] = counts
+counted_on counts (x ∷ xs) = counted_on (with_fill counts x.filling.rec.complete) xs
+
+-- what the acquisition filled into the output
+abbrev pub blocks_in : List Entry → List Item
+blocks_in es = filled (own_of acquirer es)
+
+-- where nothing was filled yet
+abbrev pub no_fills : FillCounts
+no_fills = record { fills = 0; complete = 0 }

@@ -1,0 +1,152 @@
+-- A script that runs behind its header: what holds between its lines, and what a line does to it.
+use Rattle.std.specs.Prelude.{◌≡◌, ◌≢◌, ⊤, ℕ, ◌*◌, ◌<◌, ◌≤◌, List, length, count_by, Option, None, Some, Ok, IsOk, unwrap_or}
+use Rattle.hex.specs.Hex.{decode_of}
+use Rattle.gev_script.specs.declared.kind.ScriptKind.{ScriptKind}
+use Rattle.gev_script.specs.declared.kind.ScriptKind.TheVariants as kinds
+use Rattle.gev_script.specs.Lines as line
+use Rattle.gev_script.specs.Lines.{ScriptLine, Config}
+use Rattle.gev_script.specs.Grammar.{line_of}
+use Rattle.gev_types.specs.Limits.{place_count}
+use Rattle.script_runs.specs.declared.ran.Ran.TheVariants.{GoesOn, Ended}
+use Rattle.script_runs.specs.declared.ran.Ran.{Ran}
+use Rattle.board_machine.specs.Handout.{handed}
+use Rattle.acquisition_machine.specs.declared.config.AcqConfig.{AcqConfig}
+use Rattle.acq_core.specs.Receiver.{config_of}
+use Rattle.script_trace.specs.Trace.{Trace, Part, grown}
+use Rattle.script_trace.specs.Adding.{AddsPart, Leads}
+use Rattle.script_trace.specs.Opening.{opening}
+use Rattle.script_trace.specs.Ending.{filled_blocks, as_count, end_text}
+use Rattle.script_trace.specs.Standing.{Standing, first, running, config_of as config_from, later_kind, ReplayRuns, ReplayRefuses}
+use Rattle.script_replay.specs.Acquiring.{IsAtRest, IsBehindTrace}
+use Rattle.script_replay.specs.declared.running.Running.{Running}
+
+-- What a script runs on stands where this trace leaves it.
+pub record StandsAt (r : Running) (t : Trace) : Type 0 where
+  pub behind : IsBehindTrace t r.board r.acq
+  pub handles : r.tree ≡ t.handles
+  pub fills : r.counts.fills ≡ as_count (length (filled_blocks t))
+  pub complete : r.counts.complete ≡ as_count (count_by (λ x. x.filling.rec.complete) (filled_blocks t))
+  pub taken : r.taken ≡ as_count (length (handed t.entries))
+  pub idle : r.idle ≡ as_count t.idle
+
+-- Between two lines the receiver is at rest, and lines of a script led to a trace that left all of it.
+pub record IsReplaying (r : Running) : Type 0 where
+  pub rest : IsAtRest r.board r.acq
+  pub stream : r.stream.serial ≡ 4
+  pub trace : Trace
+  pub lines : List ScriptLine
+  pub leads : Leads (config_of r.acq) opening lines trace
+  pub stands : StandsAt r trace
+
+-- Behind this trace the line adds a part with this report, and the trace with it leaves the new state.
+pub record AddsAt (c : AcqConfig) (l : ScriptLine) (said : List ℕ) (new : Running) (t : Trace) : Type 0 where
+  pub part : Part
+  pub adds : AddsPart c t l part
+  pub text : said ≡ part.text
+  pub stands : StandsAt new (grown t part)
+
+-- The line was run: so it is behind each trace that left the old state.
+pub record Goes (l : ScriptLine) (old : Running) (said : List ℕ) (new : Running) : Type 0 where
+  pub adds : (t : Trace) → StandsAt old t → AddsAt (config_of old.acq) l said new t
+  pub config : config_of new.acq ≡ config_of old.acq
+  pub keeps : IsReplaying new
+
+-- ---- which lines are run behind a header
+
+-- A step names one of the actors 1 to 4 and, where it names one, a place of the board.
+pub record StepsInRange (actor : ℕ) (place : Option ℕ) : Type 0 where
+  pub actor_most : actor ≤ 4
+  pub in_range : unwrap_or place 0 < place_count
+
+-- The digits of a datagram spell its bytes, for which the room is large enough.
+pub record Fits (room : ℕ) (digits : List ℕ) : Type 0 where
+  pub spelled : IsOk (decode_of digits)
+  pub large : length digits ≤ 2 * room
+
+-- The lines that add to the trace; a datagram's digits fit the room for its bytes.
+abbrev pub IsRunIn : ℕ → ScriptLine → Type 0
+IsRunIn room (line.header c) = ⊥
+IsRunIn room (line.datagram digits) = Fits room digits
+IsRunIn room (line.step actor act place) = StepsInRange actor place
+IsRunIn room line.end_of_script = ⊥
+IsRunIn room line.camera_header = ⊥
+IsRunIn room (line.command peer digits) = ⊥
+IsRunIn room line.frame = ⊥
+IsRunIn room _ = ⊤
+
+-- the same, and the last line
+abbrev pub IsLaterIn : ℕ → ScriptLine → Type 0
+IsLaterIn room line.end_of_script = ⊤
+IsLaterIn room l = IsRunIn room l
+
+-- the lines that call the stream or its event, and nothing else
+abbrev pub IsCall : ScriptLine → Type 0
+IsCall (line.announce size) = ⊤
+IsCall (line.queue place generation) = ⊤
+IsCall (line.revoke place generation) = ⊤
+IsCall (line.flush operation) = ⊤
+IsCall line.kill = ⊤
+IsCall line.event_flush = ⊤
+IsCall (line.info which) = ⊤
+IsCall (line.buffer_info place generation which) = ⊤
+IsCall _ = ⊥
+
+-- ---- a line by its bytes
+
+-- The bytes are a header, and this stands behind it.
+pub record Begins (text : List ℕ) (new : Running) : Type 0 where
+  pub config : Config
+  pub read : line_of text ≡ Ok (line.header config)
+  pub same : config_of new.acq ≡ config_from config
+  pub stands : StandsAt new opening
+  pub keeps : IsReplaying new
+
+-- The bytes are no header.
+pub record IsNoHeader (text : List ℕ) (kind : ScriptKind) : Type 0 where
+  pub kind_is : kind ≡ kinds.Header
+  pub none : (c : Config) → line_of text ≢ Ok (line.header c)
+
+-- It is the last line, and this is what it tells.
+pub record Ends (l : ScriptLine) (old : Running) (said : List ℕ) (new : Running) : Type 0 where
+  pub is_end : l ≡ line.end_of_script
+  pub told : (t : Trace) → StandsAt old t → said ≡ end_text (config_of old.acq) t
+  pub same : new ≡ old
+
+-- by whether the script goes on
+abbrev pub RanAs : Ran → ScriptLine → Running → List ℕ → Running → Type 0
+RanAs GoesOn l old said new = Goes l old said new
+RanAs Ended l old said new = Ends l old said new
+
+-- The bytes are a line that was run.
+pub record RanBy (ran : Ran) (text : List ℕ) (old : Running) (said : List ℕ) (new : Running) : Type 0 where
+  pub in_place : later_kind text ≡ None
+  pub says : ScriptLine
+  pub read : line_of text ≡ Ok says
+  pub did : RanAs ran says old said new
+
+-- The bytes are no line of this place, and nothing was done.
+pub record RefusedBy (text : List ℕ) (kind : ScriptKind) (old new : Running) : Type 0 where
+  pub kind_is : later_kind text ≡ Some kind
+  pub same : new ≡ old
+
+-- ---- the states of the machine
+
+-- None while the header is still to come
+abbrev pub StandsFor : Option Running → Standing → Type 0
+StandsFor None first = ⊤
+StandsFor None (running c t) = ⊥
+StandsFor (Some r) first = ⊥
+StandsFor (Some r) (running c t) = (config_of r.acq ≡ c) × StandsAt r t
+
+abbrev pub IsKept : Option Running → Type 0
+IsKept None = ⊤
+IsKept (Some r) = IsReplaying r
+
+-- The line is run from whatever standing the state has.
+abbrev pub RunsAs : Option Running → ℕ → List ℕ → Ran → List ℕ → Option Running → Type 0
+RunsAs old n text ran report new =
+    (s : Standing) → StandsFor old s → (t : Standing) × ReplayRuns s n text ran report t × StandsFor new t
+
+-- It is refused in whatever standing the state has.
+abbrev pub RefusesAs : Option Running → ℕ → List ℕ → ScriptKind → Type 0
+RefusesAs now n text kind = (s : Standing) → StandsFor now s → ReplayRefuses s n text kind

@@ -1,0 +1,108 @@
+//! A line behind the first.
+
+ghost use Rattle.std.specs.Prelude.{◌≡◌, ◌≤◌, [], length, OnOk, IfOk, MatchResult};
+ghost use Rattle.gev_script.specs.Lines.{view};
+ghost use Rattle.script_runs.specs.Runs.{IfRefused};
+ghost use Rattle.acq_core.specs.Receiver.{config_of};
+ghost use Rattle.script_trace.specs.Trace.{Trace};
+ghost use Rattle.script_trace.specs.Ending.{end_text};
+ghost use Rattle.script_trace.specs.Standing.{is_out_of_place};
+ghost use Rattle.script_replay.specs.Replays.{StandsAt, IsReplaying, IsLaterIn, RanAs, RanBy, RefusedBy};
+
+use crate::adding::run_adding;
+use crate::running::Running;
+use gev_report::{EndCounts, line_end};
+use gev_script::{Line, Name, ScriptKind, first_name, parse_line};
+use gev_types::NoMemory;
+use script_runs::{Ran, Stop};
+use std::alloc::Global;
+
+/// Whether the word that a line begins with is of a header, or of the other script's lines.
+fn is_out_of_place(name: Result<Name, ScriptKind>) -> bool
+    ensures { result ≡ is_out_of_place name }
+{
+    match name {
+        Ok(Name::Header) => true,
+        Ok(Name::CameraHeader) => true,
+        Ok(Name::Command) => true,
+        Ok(Name::Frame) => true,
+        _ => false,
+    }
+}
+
+/// Adds the last line of the report.
+fn tell_end(alloc: Global, running: &Running, out: &mut Vec<u8>) -> Result<(), NoMemory>
+    requires empty { out.old.items ≡ [] }
+    ensures { OnOk result ((t : Trace) → StandsAt running.now t → out.new.items ≡ end_text (config_of running.now.acq) t) }
+{
+    let counts = running.acq.counts();
+    let all = EndCounts {
+        taken: running.taken,
+        fills: running.counts.fills,
+        complete: running.counts.complete,
+        underrun: counts.underrun,
+        requests: counts.requests,
+        foreign: counts.foreign,
+        late: counts.late,
+        repeat: counts.repeat,
+        misfit: counts.misfit,
+        starved: counts.starved,
+        notice: counts.notice,
+        idle: running.idle,
+    };
+    line_end(alloc, &all, out)
+}
+
+/// Runs what a line says, and adds its report to the empty `out`.
+fn run_said(
+    alloc: Global,
+    running: &mut Running,
+    room: &mut Vec<u8>,
+    says: Line<'_>,
+    out: &mut Vec<u8>,
+) -> Result<Ran, NoMemory>
+    requires keeps { IsReplaying running.old }
+    requires run { IsLaterIn (length room.old.items) (view says) }
+    requires empty { out.old.items ≡ [] }
+    ensures ran { IfOk result (λ ran. RanAs ran (view says.entry) running.old out.new.items running.new) }
+    ensures room { length room.new.items ≡ length room.old.items }
+{
+    match says {
+        Line::End => {
+            tell_end(alloc, running, out)?;
+            Ok(Ran::Ended)
+        }
+        other => {
+            run_adding(alloc, running, room, other, out)?;
+            Ok(Ran::GoesOn)
+        }
+    }
+}
+
+/// Runs a line behind the first, given without its line feed, and adds its report to the empty `out`.
+pub(crate) fn later_line(
+    alloc: Global,
+    running: &mut Running,
+    room: &mut Vec<u8>,
+    line: &[u8],
+    out: &mut Vec<u8>,
+) -> Result<Ran, Stop>
+    requires keeps { IsReplaying running.old }
+    requires short { length line.now ≤ 20000 }
+    requires room { length room.old.items ≡ 10000 }
+    requires empty { out.old.items ≡ [] }
+    ensures ran { MatchResult result (λ ran. RanBy ran line.now running.old out.new.items running.new)
+        (λ stop. IfRefused stop (λ kind. RefusedBy line.now kind running.old running.new)) }
+    ensures room { length room.new.items ≡ 10000 }
+{
+    if is_out_of_place(first_name(line)) {
+        return Err(Stop::Refused(ScriptKind::Word));
+    }
+    match parse_line(line) {
+        Err(kind) => Err(Stop::Refused(kind)),
+        Ok(says) => match run_said(alloc, running, room, says, out) {
+            Ok(ran) => Ok(ran),
+            Err(NoMemory) => Err(Stop::NoMemory),
+        },
+    }
+}

@@ -1,0 +1,24 @@
+use crate::fill_counts::FillCounts;
+use acq_core::Acq;
+use board_model::PlainBoard;
+use gentl_handles::{Handle, Tree};
+
+/// What a script runs on behind its header, and what its last line counts. Each count stands still at its
+/// type's end.
+#[derive(Drop)]
+pub struct Running {
+    /// The board of the stream that is open from the start.
+    pub(crate) board: PlainBoard,
+    /// The receiver of that stream.
+    pub(crate) acq: Acq,
+    /// The open handles.
+    pub(crate) tree: Tree,
+    /// That stream's handle.
+    pub(crate) stream: Handle,
+    /// What the receiver filled into the output.
+    pub(crate) counts: FillCounts,
+    /// Buffers that were handed out.
+    pub(crate) taken: u64,
+    /// Datagrams that came while the stream was stopped.
+    pub(crate) idle: u64,
+}
