@@ -1,12 +1,2 @@
-pub mod Numbers
-pub mod Judged
-pub mod Tellings
-pub mod Weights
-pub mod Scripts
-pub mod Assemblies
-pub mod Finishes
-pub mod ReadPackets
-pub mod Accounts
-pub mod Headlines
-pub mod Exacts
-pub mod Goods
+pub mod Keeping
+pub mod Endings

@@ -1,12 +1,12 @@
 -- The exit status of the program for each answer.
 use Rattle.std.specs.Prelude.{ℕ}
 use Rattle.gev_top.specs.declared.status.Status.{Status}
-use Rattle.gev_top.specs.declared.status.Status.TheVariants.{Done, Usage, ReadFault, WriteFault, NoMemory, Unbuilt}
+use Rattle.gev_top.specs.declared.status.Status.TheVariants.{Done, Usage, BadScript, ReadFault, WriteFault, NoMemory}
 
 abbrev pub exit_status : Status → ℕ
 exit_status Done = 0
 exit_status (Usage place) = 2
+exit_status (BadScript line kind) = 3
 exit_status ReadFault = 4
 exit_status WriteFault = 5
 exit_status NoMemory = 7
-exit_status (Unbuilt line) = 8

@@ -1,6 +1,7 @@
 ghost use Rattle.std.specs.Prelude.{◌≡◌};
 ghost use Rattle.gev_top.specs.ExitStatus.{exit_status};
 
+use gev_script::ScriptKind;
 use std::fmt;
 
 /// How a run of the program ended.
@@ -14,17 +15,19 @@ pub enum Status {
         /// more are wanted.
         place: u32,
     },
+    /// A line of the script is refused. The report of the lines before it was written.
+    BadScript {
+        /// The line's number, from 1.
+        line: u64,
+        /// Why it's refused.
+        kind: ScriptKind,
+    },
     /// Reading failed.
     ReadFault,
     /// Writing failed.
     WriteFault,
     /// Memory ran out.
     NoMemory,
-    /// A line of the script isn't of the form that is built.
-    Unbuilt {
-        /// The line's number, from 1.
-        line: u64,
-    },
 }
 
 impl Status {
@@ -35,10 +38,10 @@ impl Status {
         match self {
             Status::Done => 0,
             Status::Usage { .. } => 2,
+            Status::BadScript { .. } => 3,
             Status::ReadFault => 4,
             Status::WriteFault => 5,
             Status::NoMemory => 7,
-            Status::Unbuilt { .. } => 8,
         }
     }
 }
@@ -49,10 +52,31 @@ impl fmt::Display for Status {
         match self {
             Status::Done => write!(f, "done"),
             Status::Usage { place } => write!(f, "word {place} isn't understood"),
+            Status::BadScript { line, kind } => {
+                let cause = Cause(*kind);
+                write!(f, "line {line}: {cause}")
+            }
             Status::ReadFault => write!(f, "reading failed"),
             Status::WriteFault => write!(f, "writing failed"),
             Status::NoMemory => write!(f, "out of memory"),
-            Status::Unbuilt { line } => write!(f, "line {line} isn't built yet"),
+        }
+    }
+}
+
+/// Why a line is refused, as a text.
+#[derive(Drop)]
+struct Cause(ScriptKind);
+
+impl fmt::Display for Cause {
+    fn fmt<W: fmt::Write>(&self, f: &mut fmt::Formatter<W>) -> fmt::Result {
+        match self.0 {
+            ScriptKind::Header => write!(f, "header"),
+            ScriptKind::Word => write!(f, "word"),
+            ScriptKind::Number => write!(f, "number"),
+            ScriptKind::Hex => write!(f, "hex"),
+            ScriptKind::Long => write!(f, "too long"),
+            ScriptKind::NoEnd => write!(f, "no end"),
+            ScriptKind::Many => write!(f, "too many lines"),
         }
     }
 }

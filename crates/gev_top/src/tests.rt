@@ -4,21 +4,21 @@ use std::alloc::Global;
 use std::test::Fail;
 
 mod blocks;
+mod board;
 mod faults;
-mod forms;
+mod handles;
+mod refusals;
+mod waiting;
 mod words;
 
-/// The leader of block 1: Mono8, three pixels in one line.
-const LEADER: &str =
-    "0000000081000000000000000000000100000000000000010000000000000000010800010000000300000001000000000000000000000000";
+/// A script, and its report.
+#[derive(Clone, Copy)]
+pub struct Row {
+    script: &'static str,
+    report: &'static str,
+}
 
-/// Payload 1 of block 1, with the bytes `abc`.
-const PAYLOAD: &str = "0000000083000000000000000000000100000001616263";
-
-/// The trailer of block 1, with packet id 2.
-const TRAILER: &str = "00000000820000000000000000000001000000020000000100000001";
-
-/// The script of `LEADER`, `PAYLOAD` and `TRAILER`.
+/// The script of one block of three bytes, `abc`.
 const SCRIPT: &str = "\
 gevacq 1 528 1 1000 100 2
 announce 3
@@ -50,30 +50,31 @@ fn word_list(alloc: Global, words: &[&str]) -> Result<Vec<String>, Fail> {
 }
 
 /// The answer to a script, and what was written.
-fn replay(alloc: Global, script: &[u8]) -> Result<(Status, Vec<u8>), Fail> {
+fn replay(alloc: Global, script: &str) -> Result<(Status, Vec<u8>), Fail> {
     let words = word_list(alloc, &["replay"])?;
-    let mut source = SteadySource::new(script, 1000);
+    let mut source = SteadySource::new(script.as_bytes(), 1000);
     let mut sink = MemorySink::new(alloc, 1000, &[]);
     let status = gevacq_top(alloc, &words, &mut source, &mut sink);
     let written = sink.written().to_vec(alloc)?;
     Ok((status, written))
 }
 
-/// The script of these datagrams, in hex, over one buffer of `size` bytes, at this payload size.
-fn script_of(
-    alloc: Global,
-    payload_size: u32,
-    size: u32,
-    datagrams: &[&str],
-) -> Result<String, Fail> {
-    let mut text = format!(in alloc;
-        "gevacq 1 {payload_size} 1 1000 100 2\nannounce {size}\nqueue 0.1\nstart\n"
-    )?;
-    for datagram in datagrams {
-        text.push_str("d ")?;
-        text.push_str(datagram)?;
-        text.push_str("\n")?;
+#[test]
+fn reports(rt: HostRuntime) -> Result<(), Fail> {
+    let tables = [
+        blocks::BLOCKS,
+        waiting::WAITING,
+        waiting::FEW_BUFFERS,
+        board::CALLS,
+        board::STEPS,
+        handles::HANDLES,
+    ];
+    for table in tables {
+        for row in table {
+            let (status, written) = replay(rt.alloc(), row.script)?;
+            assert_eq!(rt; status, Status::Done, "{}", row.script);
+            assert_eq!(rt; written.as_slice(), row.report.as_bytes(), "{}", row.script);
+        }
     }
-    text.push_str("take\nend\n")?;
-    Ok(text)
+    Ok(())
 }

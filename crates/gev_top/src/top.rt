@@ -1,23 +1,23 @@
-ghost use Rattle.std.specs.Prelude.{◌≡◌, ◌↔◌, ℕ, Some, None, map};
+ghost use Rattle.std.specs.Prelude.{◌≡◌, ◌≢◌, ◌↔◌, ℕ, Some, None, map};
 ghost use Rattle.std.specs.String.{string_bytes};
-ghost use Rattle.gev_links.specs.Faults.{Rose};
-ghost use Rattle.gev_top.specs.Answers.{Replays, IfTold, AnswersContent};
-ghost use Rattle.gev_top.specs.Judging.{script_of};
+ghost use Rattle.script_runs.specs.Verdicts.{outcome, IfTold};
+ghost use Rattle.script_trace.specs.Standing.{first, replay_verdict};
+ghost use Rattle.gev_top.specs.Answers.{Replays, AnswersContent, status_of};
 ghost use Rattle.gev_top.specs.Usage.{usage_fault};
 
-use crate::reader::read_script;
-use crate::running::report;
 use crate::status::Status;
 use crate::usage::usage_fault;
-use gev_links::{Failed, Sink, Source, write_all};
+use gev_links::{Sink, Source};
 use gev_types::NoMemory;
+use script_replay::Replay;
+use script_runs::{Ending, Modelled, run_modelled};
 use std::alloc::Global;
 
-/// Does what the words say: `replay` reads a script of the form that is built from the source and
-/// writes its report to the sink.
+/// Does what the words say: `replay` runs the replay script that the source gives, and writes its report
+/// to the sink.
 ///
-/// The whole script is read before the report is made, and the whole report stands in memory before
-/// the first of it is written.
+/// Each line is run as it's read, and its report is written before the next line is read. Memory doesn't
+/// grow with the script but by the buffers that it announces.
 pub fn gevacq_top<S: Source, K: Sink>(
     alloc: Global,
     words: &[String],
@@ -30,15 +30,20 @@ pub fn gevacq_top<S: Source, K: Sink>(
         → (S.left source.new ≡ S.left source.old) × (K.written sink.new ≡ K.written sink.old)
         × (S.faults source.new ≡ S.faults source.old) × (K.faults sink.new ≡ K.faults sink.old) }
 
-    // Each other answer has its cause: what was read and written, and whose count of faults rose. The
-    // image of the take line is its block's frame, and it comes where all of the frame came.
+    // Each other answer has its cause: which lines were run, what was written, and whose count of faults
+    // rose. The bytes written are the report of one trace, which keeps its promises: under each map of
+    // frames from which the datagrams were sent, an image that is marked complete is its block's frame.
     ensures cause { usage_fault (map (λ word. string_bytes word) words.now) ≡ None
         → Replays result (S.left source.old) (S.left source.new) (S.faults source.old) (S.faults source.new)
         (K.written sink.old) (K.written sink.new) (K.faults sink.old) (K.faults sink.new) }
 
     // Where the source tells what it holds, its bytes decide, but for faults and want of memory.
     ensures exact { usage_fault (map (λ word. string_bytes word) words.now) ≡ None
-        → IfTold (S.left source.old) (λ content. AnswersContent result (script_of content)) }
+        → IfTold (S.left source.old) (λ content. AnswersContent result (outcome replay_verdict content)) }
+
+    // A count of faults changes only with the answer that tells of it.
+    ensures reads_steady { result ≢ Status.ReadFault → S.faults source.new ≡ S.faults source.old }
+    ensures writes_steady { result ≢ Status.WriteFault → K.faults sink.new ≡ K.faults sink.old }
 {
     match usage_fault(words) {
         Some(place) => Status::Usage { place },
@@ -46,21 +51,46 @@ pub fn gevacq_top<S: Source, K: Sink>(
     }
 }
 
-/// Reads a script and writes its report.
-fn replay<S: Source, K: Sink>(alloc: Global, source: &mut S, sink: &mut K) -> Status
-    ensures { Replays result (S.left source.old) (S.left source.new) (S.faults source.old) (S.faults source.new)
-        (K.written sink.old) (K.written sink.new) (K.faults sink.old) (K.faults sink.new) }
+/// The answer of a replay that ended so.
+fn status_of(ending: Ending) -> Status
+    ensures { result ≡ status_of ending }
 {
-    let script = match read_script(alloc, source) {
-        Ok(script) => script,
-        Err(status) => return status,
-    };
-    let text = match report(alloc, &script) {
-        Ok(text) => text,
-        Err(NoMemory) => return Status::NoMemory,
-    };
-    match write_all(sink, text.as_slice()) {
-        Ok(()) => Status::Done,
-        Err(Failed) => Status::WriteFault,
+    match ending {
+        Ending::Done => Status::Done,
+        Ending::BadLine { line, kind } => Status::BadScript { line, kind },
+        Ending::ReadFault => Status::ReadFault,
+        Ending::WriteFault => Status::WriteFault,
+        Ending::NoMemory => Status::NoMemory,
+    }
+}
+
+/// Runs the script over a machine that stands before its first line.
+fn run<S: Source, K: Sink>(
+    alloc: Global,
+    source: &mut S,
+    sink: &mut K,
+    machine: &mut Replay,
+) -> Status
+    requires { ⟦<Replay as Modelled>⟧.stands_for machine.old first }
+    ensures cause { Replays result (S.left source.old) (S.left source.new) (S.faults source.old) (S.faults source.new)
+        (K.written sink.old) (K.written sink.new) (K.faults sink.old) (K.faults sink.new) }
+    ensures exact { IfTold (S.left source.old) (λ content. AnswersContent result (outcome replay_verdict content)) }
+    ensures reads_steady { result ≢ Status.ReadFault → S.faults source.new ≡ S.faults source.old }
+    ensures writes_steady { result ≢ Status.WriteFault → K.faults sink.new ≡ K.faults sink.old }
+{
+    status_of(run_modelled(alloc, source, sink, machine))
+}
+
+/// Runs a replay script and writes its report.
+fn replay<S: Source, K: Sink>(alloc: Global, source: &mut S, sink: &mut K) -> Status
+    ensures cause { Replays result (S.left source.old) (S.left source.new) (S.faults source.old) (S.faults source.new)
+        (K.written sink.old) (K.written sink.new) (K.faults sink.old) (K.faults sink.new) }
+    ensures exact { IfTold (S.left source.old) (λ content. AnswersContent result (outcome replay_verdict content)) }
+    ensures reads_steady { result ≢ Status.ReadFault → S.faults source.new ≡ S.faults source.old }
+    ensures writes_steady { result ≢ Status.WriteFault → K.faults sink.new ≡ K.faults sink.old }
+{
+    match Replay::new(alloc) {
+        Ok(mut machine) => run(alloc, source, sink, &mut machine),
+        Err(NoMemory) => Status::NoMemory,
     }
 }

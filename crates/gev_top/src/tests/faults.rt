@@ -3,13 +3,16 @@ use crate::{Status, gevacq_top};
 use gev_links::{MemorySink, MemorySource};
 use std::test::Fail;
 
-/// A read that fails ends the run, whichever it is, and nothing is written. No read is made once the
-/// `end` line was read.
+/// The report of the lines before `take`.
+const BEFORE_TAKE: &str = "announce 0.1\nqueue ok\nstart ok\n";
+
+/// A read that fails ends the run, whichever it is, and what was written is the report of the whole
+/// lines that were read. No read is made once the `end` line was read.
 #[test]
 fn a_read_fails(rt: HostRuntime) -> Result<(), Fail> {
     let alloc = rt.alloc();
     let words = word_list(alloc, &["replay"])?;
-    for piece in [7, 8, 1000] {
+    for piece in [13, 50] {
         let reads = SCRIPT.len().div_ceil(piece) as u64;
         for failing in 1..=reads + 1 {
             let failing = [failing];
@@ -22,7 +25,10 @@ fn a_read_fails(rt: HostRuntime) -> Result<(), Fail> {
                 assert_eq!(rt; source.faults(), 0);
             } else {
                 assert_eq!(rt; status, Status::ReadFault, "{piece} {failing:?}");
-                assert!(rt; sink.written().is_empty(), "{piece} {failing:?}");
+                assert!(rt;
+                    REPORT.as_bytes().starts_with(sink.written()),
+                    "{piece} {failing:?}"
+                );
                 assert_eq!(rt; source.faults(), 1);
             }
         }
@@ -30,44 +36,49 @@ fn a_read_fails(rt: HostRuntime) -> Result<(), Fail> {
     Ok(())
 }
 
-/// Nothing is read past the line that isn't of the form.
+/// The reads before the one that fails gave all lines up to the take.
 #[test]
-fn no_read_past_a_refused_line(rt: HostRuntime) -> Result<(), Fail> {
+fn whole_lines_are_reported(rt: HostRuntime) -> Result<(), Fail> {
     let alloc = rt.alloc();
     let words = word_list(alloc, &["replay"])?;
-    let mut source = MemorySource::new(b"gevacq 2\ngevacq 1", 9, &[2]);
+    let mut source = MemorySource::new(SCRIPT.as_bytes(), SCRIPT.len() - 6, &[2]);
     let mut sink = MemorySink::new(alloc, 1000, &[]);
     let status = gevacq_top(alloc, &words, &mut source, &mut sink);
-    assert_eq!(rt; status, Status::Unbuilt { line: 1 });
-    assert_eq!(rt; source.faults(), 0);
+    assert_eq!(rt; status, Status::ReadFault);
+    assert_eq!(rt; sink.written(), BEFORE_TAKE.as_bytes());
     Ok(())
 }
 
-/// A write that fails ends the run, and the bytes before it stand.
+/// A write that fails ends the run, whichever it is, and the bytes before it stand, none of them twice.
 #[test]
 fn a_write_fails(rt: HostRuntime) -> Result<(), Fail> {
     let alloc = rt.alloc();
     let words = word_list(alloc, &["replay"])?;
-    for piece in [7, 8, 1000] {
-        let writes = REPORT.len().div_ceil(piece) as u64;
-        for failing in 1..=writes + 1 {
+    for piece in [7, 1000] {
+        let mut before = 0;
+        for failing in 1..=100 {
             let failing = [failing];
             let mut source = MemorySource::new(SCRIPT.as_bytes(), 1000, &[]);
             let mut sink = MemorySink::new(alloc, piece, &failing);
             let status = gevacq_top(alloc, &words, &mut source, &mut sink);
-            if failing == [writes + 1] {
-                assert_eq!(rt; status, Status::Done, "{piece} {failing:?}");
-                assert_eq!(rt; sink.written(), REPORT.as_bytes(), "{piece} {failing:?}");
-            } else {
-                assert_eq!(rt; status, Status::WriteFault, "{piece} {failing:?}");
-                assert!(rt;
-                    REPORT.as_bytes().starts_with(sink.written()),
-                    "{piece} {failing:?}"
-                );
-                let before = sink.written().len() as u64 / piece as u64;
-                assert!(rt; before + 1 == failing[0], "{piece} {failing:?}");
+            let written = sink.written();
+            if status == Status::Done {
+                assert_eq!(rt; written, REPORT.as_bytes(), "{piece} {failing:?}");
+                assert_eq!(rt; sink.faults(), 0);
+                break;
             }
+            assert_eq!(rt; status, Status::WriteFault, "{piece} {failing:?}");
+            assert!(rt;
+                REPORT.as_bytes().starts_with(written),
+                "{piece} {failing:?}"
+            );
+            assert!(rt;
+                (written.len() > before) == (failing[0] > 1),
+                "{piece} {failing:?}"
+            );
+            before = written.len();
         }
+        assert!(rt; before > 0 && before < REPORT.len(), "{piece}");
     }
     Ok(())
 }

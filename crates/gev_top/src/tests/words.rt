@@ -1,6 +1,7 @@
 use super::{SCRIPT, word_list};
 use crate::{Status, gevacq_top};
 use gev_links::{MemorySink, SteadySource};
+use gev_script::ScriptKind;
 use std::test::Fail;
 
 #[test]
@@ -29,10 +30,16 @@ fn refuses_other_words(rt: HostRuntime) -> Result<(), Fail> {
 fn numbers_and_texts(rt: HostRuntime) -> Result<(), Fail> {
     let cases = [
         (Status::Usage { place: 1 }, 2, "word 1 isn't understood"),
+        (bad_script(ScriptKind::Header), 3, "line 12: header"),
+        (bad_script(ScriptKind::Word), 3, "line 12: word"),
+        (bad_script(ScriptKind::Number), 3, "line 12: number"),
+        (bad_script(ScriptKind::Hex), 3, "line 12: hex"),
+        (bad_script(ScriptKind::Long), 3, "line 12: too long"),
+        (bad_script(ScriptKind::NoEnd), 3, "line 12: no end"),
+        (bad_script(ScriptKind::Many), 3, "line 12: too many lines"),
         (Status::ReadFault, 4, "reading failed"),
         (Status::WriteFault, 5, "writing failed"),
         (Status::NoMemory, 7, "out of memory"),
-        (Status::Unbuilt { line: 12 }, 8, "line 12 isn't built yet"),
     ];
     assert_eq!(rt; Status::Done.number(), 0);
     for (status, number, text) in cases {
@@ -40,4 +47,9 @@ fn numbers_and_texts(rt: HostRuntime) -> Result<(), Fail> {
         assert_eq!(rt; format!(in rt.alloc(); "{status}")?.as_str(), text);
     }
     Ok(())
+}
+
+/// The answer to a script whose line 12 is refused for this cause.
+fn bad_script(kind: ScriptKind) -> Status {
+    Status::BadScript { line: 12, kind }
 }
