@@ -73,7 +73,7 @@ carries_after v w c d event carries e once sizes = record {
         carries.sizes i f old ∙ sym (entered_keeps v w event i e mine).size
 
 -- the hand before the entry
-hand_then : (v w : View) (event : Event) (c : Slots) (i : ℕ) → Carries v.number v.seen c → (e : Entered v event w) → times i (slot_places c) ≡ times i (hand (After (v.seen ++ e.between)) v.number)
+pub hand_then : (v w : View) (event : Event) (c : Slots) (i : ℕ) → Carries v.number v.seen c → (e : Entered v event w) → times i (slot_places c) ≡ times i (hand (After (v.seen ++ e.between)) v.number)
 hand_then v w event c i carries e = carries.once i ∙ ap (λ h. times i (held h)) (sym e.grew.hand)
 
 -- an entry that changes nothing

@@ -68,7 +68,7 @@ holds_buffer order me i f is front e = record {
 }
 
 -- a place that the call doesn't touch
-same_by : (table table' : TableId) (me new after : Seated) (event : Event) (i : ℕ) → Carries new.0.number new.0.seen new.1 → new.0 ≡ me.0 → slot_of i new.1 ≡ slot_of i me.1
+pub same_by : (table table' : TableId) (me new after : Seated) (event : Event) (i : ℕ) → Carries new.0.number new.0.seen new.1 → new.0 ≡ me.0 → slot_of i new.1 ≡ slot_of i me.1
     → Entered new.0 event after.0 → slot_of i after.1 ≡ slot_of i new.1 → SamePlace i (token table me) (token table' after)
 same_by table table' me new after event i carries view was e is = record {
   slot = is ∙ was;

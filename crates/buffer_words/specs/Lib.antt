@@ -1,6 +1,14 @@
 pub mod Codes
+pub mod Tries
+pub mod Swept
 pub mod Rule
 pub mod Told
 pub mod Plays
+pub mod Meeting
 pub mod Boards
 pub mod Passes
+pub mod Loans
+pub mod Several
+pub mod Workers
+pub mod WorkLaws
+pub mod Witness

@@ -6,6 +6,7 @@ ghost use Rattle.board_machine.specs.Histories.{After, own_of};
 ghost use Rattle.board_machine.specs.Laws.{IsEnded};
 ghost use Rattle.buffer_words.specs.Boards.{board_id};
 ghost use Rattle.buffer_words.specs.Passes.{IsEmptyHanded, Enters, SameHands, own};
+ghost use Rattle.buffer_words.specs.Witness.{StaysOwn};
 
 use crate::pass::Pass;
 use crate::words::Board;
@@ -27,7 +28,8 @@ impl Board {
         Pass { seat, held }
     }
 
-    /// Takes in another pass, whose hands are empty; its actor ends.
+    /// Takes in another pass, whose hands are empty; its actor ends. What was seen is what both had
+    /// seen, and the other's entries in it, and in all that is seen later, are those that it had made.
     pub fn join(&self, pass: &mut Pass, other: Pass)
         requires table { pass.old.table ≡ board_id self.now }
         requires same { other.table ≡ board_id self.now }
@@ -36,6 +38,7 @@ impl Board {
         ensures begins { IsPrefix other.seen pass.new.seen }
         ensures own { own_of other.number pass.new.seen ≡ own other }
         ensures ended { IsEnded (After pass.new.seen) other.number }
+        ensures later { StaysOwn other.number pass.new.seen (own other) }
         ensures hands { SameHands pass.old pass.new }
     {
         let Pass { seat, held: _ } = other;

@@ -1,6 +1,7 @@
 //! The kinds of step on a place's word, each named for what it does.
 ghost use Rattle.std.specs.Prelude.{ℕ};
 ghost use Rattle.buffer_words.specs.Plays.{looked, reading, sought, grabbed, vacancy, enrolled, laid, vacated, bore, stays_idle, newborn, joining, spent, ends, looked_pool, pooled, saw_pool, claimed};
+ghost use Rattle.buffer_words.specs.Swept.{swept_pool};
 
 use crate::view::View;
 use atomic_table::{Join, Play, Split};
@@ -114,4 +115,10 @@ pub struct Claim<J: Asked>(PhantomData<J>);
 
 impl<J: Asked> Play<Option<Buf>, View> for Claim<J> {
     ghost then = { claimed J.number };
+}
+
+pub struct SweepPool;
+
+impl Play<Option<Buf>, View> for SweepPool {
+    ghost then = { swept_pool };
 }

@@ -8,8 +8,9 @@ ghost use Rattle.board_machine.specs.Histories.{After};
 ghost use Rattle.buffer_words.specs.Boards.{board_id};
 ghost use Rattle.buffer_words.specs.Codes.{IsPool};
 ghost use Rattle.buffer_words.specs.Plays.{IsIdle, HoldsBuffer, LooksAt, GivesBack, TakesBuffer, ReadsPool};
+ghost use Rattle.buffer_words.specs.Swept.{TakesAll};
 
-use crate::plays::{Asked, Claim, LookPool, Pool, SeePool};
+use crate::plays::{Asked, Claim, LookPool, Pool, SeePool, SweepPool};
 use crate::words::{Board, Seat};
 use arrayvec::ArrayVec;
 use std::marker::Brand;
@@ -103,5 +104,16 @@ impl Board {
         self.table
             .shared
             .compare_exchange::<Claim<J>>(seat, POOL, number, number ^ bit_of(place))
+    }
+
+    /// Takes the buffers of all of the pool's places in hand: the places, lowest first.
+    pub(crate) fn take_pool(&self, seat: &mut Seat) -> ArrayVec<u8, 15>
+        requires table { seat.old.table_id ≡ board_id self.now }
+        requires idle { IsIdle seat.old.me }
+        ensures table { seat.new.table_id ≡ seat.old.table_id }
+        ensures rising { IsRising result.items }
+        ensures sweeps { TakesAll seat.old.me (event.SweepPool result.items) result.items seat.new.me }
+    {
+        places_of(self.table.shared.swap::<SweepPool>(seat, POOL, 0))
     }
 }

@@ -1,13 +1,12 @@
 //! The board's first pass, and passes that part and meet.
 ghost use Rattle.std.specs.Prelude.{◌≡◌, [], IfOk};
-ghost use Rattle.board_machine.specs.declared.events.Event.TheVariants as event;
 ghost use Rattle.board_machine.specs.Machine.{hand_at, empty_hands};
-ghost use Rattle.board_machine.specs.Places.{IsPrefix};
-ghost use Rattle.board_machine.specs.Histories.{After, own_of};
-ghost use Rattle.board_machine.specs.Laws.{IsEnded};
+ghost use Rattle.board_machine.specs.Histories.{After};
+ghost use Rattle.buffer_words.specs.declared.view.View.{View};
 ghost use Rattle.buffer_words.specs.Boards.{board_id};
 ghost use Rattle.buffer_words.specs.Rule.{idle};
-ghost use Rattle.buffer_words.specs.Plays.{IsIdle, LooksAt};
+ghost use Rattle.buffer_words.specs.Plays.{Seated, IsIdle, joining};
+ghost use Rattle.buffer_words.specs.Meeting.{IsBearing, HasBorne, HasParted, IsJoining, HasMet};
 
 use crate::plays::{Bear, End, Meet, Part};
 use crate::words::{Board, Seat};
@@ -29,21 +28,66 @@ impl Board {
         Ok((Board { table }, seat))
     }
 
+    /// A split's load: adds an actor, whose pass isn't made yet.
+    fn bear(&self, seat: &mut Seat)
+        requires table { seat.old.table_id ≡ board_id self.now }
+        requires idle { IsIdle seat.old.me }
+        ensures table { seat.new.table_id ≡ seat.old.table_id }
+        ensures bears { HasBorne seat.old.me seat.new.me }
+    {
+        self.table.shared.load::<Bear>(seat, 0);
+    }
+
+    /// Makes the pass of the actor that was added.
+    fn cut(&self, seat: &mut Seat) -> Seat
+        requires table { seat.old.table_id ≡ board_id self.now }
+        requires bearing { IsBearing seat.old.me }
+        ensures table { seat.new.table_id ≡ seat.old.table_id }
+        ensures same { result.table_id ≡ seat.old.table_id }
+        ensures parts { (before : Seated) → HasBorne before seat.old.me → HasParted before seat.new.me result.me }
+    {
+        self.table.shared.split_seat::<Part>(seat)
+    }
+
     /// A further pass, with a new actor.
+    #[tactic(auto, using(crate::proofs::Parts::is_bearing))]
     pub(crate) fn part(&self, seat: &mut Seat) -> Seat
         requires table { seat.old.table_id ≡ board_id self.now }
         requires idle { IsIdle seat.old.me }
         ensures table { seat.new.table_id ≡ seat.old.table_id }
         ensures same { result.table_id ≡ seat.old.table_id }
-        ensures splits { LooksAt seat.old.me (event.Split result.me.0.number) seat.new.me }
-        ensures new { result.me ≡ (idle result.me.0.number seat.new.me.0.seen, []) }
-        ensures unborn { own_of result.me.0.number result.me.0.seen ≡ [] }
+        ensures parts { HasParted seat.old.me seat.new.me result.me }
     {
-        self.table.shared.load::<Bear>(seat, 0);
-        self.table.shared.split_seat::<Part>(seat)
+        self.bear(seat);
+        self.cut(seat)
+    }
+
+    /// Takes another pass in, whose actor is still to be ended.
+    fn take_in(&self, seat: &mut Seat, other: Seat)
+        requires table { seat.old.table_id ≡ board_id self.now }
+        requires same { other.table_id ≡ board_id self.now }
+        requires idle { IsIdle seat.old.me }
+        requires idle_too { IsIdle other.me }
+        requires no_slots { other.me.1 ≡ [] }
+        requires no_hands { hand_at (After other.me.0.seen) other.me.0.number ≡ empty_hands }
+        ensures table { seat.new.table_id ≡ seat.old.table_id }
+        ensures both { seat.new.me ≡ (joining seat.old.me.0 other.me.0, seat.old.me.1) }
+    {
+        self.table.shared.join_seat::<Meet>(seat, other);
+    }
+
+    /// A join's load: ends the actor of the pass that was taken in.
+    fn finish(&self, seat: &mut Seat)
+        requires table { seat.old.table_id ≡ board_id self.now }
+        requires joining { IsJoining seat.old.me }
+        ensures table { seat.new.table_id ≡ seat.old.table_id }
+        ensures met { (stays : Seated) (other : View) → seat.old.me ≡ (joining stays.0 other, stays.1) → HasMet stays other seat.new.me }
+    {
+        self.table.shared.load::<End>(seat, 0);
     }
 
     /// Takes in another pass, whose actor ends.
+    #[tactic(auto, using(crate::proofs::Parts::is_joining))]
     pub(crate) fn meet(&self, seat: &mut Seat, other: Seat)
         requires table { seat.old.table_id ≡ board_id self.now }
         requires same { other.table_id ≡ board_id self.now }
@@ -52,12 +96,9 @@ impl Board {
         requires no_slots { other.me.1 ≡ [] }
         requires no_hands { hand_at (After other.me.0.seen) other.me.0.number ≡ empty_hands }
         ensures table { seat.new.table_id ≡ seat.old.table_id }
-        ensures joins { LooksAt seat.old.me (event.Join other.me.0.number) seat.new.me }
-        ensures begins { IsPrefix other.me.0.seen seat.new.me.0.seen }
-        ensures own { own_of other.me.0.number seat.new.me.0.seen ≡ own_of other.me.0.number other.me.0.seen }
-        ensures ended { IsEnded (After seat.new.me.0.seen) other.me.0.number }
+        ensures met { HasMet seat.old.me other.me.0 seat.new.me }
     {
-        self.table.shared.join_seat::<Meet>(seat, other);
-        self.table.shared.load::<End>(seat, 0);
+        self.take_in(seat, other);
+        self.finish(seat);
     }
 }

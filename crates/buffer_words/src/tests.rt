@@ -1,0 +1,106 @@
+use super::*;
+use gentl_types::{BufferId, GcError, State, Word};
+use gev_types::Buf;
+use std::test::Fail;
+
+const HELD: Word = Word {
+    state: State::Held,
+    size: 3,
+    generation: 1,
+};
+
+const AWAY: Word = Word {
+    state: State::Away,
+    size: 3,
+    generation: 1,
+};
+
+const VACANT: Word = Word {
+    state: State::Vacant,
+    size: 3,
+    generation: 1,
+};
+
+// A buffer of three bytes is announced once and not twice, given to the application, grabbed by its own
+// generation and no other, and put into the pool.
+#[test]
+fn a_buffer_goes_round(rt: HostRuntime) -> Result<(), Fail> {
+    let (board, mut pass) = Board::new(rt.alloc())?;
+    let first = Buf::new(rt.alloc(), 3)?;
+    let Ok(generation) = board.enrol(&mut pass, 0, first) else {
+        return Err(Fail::new("not vacant"));
+    };
+    assert_eq!(rt; generation, 1);
+    let second = Buf::new(rt.alloc(), 3)?;
+    let Err((back, word)) = board.enrol(&mut pass, 0, second) else {
+        return Err(Fail::new("announced twice"));
+    };
+    assert_eq!(rt; back.bytes(), [0, 0, 0].as_slice());
+    assert_eq!(rt; word, AWAY);
+    board.lay(&mut pass, 0);
+    assert_eq!(rt; board.load(&mut pass, 0), HELD);
+    let Err(word) = board.grab(&mut pass, 0, 2) else {
+        return Err(Fail::new("grabbed by another generation"));
+    };
+    assert_eq!(rt; word, HELD);
+    let Ok(()) = board.grab(&mut pass, 0, 1) else {
+        return Err(Fail::new("not held"));
+    };
+    board.pool(&mut pass, 0);
+    assert_eq!(rt; board.look_pool(&mut pass).as_slice(), [0].as_slice());
+    assert_eq!(rt; board.load(&mut pass, 0), AWAY);
+    Ok(())
+}
+
+// A buffer is lifted and set down, lent and spent, and taken away.
+#[test]
+fn a_buffer_is_lent(rt: HostRuntime) -> Result<(), Fail> {
+    let (board, mut pass) = Board::new(rt.alloc())?;
+    let buf = Buf::new(rt.alloc(), 3)?;
+    let Ok(_) = board.enrol(&mut pass, 0, buf) else {
+        return Err(Fail::new("not vacant"));
+    };
+    let lifted = board.lift(&mut pass, 0);
+    board.set_down(&mut pass, 0, lifted);
+    let loan = board.lend(&mut pass, 0);
+    let id = BufferId {
+        place: 0,
+        generation: 1,
+    };
+    assert_eq!(rt; loan.id(), id);
+    assert_eq!(rt; loan.buf().bytes(), [0, 0, 0].as_slice());
+    let values = [
+        (4, Ok(0)),
+        (7, Ok(1)),
+        (9, Ok(0)),
+        (16, Ok(0)),
+        (29, Ok(0)),
+        (1, Err(GcError::NotAvailable(1))),
+    ];
+    for (which, expected) in values {
+        assert_eq!(rt; loan.info(which), expected);
+    }
+    tokens_cross(&board, &pass, &loan);
+    board.spend(&mut pass, loan);
+    let taken = board.vacate(&mut pass, 0);
+    assert_eq!(rt; taken.bytes(), [0, 0, 0].as_slice());
+    assert_eq!(rt; board.load(&mut pass, 0), VACANT);
+    Ok(())
+}
+
+// What another pass announced is found after its join.
+#[test]
+fn passes_meet(rt: HostRuntime) -> Result<(), Fail> {
+    let (board, mut pass) = Board::new(rt.alloc())?;
+    board_is_shared(&board);
+    let mut other = board.split(&mut pass);
+    let buf = Buf::new(rt.alloc(), 3)?;
+    let Ok(_) = board.enrol(&mut other, 14, buf) else {
+        return Err(Fail::new("not vacant"));
+    };
+    board.lay(&mut other, 14);
+    board.join(&mut pass, other);
+    pass.witness();
+    assert_eq!(rt; board.load(&mut pass, 14), HELD);
+    Ok(())
+}
