@@ -35,12 +35,12 @@ some_packets : (xs : List StreamPacket) → 1 ≤ length xs → has_packets xs �
 some_packets [] h = absurd (omega arith)
 some_packets (x ∷ xs) h = refl
 
-length-payloads_of : (f : Frame) (p n : ℕ) → length (payloads_of f p n) ≡ n
+pub length-payloads_of : (f : Frame) (p n : ℕ) → length (payloads_of f p n) ≡ n
 length-payloads_of f p zero = refl
 length-payloads_of f p (suc n) =
     omega (arith, length-append (payloads_of f p n) (payload (sent_head f (suc n)) (payload_bytes p f.pixels (suc n)) ∷ []), length-payloads_of f p n)
 
-length-sent_packets : (sent : SentFrame) → length (sent_packets sent) ≡ trailer_id sent + 1
+pub length-sent_packets : (sent : SentFrame) → length (sent_packets sent) ≡ trailer_id sent + 1
 length-sent_packets sent =
     let n : ℕ = payload_count sent.payload_size (length sent.frame.pixels) in
     omega (arith, length-append (payloads_of sent.frame sent.payload_size n) (trailer (sent_head sent.frame (n + 1)) sent.frame.size_y ∷ []), length-payloads_of sent.frame sent.payload_size n)

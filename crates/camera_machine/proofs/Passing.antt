@@ -201,7 +201,7 @@ passes_primary (Some kept) s h peer bytes moment head c k =
 keeps_resent : (s : Camera) (h : Holder) (peer : Peer) (r : Option Resend) → KeepsControl s h → KeepsControl (resent s peer r) h
 keeps_resent s h peer r k = go (is_primary s.holder peer && is_open s) r
   where
-    reply : (b : Bool) (r : Resend) → KeepsControl (if b then record s { waiting = s.waiting ++ record { is_reply = true; packets = replies_to s.shelf r } ∷ [] } else s) h
+    reply : (b : Bool) (r : Resend) → KeepsControl (record s { waiting = if b then s.waiting ++ record { is_reply = true; packets = replies_to s.shelf r } ∷ [] else s.waiting }) h
     reply true r = record { holder = k.holder; is = k.is; same_peer = k.same_peer }
     reply false r = k
 

@@ -255,7 +255,7 @@ left_primary start (Some kept) s ds peer bytes moment head c h =
 left_reply : (start s : Camera) (ds : List Deed) (r : Resend) → IsLeftBy start s ds → IsLeftBy start (with_reply s r) ds
 left_reply start s ds r h = go (nat_lt (reply_count s.waiting) MAX_REPLIES)
   where
-    go : (b : Bool) → IsLeftBy start (if b then record s { waiting = s.waiting ++ record { is_reply = true; packets = replies_to s.shelf r } ∷ [] } else s) ds
+    go : (b : Bool) → IsLeftBy start (record s { waiting = if b then s.waiting ++ record { is_reply = true; packets = replies_to s.shelf r } ∷ [] else s.waiting }) ds
     go true = record { words = h.words; privilege = h.privilege; kept = h.kept; executed = h.executed; waiting = filled_push s.waiting (record { is_reply = true; packets = replies_to s.shelf r }) h.waiting (replies_filled s.shelf r); seed_is = h.seed_is; shape_is = h.shape_is; room_is = h.room_is; store = h.store }
     go false = h
 

@@ -252,7 +252,7 @@ sound_reply : (frames : Frames) (p seed : ℕ) (shape : Shape) (s : Camera) (r :
     → IsSound frames p seed shape (with_reply s r)
 sound_reply frames p seed shape s r one h = go (nat_lt (reply_count s.waiting) MAX_REPLIES)
   where
-    go : (b : Bool) → IsSound frames p seed shape (if b then record s { waiting = s.waiting ++ record { is_reply = true; packets = replies_to s.shelf r } ∷ [] } else s)
+    go : (b : Bool) → IsSound frames p seed shape (record s { waiting = if b then s.waiting ++ record { is_reply = true; packets = replies_to s.shelf r } ∷ [] else s.waiting })
     go true = record {
       seed_is = h.seed_is;
       shape_is = h.shape_is;

@@ -13,8 +13,32 @@ use Rattle.bootstrap_regs.specs.Words.{word_at}
 use Rattle.resend_store.specs.declared.sent.SentFrame.{SentFrame}
 use Rattle.resend_store.specs.declared.reply.Reply.{Reply}
 use Rattle.resend_store.specs.declared.reply.Reply.TheVariants.{Packets, Notice}
-use Rattle.resend_store.specs.Shelf.{Shelf, with_pushed, held_in, reply_in}
+use Rattle.resend_store.specs.Shelf.{Shelf, empty_shelf, with_pushed, held_in, reply_in}
 use Rattle.camera_machine.specs.Camera.{Camera, Job, is_open}
+
+-- What the stream channel holds: the frames that can be sent again, and what waits to be sent.
+pub record StreamState : Type 0 where
+  pub shelf : Shelf
+  pub waiting : List Job
+
+abbrev pub stream_of : Camera → StreamState
+stream_of s = record { shelf = s.shelf; waiting = s.waiting }
+
+-- the camera whose stream channel holds this
+abbrev pub with_stream : Camera → StreamState → Camera
+with_stream s t = record s { shelf = t.shelf; waiting = t.waiting }
+
+-- no frame was made yet; at most so many are held
+abbrev pub new_stream : ℕ → StreamState
+new_stream room = record { shelf = empty_shelf room; waiting = [] }
+
+-- all frames are forgotten, and nothing waits
+abbrev pub forgotten : StreamState → StreamState
+forgotten t = new_stream t.shelf.room
+
+-- what waits is dropped
+abbrev pub dropped : StreamState → StreamState
+dropped t = record t { waiting = [] }
 
 -- ---- frames
 
@@ -33,11 +57,14 @@ next_frame s = record { frame = frame_of s.seed (s.shelf.count + 1) s.shape; pay
 abbrev pub sent_packets : SentFrame → List StreamPacket
 sent_packets sent = packets_of sent.frame sent.payload_size
 
-abbrev pub with_frame : Camera → SentFrame → Camera
-with_frame s sent = record s {
-  shelf = with_pushed s.shelf sent;
-  waiting = s.waiting ++ record { is_reply = false; packets = sent_packets sent } ∷ [];
+abbrev pub frame_pushed : StreamState → SentFrame → StreamState
+frame_pushed t sent = record {
+  shelf = with_pushed t.shelf sent;
+  waiting = t.waiting ++ record { is_reply = false; packets = sent_packets sent } ∷ [];
 }
+
+abbrev pub with_frame : Camera → SentFrame → Camera
+with_frame s sent = with_stream s (frame_pushed (stream_of s) sent)
 
 -- a frame is made while the channel is open
 abbrev pub framed : Camera → Camera
@@ -76,10 +103,14 @@ reply_count [] = 0
 reply_count (job ∷ jobs) = if job.is_reply then reply_count jobs + 1 else reply_count jobs
 
 -- what a command asks for waits, unless too many replies do
+abbrev pub reply_queued : StreamState → Resend → StreamState
+reply_queued t r = record t {
+  waiting = if nat_lt (reply_count t.waiting) MAX_REPLIES then t.waiting ++ record { is_reply = true; packets = replies_to t.shelf r } ∷ []
+      else t.waiting;
+}
+
 abbrev pub with_reply : Camera → Resend → Camera
-with_reply s r =
-    if nat_lt (reply_count s.waiting) MAX_REPLIES then record s { waiting = s.waiting ++ record { is_reply = true; packets = replies_to s.shelf r } ∷ [] }
-    else s
+with_reply s r = with_stream s (reply_queued (stream_of s) r)
 
 abbrev pub asked_again : Camera → Option Resend → Camera
 asked_again s None = s
@@ -119,8 +150,11 @@ abbrev pub without_first : List Job → List Job
 without_first [] = []
 without_first (job ∷ jobs) = rest_of job.is_reply job.packets jobs
 
+abbrev pub packet_given : StreamState → StreamState
+packet_given t = record t { waiting = without_first t.waiting }
+
 abbrev pub given : Camera → Camera
-given s = record s { waiting = without_first s.waiting }
+given s = with_stream s (packet_given (stream_of s))
 
 -- the packets that so many calls give, and the camera after them
 abbrev pub packets_given : ℕ → Camera → List StreamPacket

@@ -1,0 +1,4 @@
+pub mod Spans
+pub mod Queue
+pub mod Held
+pub mod Writing

@@ -1,0 +1,7 @@
+pub mod Few
+pub mod InPlace
+pub mod Judging
+pub mod OneReport
+pub mod Giving
+pub mod Telling
+pub mod WorkedScripts

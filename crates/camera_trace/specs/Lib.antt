@@ -1,0 +1,5 @@
+pub mod Serving
+pub mod Standing
+pub mod Printing
+pub mod Laws
+pub mod Worked

@@ -1,0 +1,4 @@
+pub mod Sessions
+pub mod Schedule
+pub mod Laws
+pub mod Rows
