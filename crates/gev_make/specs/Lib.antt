@@ -1,0 +1,4 @@
+pub mod Network
+pub mod MakeText
+pub mod Writing
+pub mod Laws
