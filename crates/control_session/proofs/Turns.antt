@@ -122,13 +122,9 @@ is_primary_renewed (Some h) peer moment = go (is_peer h.peer peer)
 quiet_resent : (s : Camera) (peer : Peer) (r : Option Resend) → IsQuiet s (silent (resent s peer r))
 quiet_resent s peer r = go (is_primary s.holder peer && is_open s) r
   where
-    reply : (b : Bool) (r : Resend) → IsQuiet s (silent (if b then record s { waiting = s.waiting ++ record { is_reply = true; packets = replies_to s.shelf r } ∷ [] } else s))
-    reply true r = record { primary = refl; kept = refl; execution = refl; ack = no_ack refl }
-    reply false r = quiet_silent s
-
     go : (b : Bool) (r : Option Resend) → IsQuiet s (silent (if b then asked_again s r else s))
     go true None = quiet_silent s
-    go true (Some r) = reply (nat_lt (reply_count s.waiting) MAX_REPLIES) r
+    go true (Some r) = record { primary = refl; kept = refl; execution = refl; ack = no_ack refl }
     go false r = quiet_silent s
 
 quiet_if : (s : Camera) (b : Bool) (x y : Answered) → IsQuiet s x → IsQuiet s y → IsQuiet s (if b then x else y)
