@@ -19,6 +19,8 @@ mod retired;
 mod running;
 mod step_line;
 mod steps;
+#[cfg(test)]
+mod tests;
 
 pub use acquisition_lines::{datagram, start, stop, tick};
 pub use board_lines::{announce, event_flush, flush, info, kill, queue, revoke};
