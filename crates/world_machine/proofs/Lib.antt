@@ -1,0 +1,4 @@
+pub mod Texts
+pub mod Fits
+pub mod Turns
+pub mod WholeRounds

@@ -1,0 +1,10 @@
+pub mod State
+pub mod Queues
+pub mod ClientTurn
+pub mod CameraTurn
+pub mod HostTurn
+pub mod Rounds
+pub mod Soak
+pub mod Acts
+pub mod Laws
+pub mod Rows

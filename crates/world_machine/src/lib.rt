@@ -1,0 +1,18 @@
+//! The world of a soak run: camera, network, client and host as one machine, in rounds of 10 ms.
+//!
+//! `specs/State.antt` says what a world is, `specs/Rounds.antt` what a round does, and `specs/Soak.antt`
+//! what a run writes and how it ends. The host is whatever has the functions of `Host`, so this crate
+//! stands on no receiver and no board. The functions of `laws` say what follows, and those of `rows`
+//! work examples through. The code is in a crate above.
+#![tactic(auto)]
+
+mod laws;
+mod rows;
+#[cfg(test)]
+mod tests;
+
+pub use laws::{
+    commands_of_a_run_act_once, rounds_are_acts_of_a_session, run_ends_in_a_round,
+    run_has_one_text_and_one_end,
+};
+pub use rows::{nothing_comes_through, setup_alone_is_a_run};
