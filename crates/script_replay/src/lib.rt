@@ -22,13 +22,4 @@ mod steps;
 #[cfg(test)]
 mod tests;
 
-pub use acquisition_lines::{datagram, start, stop, tick};
-pub use board_lines::{announce, event_flush, flush, info, kill, queue, revoke};
-pub use buffer_lines::{buffer_info, take};
-pub use closing_lines::close_all;
-pub use fill_counts::FillCounts;
-pub use handle_lines::open_child;
-pub use opening::{open_board, open_handles};
 pub use replay::Replay;
-pub use running::Running;
-pub use step_line::step;

@@ -1,12 +1,9 @@
-//! Lines that are run one by one, and each call of this crate. Whole scripts are tested above.
+//! Lines that are run one by one. Whole scripts are tested above.
 
-ghost use Rattle.std.specs.Prelude.{◌≡◌, ◌≤◌, [], length, IfOk};
-ghost use Rattle.script_replay.specs.Replays.{IsReplaying};
+ghost use Rattle.std.specs.Prelude.{◌≡◌, ◌≤◌, [], length};
 
-use crate::beginning::first_line;
-use crate::*;
-use gentl_types::BufferId;
-use gev_script::{Act, ScriptKind};
+use crate::Replay;
+use gev_script::ScriptKind;
 use script_runs::{Machine, Ran, Stop};
 use std::alloc::Global;
 use std::process::Abort;
@@ -146,102 +143,4 @@ fn lines_one_by_one(rt: HostRuntime) -> Result<(), Fail> {
         check_line(&rt, rt.alloc(), &mut replay, line, *told)?;
     }
     check_line(&rt, rt.alloc(), &mut replay, "end", Told::Last(END))
-}
-
-/// Compares what was said, and empties it.
-fn check_said(rt: &impl Abort, out: &mut Vec<u8>, want: &str)
-    ensures { out.new.items ≡ [] }
-{
-    assert_eq!(rt; out.as_slice(), want.as_bytes(), "{want}");
-    out.clear();
-}
-
-/// The first buffer's id.
-const FIRST: BufferId = BufferId {
-    place: 0,
-    generation: 1,
-};
-
-#[test]
-fn calls_that_tell_of_buffers(rt: HostRuntime) -> Result<(), Fail> {
-    let alloc = rt.alloc();
-    let mut board = open_board(alloc)?;
-    let mut out = Vec::new(alloc);
-    announce(alloc, &mut board, 3, &mut out)?;
-    check_said(&rt, &mut out, "announce 0.1\n");
-    info(alloc, &mut board, 3, &mut out)?;
-    check_said(&rt, &mut out, "info 3 1\n");
-    buffer_info(alloc, &mut board, FIRST, 1, &mut out)?;
-    check_said(&rt, &mut out, "binfo 1 3\n");
-    let taken = step(alloc, &mut board, 1, Act::Grab, Some(0), &mut out)?;
-    assert_eq!(rt; taken, 0);
-    check_said(&rt, &mut out, "step 1 grab ok\n");
-    revoke(alloc, &mut board, FIRST, &mut out)?;
-    check_said(&rt, &mut out, "revoke -1022\n");
-    Ok(())
-}
-
-#[test]
-fn calls_of_the_queue(rt: HostRuntime) -> Result<(), Fail> {
-    let alloc = rt.alloc();
-    let mut board = open_board(alloc)?;
-    let mut out = Vec::new(alloc);
-    queue(alloc, &mut board, FIRST, &mut out)?;
-    check_said(&rt, &mut out, "queue -1006\n");
-    flush(alloc, &mut board, 0, &mut out)?;
-    check_said(&rt, &mut out, "flush ok\n");
-    event_flush(alloc, &mut board, &mut out)?;
-    check_said(&rt, &mut out, "event-flush ok\n");
-    kill(alloc, &mut board, &mut out)?;
-    check_said(&rt, &mut out, "kill ok\n");
-    Ok(())
-}
-
-#[test]
-fn calls_on_handles(rt: HostRuntime) -> Result<(), Fail> {
-    let alloc = rt.alloc();
-    let mut board = open_board(alloc)?;
-    let (mut tree, stream) = open_handles(alloc)?;
-    let mut out = Vec::new(alloc);
-    let taken = take(alloc, &mut board, &tree, stream, &mut out)?;
-    assert_eq!(rt; taken, 0);
-    check_said(&rt, &mut out, "take -1011\n");
-    open_child(alloc, &mut tree, Some(3), 1, &mut out)?;
-    check_said(&rt, &mut out, "open 6\n");
-    close_all(alloc, &mut tree, &mut board, 4, &mut out)?;
-    check_said(&rt, &mut out, "close ok\n");
-    Ok(())
-}
-
-/// What stands behind a header.
-fn begun(alloc: Global) -> Result<Running, Fail>
-    ensures { IfOk result (λ r. IsReplaying r) }
-{
-    Ok(first_line(alloc, HEADER.as_bytes())?)
-}
-
-#[test]
-fn calls_of_the_acquisition(rt: HostRuntime) -> Result<(), Fail> {
-    let alloc = rt.alloc();
-    let mut running = begun(alloc)?;
-    let board = &mut running.board;
-    let acq = &mut running.acq;
-    let mut counts = FillCounts {
-        fills: 0,
-        complete: 0,
-    };
-    let mut room = [0u8; 1];
-    let mut out = Vec::new(alloc);
-    start(alloc, board, acq, &mut out)?;
-    check_said(&rt, &mut out, "start ok\n");
-    let idle = datagram(board, acq, &mut counts, b"00", &mut room);
-    assert_eq!(rt; idle, 0);
-    tick(alloc, board, acq, &mut counts, 100, &mut out)?;
-    check_said(&rt, &mut out, "");
-    stop(alloc, board, acq, &mut counts, 0, &mut out)?;
-    check_said(&rt, &mut out, "stop ok\n");
-    let idle = datagram(board, acq, &mut counts, b"00", &mut room);
-    assert_eq!(rt; idle, 1);
-    assert_eq!(rt; counts.fills, 0);
-    Ok(())
 }
