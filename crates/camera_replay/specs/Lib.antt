@@ -1,0 +1,4 @@
+pub mod Running
+pub mod Lines
+pub mod Packets
+pub mod Simulation

@@ -1,0 +1,10 @@
+-- The writes so far, and then the rest, are all.
+use Rattle.std.proofs.Common.{◌≡◌, ◌*◌, ◌-◌, ◌/◌, length, drop}
+use Rattle.camera_machine.specs.Access.{write_all, pairs_in}
+use Rattle.camera_sim.specs.Words.{wrote, joined}
+use Rattle.camera_sim.proofs.camera.Camera.write_pairs.Given as goal
+
+abbrev pub invariant-loop-i : goal.invariant-loop-i
+invariant-loop-i l =
+    wrote (write_all l.initial.self l.peer l.moment (pairs_in (length l.pairs / 8) l.pairs))
+    ≡ joined l.i l.has_granted (write_all l.self l.peer l.moment (pairs_in (length l.pairs / 8 - l.i) (drop (8 * l.i) l.pairs)))

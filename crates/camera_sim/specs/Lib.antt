@@ -1,0 +1,4 @@
+pub mod Seen
+pub mod Words
+pub mod Doing
+pub mod Obeying
