@@ -10,6 +10,8 @@ mod camera;
 mod done;
 mod kept;
 mod messages;
+#[cfg(test)]
+mod tests;
 mod writes;
 
 pub use acknowledge::MESSAGE_SIZE;
