@@ -1,9 +1,7 @@
 -- The run of a camera script stands for the plain state that its contracts see, so that each line is run and refused
 -- alike.
-use Rattle.std.specs.Prelude.{◌≡◌, ℕ, List, refl}
+use Rattle.std.specs.Prelude.{◌≡◌, refl}
 use Rattle.std.proofs.Common.{subst}
-use Rattle.gev_script.specs.declared.kind.ScriptKind.{ScriptKind}
-use Rattle.script_runs.specs.declared.ran.Ran.{Ran}
 use Rattle.script_runs.specs.Simulation.{Simulates, RefusesAlike}
 use Rattle.camera_trace.specs.Standing.{Standing, CameraRuns, CameraRefuses}
 

@@ -1,6 +1,6 @@
 //! The lines behind the header.
 
-ghost use Rattle.std.specs.Prelude.{◌≡◌, ◌≤◌, [], length, IfOk, IfErr, OnOk, MatchResult};
+ghost use Rattle.std.specs.Prelude.{◌≡◌, ◌≤◌, [], length, IfOk, IfErr, MatchResult};
 ghost use Rattle.gev_script.specs.Lines as line;
 ghost use Rattle.gev_script.specs.Lines.{view};
 ghost use Rattle.gev_script.specs.Grammar.{first_name as name_first};

@@ -1,6 +1,6 @@
 //! What each line of a camera script has the camera do.
 
-ghost use Rattle.std.specs.Prelude.{◌≡◌, ◌*◌, ◌≤◌, ◌++◌, [], length, IsOk, OnOk, IfOk, option_map};
+ghost use Rattle.std.specs.Prelude.{◌≡◌, ◌*◌, [], length, IsOk, OnOk, option_map};
 ghost use Rattle.hex.specs.Hex.{decode_of};
 ghost use Rattle.gev_script.specs.Lines as line;
 ghost use Rattle.gev_script.specs.Spelling.{IsCommand};
