@@ -1,30 +1,32 @@
--- What a replay has read and written, from what its run has.
+-- What a script has read and written, from what its run has.
 use Rattle.std.proofs.Common.{ℕ, List, [], length, Option, Some, None, refl, sym, ap, append-nil, arith, inl}
 use Rattle.gev_links.specs.Told.{Gives, Appends}
 use Rattle.script_runs.specs.declared.ran.Ran.TheVariants.{Ended}
 use Rattle.script_runs.specs.declared.ending.Ending.{Ending}
 use Rattle.script_runs.specs.declared.ending.Ending.TheVariants as endings
-use Rattle.script_runs.specs.Runs.{RunsLines, AreLines}
+use Rattle.script_runs.specs.Runs.{Running, Refusing, RunsLines, AreLines}
 use Rattle.script_runs.specs.Outcomes.{EndsAt, RunEnds}
 use Rattle.script_runs.specs.Verdicts as runs
 use Rattle.script_runs.specs.Verdicts.{Outcome, whole, refused, IfTold}
-use Rattle.script_trace.specs.Standing.{Standing, first, ReplayRuns, ReplayRefuses}
-use Rattle.script_trace.proofs.Scripts.{runs_keep}
-use Rattle.gev_top.specs.Answers.{RunsWell, Ends, Replays, status_of, AnswersContent}
-use Rattle.gev_top.proofs.Keeping.{lines_well, last_well}
+use Rattle.gev_top.specs.declared.status.Status.{Status}
+use Rattle.gev_top.specs.declared.status.Status.TheVariants as statuses
+use Rattle.gev_top.specs.Scripts.{RunsWell, Ends, IfEnded, status_of, AnswersContent}
+use Rattle.gev_top.proofs.Keeping.{IsKept, lines_well, last_well}
 
-ends_at_well : (lines : List (List ℕ)) (text : List ℕ) (now : Standing) (rest : List ℕ) (ending : Ending) (left : Option (List ℕ)) (a b c d : ℕ) (Wrote : List ℕ → Type 0) → AreLines lines → RunsLines ReplayRuns first 0 lines text now
-    → EndsAt ReplayRuns ReplayRefuses now (length lines) rest ending left a b c d Wrote → EndsAt RunsWell ReplayRefuses now (length lines) rest ending left a b c d Wrote
-ends_at_well lines text now rest endings.Done left a b c d Wrote are led h = last_well lines text now Ended rest Wrote are led h
-ends_at_well lines text now rest (endings.BadLine line kind) left a b c d Wrote are led h = h
-ends_at_well lines text now rest endings.ReadFault left a b c d Wrote are led h = h
-ends_at_well lines text now rest endings.WriteFault left a b c d Wrote are led h = (h.0, (h.1.0, last_well lines text now h.1.0 rest _ are led h.1.1))
-ends_at_well lines text now rest endings.NoMemory left a b c d Wrote are led h = h
+ends_at_well : {M : Type 0} (moves : Running M) (refuses : Refusing M) (Keeps : M → Type 0) (Says : List ℕ → M → Type 0) (first : M) → IsKept moves Keeps Says first
+    → (lines : List (List ℕ)) (text : List ℕ) (now : M) (rest : List ℕ) (ending : Ending) (left : Option (List ℕ)) (a b c d : ℕ) (Wrote : List ℕ → Type 0) → AreLines lines → RunsLines moves first 0 lines text now
+    → EndsAt moves refuses now (length lines) rest ending left a b c d Wrote → EndsAt (RunsWell moves Keeps) refuses now (length lines) rest ending left a b c d Wrote
+ends_at_well moves refuses Keeps Says first kept lines text now rest endings.Done left a b c d Wrote are led h = last_well moves Keeps Says first kept lines text now Ended rest Wrote are led h
+ends_at_well moves refuses Keeps Says first kept lines text now rest (endings.BadLine line kind) left a b c d Wrote are led h = h
+ends_at_well moves refuses Keeps Says first kept lines text now rest endings.ReadFault left a b c d Wrote are led h = h
+ends_at_well moves refuses Keeps Says first kept lines text now rest endings.WriteFault left a b c d Wrote are led h = (h.0, (h.1.0, last_well moves Keeps Says first kept lines text now h.1.0 rest _ are led h.1.1))
+ends_at_well moves refuses Keeps Says first kept lines text now rest endings.NoMemory left a b c d Wrote are led h = h
 
-pub ends_well : (ending : Ending) (left left_after : Option (List ℕ)) (reads reads_after : ℕ) (written written_after : Option (List ℕ)) (writes writes_after : ℕ)
-    → RunEnds ReplayRuns ReplayRefuses first ending left left_after reads reads_after written written_after writes writes_after
-    → Ends ending left left_after reads reads_after written written_after writes writes_after
-ends_well ending left left_after reads reads_after written written_after writes writes_after h = record {
+pub ends_well : {M : Type 0} (moves : Running M) (refuses : Refusing M) (Keeps : M → Type 0) (Says : List ℕ → M → Type 0) (first : M) → IsKept moves Keeps Says first
+    → (ending : Ending) (left left_after : Option (List ℕ)) (reads reads_after : ℕ) (written written_after : Option (List ℕ)) (writes writes_after : ℕ)
+    → RunEnds moves refuses first ending left left_after reads reads_after written written_after writes writes_after
+    → Ends moves refuses Keeps Says first ending left left_after reads reads_after written written_after writes writes_after
+ends_well moves refuses Keeps Says first kept ending left left_after reads reads_after written written_after writes writes_after h = record {
   now = h.now;
   lines = h.lines;
   rest = h.rest;
@@ -33,22 +35,28 @@ ends_well ending left left_after reads reads_after written written_after writes 
   are = h.are;
   counted = h.counted;
   prompt = h.prompt;
-  ran = lines_well h.lines h.text h.now h.are h.ran;
+  ran = lines_well moves Keeps Says first kept h.lines h.text h.now h.are h.ran;
   holds = record {
-    keeps = runs_keep.so_far h.lines h.text h.now h.are h.ran;
-    said = runs_keep.said h.lines h.text h.now h.ran;
-    ends = ends_at_well h.lines h.text h.now h.rest ending left_after reads reads_after writes writes_after _ h.are h.ran h.holds;
+    keeps = kept.so_far h.lines h.text h.now h.are h.ran;
+    said = kept.said h.lines h.text h.now h.ran;
+    ends = ends_at_well moves refuses Keeps Says first kept h.lines h.text h.now h.rest ending left_after reads reads_after writes writes_after _ h.are h.ran h.holds;
   };
 }
 
-pub replays : (ending : Ending) (left left_after : Option (List ℕ)) (reads reads_after : ℕ) (written written_after : Option (List ℕ)) (writes writes_after : ℕ)
-    → RunEnds ReplayRuns ReplayRefuses first ending left left_after reads reads_after written written_after writes writes_after
-    → Replays (status_of ending) left left_after reads reads_after written written_after writes writes_after
-replays endings.Done left left_after reads reads_after written written_after writes writes_after h = ends_well _ left left_after reads reads_after written written_after writes writes_after h
-replays (endings.BadLine line kind) left left_after reads reads_after written written_after writes writes_after h = ends_well _ left left_after reads reads_after written written_after writes writes_after h
-replays endings.ReadFault left left_after reads reads_after written written_after writes writes_after h = ends_well _ left left_after reads reads_after written written_after writes writes_after h
-replays endings.WriteFault left left_after reads reads_after written written_after writes writes_after h = ends_well _ left left_after reads reads_after written written_after writes writes_after h
-replays endings.NoMemory left left_after reads reads_after written written_after writes writes_after h = ends_well _ left left_after reads reads_after written written_after writes writes_after h
+pub if_ended : (P Q : Ending → Type 0) → ((ending : Ending) → P ending → Q ending) → (status : Status) → IfEnded P status → IfEnded Q status
+if_ended P Q f statuses.Done h = f endings.Done h
+if_ended P Q f (statuses.BadScript line kind) h = f (endings.BadLine line kind) h
+if_ended P Q f statuses.ReadFault h = f endings.ReadFault h
+if_ended P Q f statuses.WriteFault h = f endings.WriteFault h
+if_ended P Q f statuses.NoMemory h = f endings.NoMemory h
+if_ended P Q f (statuses.Usage place) h = h
+
+pub ended : (P : Ending → Type 0) (ending : Ending) → P ending → IfEnded P (status_of ending)
+ended P endings.Done h = h
+ended P (endings.BadLine line kind) h = h
+ended P endings.ReadFault h = h
+ended P endings.WriteFault h = h
+ended P endings.NoMemory h = h
 
 gives_none : (left : Option (List ℕ)) → Gives left left []
 gives_none None = refl
@@ -59,8 +67,9 @@ appends_none None = refl
 appends_none (Some bytes) = ap (λ u. Some u) (sym (append-nil bytes))
 
 -- nothing was read or written, for want of memory
-pub unbegun : (left : Option (List ℕ)) (reads : ℕ) (written : Option (List ℕ)) (writes : ℕ) → Ends endings.NoMemory left left reads reads written written writes writes
-unbegun left reads written writes = record {
+pub unbegun : {M : Type 0} (moves : Running M) (refuses : Refusing M) (Keeps : M → Type 0) (Says : List ℕ → M → Type 0) (first : M) → IsKept moves Keeps Says first
+    → (left : Option (List ℕ)) (reads : ℕ) (written : Option (List ℕ)) (writes : ℕ) → Ends moves refuses Keeps Says first endings.NoMemory left left reads reads written written writes writes
+unbegun moves refuses Keeps Says first kept left reads written writes = record {
   now = first;
   lines = [];
   rest = [];
@@ -70,7 +79,7 @@ unbegun left reads written writes = record {
   counted = omega arith;
   prompt = record { held = []; more = []; parts = refl; prompt = record { before = []; piece = []; parts = refl; open_before = inl refl } };
   ran = (refl, refl);
-  holds = record { keeps = tt; said = refl; ends = appends_none written };
+  holds = record { keeps = kept.so_far [] [] first tt (refl, refl); said = kept.said [] [] first (refl, refl); ends = appends_none written };
 }
 
 answers : (ending : Ending) (found : Outcome) → runs.AnswersContent ending found → AnswersContent (status_of ending) found

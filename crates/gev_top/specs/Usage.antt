@@ -1,14 +1,81 @@
--- The words of the command line.
-use Rattle.std.specs.Prelude.{ℕ, List, [], ◌∷◌, codes, Option, Some, None, if◌then◌else◌}
+-- The words of the command line: the command that they are, or the first with which no command line goes on.
+use Rattle.std.specs.Prelude.{ℕ, ◌^◌, ◌-◌, List, [], ◌∷◌, codes, Option, Some, None, Result, Ok, Err, slice_get, if◌then◌else◌}
 use Rattle.std.specs.Str.{bytes_eq}
+use Rattle.gev_script.specs.Words.{Read}
+use Rattle.gev_script.specs.Numbers.{number_in}
+use Rattle.lossy_queue.specs.declared.rates.Rates.{Rates}
+use Rattle.gev_top.specs.declared.command.Command.{Command}
+use Rattle.gev_top.specs.declared.command.Command.TheVariants.{Replay, Make}
 
--- after the word `replay` there is no other
-abbrev pub more_words : List (List ℕ) → Option ℕ
-more_words [] = None
-more_words (word ∷ words) = Some 1
+-- What words say, or the place of the first word with which no command line goes on, from 0. Where more
+-- words are wanted it is their number.
+abbrev pub Said : Type 0 → Type 0
+Said A = Result A ℕ
 
--- The place of the first word that isn't understood, from 0, or the number of words where one is
--- wanted. None where the words are the one word `replay`.
+infixl 10 ◌>>=◌
+abbrev pub ◌>>=◌ : {A B : Type 0} → Said A → (A → Said B) → Said B
+(Ok x) >>= f = f x
+(Err place) >>= f = Err place
+
+-- the number that was read, or this place
+abbrev pub read_at : ℕ → Read ℕ → Said ℕ
+read_at place (Ok n) = Ok n
+read_at place (Err kind) = Err place
+
+-- the number within these bounds that the word is, or its place; a word is wanted
+abbrev pub number_of : ℕ → ℕ → ℕ → Option (List ℕ) → Said ℕ
+number_of low high place None = Err place
+number_of low high place (Some word) = read_at place (number_in low high word)
+
+abbrev pub number_at : ℕ → ℕ → ℕ → List (List ℕ) → Said ℕ
+number_at low high place words = number_of low high place (slice_get words place)
+
+-- no word, or its place
+abbrev pub none_of : ℕ → Option (List ℕ) → Said (Unit {0})
+none_of place None = Ok tt
+none_of place (Some word) = Err place
+
+abbrev pub none_at : ℕ → List (List ℕ) → Said (Unit {0})
+none_at place words = none_of place (slice_get words place)
+
+-- loss, repeat and swap, in thousandths
+abbrev pub rates_of : List (List ℕ) → Said Rates
+rates_of words = do
+  loss ← number_at 0 1000 3 words
+  repeat ← number_at 0 1000 4 words
+  swap ← number_at 0 1000 5 words
+  Ok (record { loss = loss; repeat = repeat; swap = swap })
+
+-- `replay`
+abbrev pub replay_of : List (List ℕ) → Said Command
+replay_of words = do
+  done ← none_at 1 words
+  Ok Replay
+
+-- `make <seed> <frames> <loss> <repeat> <swap>`
+abbrev pub make_of : List (List ℕ) → Said Command
+make_of words = do
+  seed ← number_at 0 (2 ^ 64 - 1) 1 words
+  frames ← number_at 0 100000 2 words
+  rates ← rates_of words
+  done ← none_at 6 words
+  Ok (Make seed frames rates)
+
+-- the words of which the first is this name
+abbrev pub named : List ℕ → List (List ℕ) → Said Command
+named name words =
+    if bytes_eq name (codes "replay") then replay_of words
+    else if bytes_eq name (codes "make") then make_of words
+    else Err 0
+
+abbrev pub command_of : List (List ℕ) → Said Command
+command_of [] = Err 0
+command_of (name ∷ words) = named name (name ∷ words)
+
+abbrev pub place_of : Said Command → Option ℕ
+place_of (Ok command) = None
+place_of (Err place) = Some place
+
+-- the place of the first word with which no command line goes on; None where the words are a command line
 abbrev pub usage_fault : List (List ℕ) → Option ℕ
-usage_fault [] = Some 0
-usage_fault (word ∷ words) = if bytes_eq word (codes "replay") then more_words words else Some 0
+usage_fault words = place_of (command_of words)

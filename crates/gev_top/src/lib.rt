@@ -1,14 +1,19 @@
 //! The program's top call: what `gevacq` does with its words, its input and its output.
 //!
-//! `specs/Answers.antt` says what was read and written by the answer, and what the report is. It stands on
-//! the definitions of `script_runs` and `script_trace`.
+//! `specs/Usage.antt` says which words are which command, and `specs/Answers.antt` what a command has read
+//! and written by its answer. They stand on the definitions of `script_runs`, `script_trace` and `gev_make`.
 #![tactic(auto)]
 
+mod command;
+mod making;
+mod numbers;
+mod scripts;
 mod status;
 #[cfg(test)]
 mod tests;
 mod top;
 mod usage;
 
+pub use command::Command;
 pub use status::Status;
 pub use top::gevacq_top;

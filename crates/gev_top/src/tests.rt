@@ -7,6 +7,7 @@ mod blocks;
 mod board;
 mod faults;
 mod handles;
+mod making;
 mod refusals;
 mod waiting;
 mod words;

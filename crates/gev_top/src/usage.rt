@@ -1,29 +1,90 @@
-ghost use Rattle.std.specs.Prelude.{◌≡◌, map};
+ghost use Rattle.std.specs.Prelude.{◌≡◌, ◌≤◌, map, IfOk};
 ghost use Rattle.std.specs.String.{string_bytes};
 ghost use Rattle.std.specs.Str.{bytes_eq};
-ghost use Rattle.gev_top.specs.Usage.{usage_fault};
+ghost use Rattle.gev_top.specs.Usage.{number_at, none_at, rates_of, replay_of, make_of, named, command_of};
 
-/// The place of the first word that isn't understood, or the number of words where one is wanted.
-/// None where the words are the one word `replay`.
-pub fn usage_fault(words: &[String]) -> Option<u32>
-    ensures { result ≡ usage_fault (map (λ word. string_bytes word) words.now) }
+use crate::command::Command;
+use crate::numbers::number_in;
+use lossy_queue::Rates;
+
+/// The command that the words are, or the place, from 0, of the first word with which no command line
+/// goes on. Where more words are wanted it is their number.
+pub fn read_words(words: &[String]) -> Result<Command, u32>
+    ensures { result ≡ command_of (map (λ word. string_bytes word) words.now) }
 {
     match words {
-        [] => Some(0),
-        [word] => {
-            if is(word.as_bytes(), b"replay") {
-                None
-            } else {
-                Some(0)
-            }
-        }
-        [word, ..] => {
-            if is(word.as_bytes(), b"replay") {
-                Some(1)
-            } else {
-                Some(0)
-            }
-        }
+        [] => Err(0),
+        [name, ..] => read_named(name.as_bytes(), words),
+    }
+}
+
+/// The same of the words of which the first is this name.
+fn read_named(name: &[u8], words: &[String]) -> Result<Command, u32>
+    ensures { result ≡ named name.now (map (λ word. string_bytes word) words.now) }
+{
+    if is(name, b"replay") {
+        return read_replay(words);
+    }
+    if is(name, b"make") {
+        return read_make(words);
+    }
+    Err(0)
+}
+
+/// No word follows `replay`.
+fn read_replay(words: &[String]) -> Result<Command, u32>
+    ensures { result ≡ replay_of (map (λ word. string_bytes word) words.now) }
+{
+    none_at(1, words)?;
+    Ok(Command::Replay)
+}
+
+/// A seed, a number of frames and three rates follow `make`.
+fn read_make(words: &[String]) -> Result<Command, u32>
+    ensures { result ≡ make_of (map (λ word. string_bytes word) words.now) }
+{
+    let seed = number_at(0, 18_446_744_073_709_551_615, 1, words)?;
+    let frames = number_at(0, 100_000, 2, words)? as u32;
+    let rates = read_rates(words)?;
+    none_at(6, words)?;
+    Ok(Command::Make {
+        seed,
+        frames,
+        rates,
+    })
+}
+
+/// The rates, which stand behind the number of frames.
+fn read_rates(words: &[String]) -> Result<Rates, u32>
+    ensures { result ≡ rates_of (map (λ word. string_bytes word) words.now) }
+{
+    let loss = number_at(0, 1000, 3, words)? as u16;
+    let repeat = number_at(0, 1000, 4, words)? as u16;
+    let swap = number_at(0, 1000, 5, words)? as u16;
+    Ok(Rates { loss, repeat, swap })
+}
+
+/// The number within these bounds that the word at this place is, or the place.
+fn number_at(low: u64, high: u64, place: u32, words: &[String]) -> Result<u64, u32>
+    ensures value { result ≡ number_at low high place (map (λ word. string_bytes word) words.now) }
+    ensures within { IfOk result (λ n. (low ≤ n) × (n ≤ high)) }
+{
+    match words.get(place as usize) {
+        Some(word) => match number_in(low, high, word.as_bytes()) {
+            Ok(number) => Ok(number),
+            Err(_) => Err(place),
+        },
+        None => Err(place),
+    }
+}
+
+/// No word stands at this place, or the place.
+fn none_at(place: u32, words: &[String]) -> Result<(), u32>
+    ensures { result ≡ none_at place (map (λ word. string_bytes word) words.now) }
+{
+    match words.get(place as usize) {
+        Some(_) => Err(place),
+        None => Ok(()),
     }
 }
 

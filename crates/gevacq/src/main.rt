@@ -11,7 +11,10 @@ use std::process::ExitCode;
 use std::{env, io};
 
 /// A line for each command line.
-const HELP: &str = "usage: gevacq replay\n";
+const HELP: &str = "\
+usage: gevacq replay
+usage: gevacq make <seed> <frames> <loss> <repeat> <swap>
+";
 
 /// The program's name and version.
 const VERSION: &str = "gevacq 0.2.0\n";

@@ -4,18 +4,35 @@ use gev_links::{MemorySink, SteadySource};
 use gev_script::ScriptKind;
 use std::test::Fail;
 
+/// The words of a command line, and the place of the first that isn't understood.
+type Refused = (&'static [&'static str], u32);
+
+const OTHER_WORDS: [Refused; 19] = [
+    (&[], 0),
+    (&["reply"], 0),
+    (&["Replay"], 0),
+    (&[""], 0),
+    (&["reply", "replay"], 0),
+    (&["replay", "replay"], 1),
+    (&["make"], 1),
+    (&["make", "x", "0", "0", "0", "0"], 1),
+    (&["make", "18446744073709551616", "0", "0", "0", "0"], 1),
+    (&["make", "+1", "0", "0", "0", "0"], 1),
+    (&["make", "", "0", "0", "0", "0"], 1),
+    (&["make", "1", "00", "0", "0", "0"], 2),
+    (&["make", "1", "200000"], 2),
+    (&["make", "1", "2"], 3),
+    (&["make", "1", "100000", "1001", "0", "0"], 3),
+    (&["make", "1", "0", "0", "-1", "0"], 4),
+    (&["make", "1", "0", "0", "0"], 5),
+    (&["make", "1", "1", "1", "1", "1001"], 5),
+    (&["make", "1", "0", "0", "0", "0", "0"], 6),
+];
+
 #[test]
 fn refuses_other_words(rt: HostRuntime) -> Result<(), Fail> {
     let alloc = rt.alloc();
-    let cases: [(&[&str], u32); 6] = [
-        (&[], 0),
-        (&["reply"], 0),
-        (&["Replay"], 0),
-        (&[""], 0),
-        (&["reply", "replay"], 0),
-        (&["replay", "replay"], 1),
-    ];
-    for (given, place) in cases {
+    for (given, place) in OTHER_WORDS {
         let words = word_list(alloc, given)?;
         let mut source = SteadySource::new(SCRIPT.as_bytes(), 1000);
         let mut sink = MemorySink::new(alloc, 1000, &[]);

@@ -1,0 +1,29 @@
+-- What is kept along each kind of script.
+use Rattle.std.proofs.Common.{ℕ, List, Option}
+use Rattle.script_runs.specs.Outcomes.{RunEnds}
+use Rattle.script_trace.specs.Standing as replay
+use Rattle.script_trace.specs.Laws.{StandsWell, HasSaid}
+use Rattle.script_trace.proofs.Scripts.{runs_keep}
+use Rattle.gev_top.specs.declared.status.Status.{Status}
+use Rattle.gev_top.specs.declared.status.Status.TheVariants as statuses
+use Rattle.gev_top.specs.Scripts.{Ends, IfEnded}
+use Rattle.gev_top.specs.Answers.{Replays}
+use Rattle.gev_top.proofs.Keeping.{IsKept}
+use Rattle.gev_top.proofs.Endings.{if_ended, ends_well, unbegun}
+
+replay_kept : IsKept replay.ReplayRuns StandsWell HasSaid replay.first
+replay_kept = record { so_far = runs_keep.so_far; last = runs_keep.last; said = runs_keep.said }
+
+pub replays : (status : Status) (left left_after : Option (List ℕ)) (reads reads_after : ℕ) (written written_after : Option (List ℕ)) (writes writes_after : ℕ)
+    → IfEnded (λ ending. RunEnds replay.ReplayRuns replay.ReplayRefuses replay.first ending left left_after reads reads_after written written_after writes writes_after) status
+    → Replays status left left_after reads reads_after written written_after writes writes_after
+replays status left left_after reads reads_after written written_after writes writes_after =
+    if_ended
+    (λ ending. RunEnds replay.ReplayRuns replay.ReplayRefuses replay.first ending left left_after reads reads_after written written_after writes writes_after)
+    (λ ending. Ends replay.ReplayRuns replay.ReplayRefuses StandsWell HasSaid replay.first ending left left_after reads reads_after written written_after writes writes_after)
+    (λ ending. ends_well replay.ReplayRuns replay.ReplayRefuses StandsWell HasSaid replay.first replay_kept ending left left_after reads reads_after written written_after writes writes_after)
+    status
+
+-- a replay for which there is no memory
+pub replay_unbegun : (left : Option (List ℕ)) (reads : ℕ) (written : Option (List ℕ)) (writes : ℕ) → Replays statuses.NoMemory left left reads reads written written writes writes
+replay_unbegun left reads written writes = unbegun replay.ReplayRuns replay.ReplayRefuses StandsWell HasSaid replay.first replay_kept left reads written writes

@@ -1,0 +1,17 @@
+use lossy_queue::Rates;
+
+/// What the words of the command line ask for.
+#[derive(Clone, Copy, Debug, PartialEq, Eq)]
+pub enum Command {
+    /// Run a replay script, and write its report.
+    Replay,
+    /// Write the replay script of a seed.
+    Make {
+        /// The seed of the images and of the network.
+        seed: u64,
+        /// How many blocks the script has, from 0 to 100,000.
+        frames: u32,
+        /// How often the network loses, repeats and swaps datagrams, each from 0 to 1,000 in thousandths.
+        rates: Rates,
+    },
+}
