@@ -4,10 +4,13 @@ use Rattle.script_runs.specs.Outcomes.{RunEnds}
 use Rattle.script_trace.specs.Standing as replay
 use Rattle.script_trace.specs.Laws.{StandsWell, HasSaid}
 use Rattle.script_trace.proofs.Scripts.{runs_keep}
+use Rattle.camera_trace.specs.Standing as camera
+use Rattle.camera_trace.specs.Laws.{IsTold}
+use Rattle.camera_trace.proofs.Telling.{reports_told}
 use Rattle.gev_top.specs.declared.status.Status.{Status}
 use Rattle.gev_top.specs.declared.status.Status.TheVariants as statuses
 use Rattle.gev_top.specs.Scripts.{Ends, IfEnded}
-use Rattle.gev_top.specs.Answers.{Replays}
+use Rattle.gev_top.specs.Answers.{Replays, Serves, StandsAnyhow}
 use Rattle.gev_top.proofs.Keeping.{IsKept}
 use Rattle.gev_top.proofs.Endings.{if_ended, ends_well, unbegun}
 
@@ -27,3 +30,20 @@ replays status left left_after reads reads_after written written_after writes wr
 -- a replay for which there is no memory
 pub replay_unbegun : (left : Option (List ℕ)) (reads : ℕ) (written : Option (List ℕ)) (writes : ℕ) → Replays statuses.NoMemory left left reads reads written written writes writes
 replay_unbegun left reads written writes = unbegun replay.ReplayRuns replay.ReplayRefuses StandsWell HasSaid replay.first replay_kept left reads written writes
+
+camera_kept : IsKept camera.CameraRuns StandsAnyhow IsTold camera.first
+camera_kept = record {
+  so_far = λ lines text new are ran. tt;
+  last = λ lines text line report ran now new are short led one. tt;
+  said = reports_told;
+}
+
+pub serves : (status : Status) (left left_after : Option (List ℕ)) (reads reads_after : ℕ) (written written_after : Option (List ℕ)) (writes writes_after : ℕ)
+    → IfEnded (λ ending. RunEnds camera.CameraRuns camera.CameraRefuses camera.first ending left left_after reads reads_after written written_after writes writes_after) status
+    → Serves status left left_after reads reads_after written written_after writes writes_after
+serves status left left_after reads reads_after written written_after writes writes_after =
+    if_ended
+    (λ ending. RunEnds camera.CameraRuns camera.CameraRefuses camera.first ending left left_after reads reads_after written written_after writes writes_after)
+    (λ ending. Ends camera.CameraRuns camera.CameraRefuses StandsAnyhow IsTold camera.first ending left left_after reads reads_after written written_after writes writes_after)
+    (λ ending. ends_well camera.CameraRuns camera.CameraRefuses StandsAnyhow IsTold camera.first camera_kept ending left left_after reads reads_after written written_after writes writes_after)
+    status

@@ -5,11 +5,13 @@ use Rattle.gev_links.specs.Told.{Appends, WritesFront}
 use Rattle.script_runs.specs.Verdicts.{outcome}
 use Rattle.script_trace.specs.Standing as replay
 use Rattle.script_trace.specs.Laws.{StandsWell, HasSaid}
+use Rattle.camera_trace.specs.Standing as camera
+use Rattle.camera_trace.specs.Laws.{IsTold}
 use Rattle.gev_make.specs.MakeText.{make_text}
 use Rattle.gev_top.specs.declared.status.Status.{Status}
 use Rattle.gev_top.specs.declared.status.Status.TheVariants.{Done, Usage, BadScript, ReadFault, WriteFault, NoMemory}
 use Rattle.gev_top.specs.declared.command.Command.{Command}
-use Rattle.gev_top.specs.declared.command.Command.TheVariants.{Replay, Make}
+use Rattle.gev_top.specs.declared.command.Command.TheVariants.{Replay, Camera, Make}
 use Rattle.gev_top.specs.Scripts.{Ends, IfEnded, AnswersContent}
 
 -- A replay: behind each line its trace keeps its promises. It is a run of the board machine, each buffer
@@ -21,6 +23,18 @@ abbrev pub Replays : Status → Option (List ℕ) → Option (List ℕ) → ℕ 
 Replays status left left_after reads reads_after written written_after writes writes_after =
     IfEnded
     (λ ending. Ends replay.ReplayRuns replay.ReplayRefuses StandsWell HasSaid replay.first ending left left_after reads reads_after written written_after writes writes_after)
+    status
+
+-- of a camera's states nothing more is said than its report tells
+abbrev pub StandsAnyhow : camera.Standing → Type 0
+StandsAnyhow standing = ⊤
+
+-- A camera script: the report of its lines is what events of one camera print, which are its acknowledges, the
+-- numbers of its frames, and the packets that it gives.
+abbrev pub Serves : Status → Option (List ℕ) → Option (List ℕ) → ℕ → ℕ → Option (List ℕ) → Option (List ℕ) → ℕ → ℕ → Type 0
+Serves status left left_after reads reads_after written written_after writes writes_after =
+    IfEnded
+    (λ ending. Ends camera.CameraRuns camera.CameraRefuses StandsAnyhow IsTold camera.first ending left left_after reads reads_after written written_after writes writes_after)
     status
 
 -- Of a text that is made, the whole or a front was written, by the answer.
@@ -42,9 +56,11 @@ pub record Makes (text : List ℕ) (status : Status) (left left_after : Option (
 -- stood in the sink, and the numbers are the counts of faults of both
 abbrev pub Answers : Command → Status → Option (List ℕ) → Option (List ℕ) → ℕ → ℕ → Option (List ℕ) → Option (List ℕ) → ℕ → ℕ → Type 0
 Answers Replay = Replays
+Answers Camera = Serves
 Answers (Make seed frames rates) = Makes (make_text seed frames rates)
 
 -- the answer where a source holds these bytes, but for faults and want of memory
 abbrev pub IsDecided : Command → Status → List ℕ → Type 0
 IsDecided Replay status content = AnswersContent status (outcome replay.replay_verdict content)
+IsDecided Camera status content = AnswersContent status (outcome camera.camera_verdict content)
 IsDecided (Make seed frames rates) status content = ⊤

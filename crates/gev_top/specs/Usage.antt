@@ -5,7 +5,7 @@ use Rattle.gev_script.specs.Words.{Read}
 use Rattle.gev_script.specs.Numbers.{number_in}
 use Rattle.lossy_queue.specs.declared.rates.Rates.{Rates}
 use Rattle.gev_top.specs.declared.command.Command.{Command}
-use Rattle.gev_top.specs.declared.command.Command.TheVariants.{Replay, Make}
+use Rattle.gev_top.specs.declared.command.Command.TheVariants.{Replay, Camera, Make}
 
 -- What words say, or the place of the first word with which no command line goes on, from 0. Where more
 -- words are wanted it is their number.
@@ -52,6 +52,12 @@ replay_of words = do
   done ← none_at 1 words
   Ok Replay
 
+-- `camera`
+abbrev pub camera_of : List (List ℕ) → Said Command
+camera_of words = do
+  done ← none_at 1 words
+  Ok Camera
+
 -- `make <seed> <frames> <loss> <repeat> <swap>`
 abbrev pub make_of : List (List ℕ) → Said Command
 make_of words = do
@@ -65,6 +71,7 @@ make_of words = do
 abbrev pub named : List ℕ → List (List ℕ) → Said Command
 named name words =
     if bytes_eq name (codes "replay") then replay_of words
+    else if bytes_eq name (codes "camera") then camera_of words
     else if bytes_eq name (codes "make") then make_of words
     else Err 0
 

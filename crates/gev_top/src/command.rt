@@ -5,6 +5,8 @@ use lossy_queue::Rates;
 pub enum Command {
     /// Run a replay script, and write its report.
     Replay,
+    /// Run a camera script, and write what the camera answers.
+    Camera,
     /// Write the replay script of a seed.
     Make {
         /// The seed of the images and of the network.

@@ -1,11 +1,12 @@
 ghost use Rattle.std.specs.Prelude.{◌≡◌, ◌≢◌};
 ghost use Rattle.script_runs.specs.Outcomes.{RunEnds};
 ghost use Rattle.script_runs.specs.Verdicts.{outcome, IfTold};
-ghost use Rattle.gev_top.specs.Answers.{Replays, IsDecided};
+ghost use Rattle.gev_top.specs.Answers.{Replays, Serves, IsDecided};
 ghost use Rattle.gev_top.specs.Scripts.{status_of, IfEnded, AnswersContent};
 ghost use Rattle.gev_top.specs.declared.command.Command.TheVariants as commands;
 
 use crate::status::Status;
+use camera_replay::CameraRun;
 use gev_links::{Sink, Source};
 use gev_types::NoMemory;
 use script_replay::Replay;
@@ -56,4 +57,16 @@ pub fn replay<S: Source, K: Sink>(alloc: Global, source: &mut S, sink: &mut K) -
         Ok(mut machine) => run(alloc, source, sink, &mut machine),
         Err(NoMemory) => Status::NoMemory,
     }
+}
+
+/// Runs a camera script and writes what the camera answers.
+pub fn camera<S: Source, K: Sink>(alloc: Global, source: &mut S, sink: &mut K) -> Status
+    ensures cause { Serves result (S.left source.old) (S.left source.new) (S.faults source.old) (S.faults source.new)
+        (K.written sink.old) (K.written sink.new) (K.faults sink.old) (K.faults sink.new) }
+    ensures exact { IfTold (S.left source.old) (λ content. IsDecided commands.Camera result content) }
+    ensures reads_steady { result ≢ Status.ReadFault → S.faults source.new ≡ S.faults source.old }
+    ensures writes_steady { result ≢ Status.WriteFault → K.faults sink.new ≡ K.faults sink.old }
+{
+    let mut machine = CameraRun::new();
+    run(alloc, source, sink, &mut machine)
 }

@@ -5,6 +5,7 @@ use std::test::Fail;
 
 mod blocks;
 mod board;
+mod cameras;
 mod faults;
 mod handles;
 mod making;

@@ -7,7 +7,7 @@ ghost use Rattle.gev_top.specs.Usage.{command_of, usage_fault};
 
 use crate::command::Command;
 use crate::making::make_script;
-use crate::scripts::replay;
+use crate::scripts::{camera, replay};
 use crate::status::Status;
 use crate::usage::read_words;
 use gev_links::{Sink, Source};
@@ -18,6 +18,9 @@ use std::alloc::Global;
 /// `replay` runs the replay script that the source gives, and writes its report to the sink. Each line is
 /// run as it's read, and its report is written before the next line is read. Memory doesn't grow with the
 /// script but by the buffers that it announces.
+///
+/// `camera` runs the camera script that the source gives in the same way: its report is what a simulated
+/// camera answers and sends.
 ///
 /// `make` with a seed, a number of frames and the rates of loss, repeats and swaps writes a replay script
 /// to the sink.
@@ -36,7 +39,8 @@ pub fn gevacq_top<S: Source, K: Sink>(
     // Each other answer has its cause. Of a script: which lines were run, what was written, and whose count
     // of faults rose. The bytes that a replay writes are the report of one trace, which keeps its promises:
     // under each map of frames from which the datagrams were sent, an image that is marked complete is its
-    // block's frame. Of a script that is made: it was written whole, or a front of it.
+    // block's frame. Those that a camera script writes are what events of one camera print. Of a script that
+    // is made: it was written whole, or a front of it.
     ensures cause { (command : Command) → command_of (map (λ word. string_bytes word) words.now) ≡ Ok command
         → Answers command result (S.left source.old) (S.left source.new) (S.faults source.old) (S.faults source.new)
         (K.written sink.old) (K.written sink.new) (K.faults sink.old) (K.faults sink.new) }
@@ -71,6 +75,7 @@ fn run_command<S: Source, K: Sink>(
 {
     match command {
         Command::Replay => replay(alloc, source, sink),
+        Command::Camera => camera(alloc, source, sink),
         Command::Make {
             seed,
             frames,

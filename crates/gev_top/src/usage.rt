@@ -1,7 +1,7 @@
 ghost use Rattle.std.specs.Prelude.{◌≡◌, ◌≤◌, map, IfOk};
 ghost use Rattle.std.specs.String.{string_bytes};
 ghost use Rattle.std.specs.Str.{bytes_eq};
-ghost use Rattle.gev_top.specs.Usage.{number_at, none_at, rates_of, replay_of, make_of, named, command_of};
+ghost use Rattle.gev_top.specs.Usage.{number_at, none_at, rates_of, replay_of, camera_of, make_of, named, command_of};
 
 use crate::command::Command;
 use crate::numbers::number_in;
@@ -25,6 +25,9 @@ fn read_named(name: &[u8], words: &[String]) -> Result<Command, u32>
     if is(name, b"replay") {
         return read_replay(words);
     }
+    if is(name, b"camera") {
+        return read_camera(words);
+    }
     if is(name, b"make") {
         return read_make(words);
     }
@@ -37,6 +40,14 @@ fn read_replay(words: &[String]) -> Result<Command, u32>
 {
     none_at(1, words)?;
     Ok(Command::Replay)
+}
+
+/// No word follows `camera`.
+fn read_camera(words: &[String]) -> Result<Command, u32>
+    ensures { result ≡ camera_of (map (λ word. string_bytes word) words.now) }
+{
+    none_at(1, words)?;
+    Ok(Command::Camera)
 }
 
 /// A seed, a number of frames and three rates follow `make`.

@@ -13,6 +13,7 @@ use std::{env, io};
 /// A line for each command line.
 const HELP: &str = "\
 usage: gevacq replay
+usage: gevacq camera
 usage: gevacq make <seed> <frames> <loss> <repeat> <swap>
 ";
 

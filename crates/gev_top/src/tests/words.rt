@@ -7,13 +7,14 @@ use std::test::Fail;
 /// The words of a command line, and the place of the first that isn't understood.
 type Refused = (&'static [&'static str], u32);
 
-const OTHER_WORDS: [Refused; 19] = [
+const OTHER_WORDS: [Refused; 20] = [
     (&[], 0),
     (&["reply"], 0),
     (&["Replay"], 0),
     (&[""], 0),
     (&["reply", "replay"], 0),
     (&["replay", "replay"], 1),
+    (&["camera", "replay"], 1),
     (&["make"], 1),
     (&["make", "x", "0", "0", "0", "0"], 1),
     (&["make", "18446744073709551616", "0", "0", "0", "0"], 1),
