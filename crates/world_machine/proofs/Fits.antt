@@ -1,5 +1,5 @@
 -- What was done fits a client, a camera and what is on its way between them.
-use Rattle.std.proofs.Common.{◌≡◌, ◌⊎◌, ℕ, zero, suc, ◌+◌, ◌≤◌, List, [], ◌∷◌, ◌++◌, length, Option, Some, None, refl, sym, ap, ◌∙◌, subst, inl, inr, arith, length-append}
+use Rattle.std.proofs.Common.{◌≡◌, ◌⊎◌, ℕ, zero, suc, ◌+◌, ◌<◌, ◌≤◌, List, [], ◌∷◌, length, get_or, Option, Some, None, refl, sym, ap, ◌∙◌, subst, inl, inr, arith, length-append}
 use Rattle.std.specs.Prelude.{option_map}
 use Rattle.std.specs.List.{Contains, AllByRecursion}
 use Rattle.std.proofs.lemmas.List.Elements.{Contains-append_left, Contains-push}
@@ -19,6 +19,7 @@ use Rattle.control_session.specs.Schedule.{Act, at_client, at_camera, Line, afte
 use Rattle.world_machine.specs.State.{Run, World}
 use Rattle.world_machine.specs.Queues.{to_camera, to_host, sent_to_camera, all_to_camera, ack_to_host, packets_to_host}
 use Rattle.world_machine.specs.ClientTurn.{client_peer}
+use Rattle.world_machine.specs.HostActs.{given_by, given_in, IsGiven}
 use Rattle.world_machine.specs.Laws.{start_line}
 
 -- the client, the camera and their past after these acts
@@ -29,21 +30,25 @@ line_of run acts = after (start_line run) acts
 abbrev pub IsSent : List (List ℕ) → List ℕ → Type 0
 IsSent sent bytes = Contains sent bytes ⊎ IsNoAccess (command_reading bytes)
 
--- what comes to the client is an acknowledge of the camera
-abbrev pub IsAnswer : List (List ℕ) → Channel → List ℕ → Type 0
-IsAnswer acks Control bytes = Contains acks bytes
-IsAnswer acks Stream bytes = Unit {0}
+-- the packets that the camera gave by these acts
+abbrev pub given_of : Run → List Act → List StreamPacket
+given_of run acts = given_in (start_line run) acts
 
--- `ups` and `downs` were taken out of the queues `up` and `down` and wait for their turn.
+-- what comes to the client is an acknowledge of the camera, and what comes to the host a packet
+abbrev pub IsAnswer : List (List ℕ) → List StreamPacket → Channel → List ℕ → Type 0
+IsAnswer acks packets Control bytes = Contains acks bytes
+IsAnswer acks packets Stream bytes = IsGiven packets bytes
+
+-- `ups` and `downs` were taken out of the queues `up` and `down`.
 pub record Fits (run : Run) (n : ℕ) (acts : List Act) (s : Client) (c : Camera) (up down ups downs : List Datagram) : Type 0 where
   pub schedule : IsSchedule client_peer (start_line run) acts
   pub client : (line_of run acts).client ≡ s
   pub camera : (line_of run acts).camera ≡ c
   pub few : length (line_of run acts).submitted ≤ n
   pub up_is : (d : Datagram) → Contains up d → IsSent (line_of run acts).sent d.bytes
-  pub down_is : (d : Datagram) → Contains down d → IsAnswer (line_of run acts).acks d.channel d.bytes
+  pub down_is : (d : Datagram) → Contains down d → IsAnswer (line_of run acts).acks (given_of run acts) d.channel d.bytes
   pub ups_are : (d : Datagram) → Contains ups d → IsSent (line_of run acts).sent d.bytes
-  pub downs_are : (d : Datagram) → Contains downs d → IsAnswer (line_of run acts).acks d.channel d.bytes
+  pub downs_are : (d : Datagram) → Contains downs d → IsAnswer (line_of run acts).acks (given_of run acts) d.channel d.bytes
 
 abbrev pub FitsWorld : {A : Type 0} → Run → ℕ → List Act → World A → List Datagram → List Datagram → Type 0
 FitsWorld run n acts w ups downs = Fits run n acts w.client w.camera w.to_camera w.to_host ups downs
@@ -59,18 +64,26 @@ head_in x xs = (0, omega arith, refl)
 pub tail_in : {X : Type 0} (x y : X) (xs : List X) → Contains xs y → Contains (x ∷ xs) y
 tail_in x y xs h = let below = h.1 in (suc h.0, omega arith, h.2)
 
+pub cons_in : {X : Type 0} (x z : X) (xs : List X) (k : ℕ) → k < length (x ∷ xs) → get_or (x ∷ xs) k z ≡ z → (x ≡ z) ⊎ Contains xs z
+cons_in x z xs zero l e = inl e
+cons_in x z xs (suc k) l e = inr (k, omega arith, e)
+
 sent_last : (sent : List (List ℕ)) (o : Option (List ℕ)) (bytes : List ℕ) → IsSent sent bytes → IsSent (with_last sent o) bytes
 sent_last sent None bytes h = h
 sent_last sent (Some x) bytes (inl h) = inl (Contains-append_left sent (x ∷ []) bytes h)
 sent_last sent (Some x) bytes (inr h) = inr h
 
-answer_last : (acks : List (List ℕ)) (o : Option (List ℕ)) (channel : Channel) (bytes : List ℕ) → IsAnswer acks channel bytes → IsAnswer (with_last acks o) channel bytes
-answer_last acks None channel bytes h = h
-answer_last acks (Some x) Control bytes h = Contains-append_left acks (x ∷ []) bytes h
-answer_last acks (Some x) Stream bytes h = tt
+pub kept_in : {X : Type 0} (xs : List X) (o : Option X) (x : X) → Contains xs x → Contains (with_last xs o) x
+kept_in xs None x h = h
+kept_in xs (Some y) x h = Contains-append_left xs (y ∷ []) x h
 
-pub last_in : (xs : List (List ℕ)) (o : Option (List ℕ)) (bytes : List ℕ) → o ≡ Some bytes → Contains (with_last xs o) bytes
-last_in xs o bytes e = subst (λ (p : Option (List ℕ)). Contains (with_last xs p) bytes) (sym e) (Contains-push xs bytes)
+answer_last : (acks : List (List ℕ)) (o : Option (List ℕ)) (packets : List StreamPacket) (p : Option StreamPacket) (channel : Channel) (bytes : List ℕ)
+    → IsAnswer acks packets channel bytes → IsAnswer (with_last acks o) (with_last packets p) channel bytes
+answer_last acks o packets p Control bytes h = kept_in acks o bytes h
+answer_last acks o packets p Stream bytes h = record { packet = h.packet; among = kept_in packets p h.packet h.among; spelled = h.spelled }
+
+pub last_in : {X : Type 0} (xs : List X) (o : Option X) (x : X) → o ≡ Some x → Contains (with_last xs o) x
+last_in {X} xs o x e = subst (λ (p : Option X). Contains (with_last xs p) x) (sym e) (Contains-push xs x)
 
 -- ---- acts
 
@@ -118,9 +131,9 @@ fits_camera run n acts s c up down ups downs e f h = record {
   camera = ap (λ (t : Camera). cameras.step t e) f.camera;
   few = f.few;
   up_is = f.up_is;
-  down_is = λ d among. answer_last l.acks (ack_of l.camera e) d.channel d.bytes (f.down_is d among);
+  down_is = λ d among. answer_last l.acks (ack_of l.camera e) (given_of run acts) (given_by l.camera e) d.channel d.bytes (f.down_is d among);
   ups_are = f.ups_are;
-  downs_are = λ d among. answer_last l.acks (ack_of l.camera e) d.channel d.bytes (f.downs_are d among);
+  downs_are = λ d among. answer_last l.acks (ack_of l.camera e) (given_of run acts) (given_by l.camera e) d.channel d.bytes (f.downs_are d among);
 }
   where
     l : Line
@@ -161,7 +174,7 @@ fits_up run n acts w ups downs bytes sent f = record {
     go d (inr old) = f.up_is d old
 
 pub fits_down : {A : Type 0} (run : Run) (n : ℕ) (acts : List Act) (w : World A) (ups downs : List Datagram) (new : Datagram)
-    → IsAnswer (line_of run acts).acks new.channel new.bytes → FitsWorld run n acts w ups downs → FitsWorld run n acts (to_host run w new) ups downs
+    → IsAnswer (line_of run acts).acks (given_of run acts) new.channel new.bytes → FitsWorld run n acts w ups downs → FitsWorld run n acts (to_host run w new) ups downs
 fits_down run n acts w ups downs new answer f = record {
   schedule = f.schedule;
   client = f.client;
@@ -173,8 +186,8 @@ fits_down run n acts w ups downs new answer f = record {
   downs_are = f.downs_are;
 }
   where
-    go : (d : Datagram) → (d ≡ new) ⊎ Contains w.to_host d → IsAnswer (line_of run acts).acks d.channel d.bytes
-    go d (inl same) = subst (λ (e : Datagram). IsAnswer (line_of run acts).acks e.channel e.bytes) (sym same) answer
+    go : (d : Datagram) → (d ≡ new) ⊎ Contains w.to_host d → IsAnswer (line_of run acts).acks (given_of run acts) d.channel d.bytes
+    go d (inl same) = subst (λ (e : Datagram). IsAnswer (line_of run acts).acks (given_of run acts) e.channel e.bytes) (sym same) answer
     go d (inr old) = f.down_is d old
 
 pub fits_sent : {A : Type 0} (run : Run) (n : ℕ) (acts : List Act) (w : World A) (ups downs : List Datagram) (o : Option (List ℕ))
@@ -198,8 +211,23 @@ fits_ack run n acts w ups downs (Some bytes) answer f =
     fits_down run n acts w ups downs (record { channel = Control; bytes = bytes }) (answer bytes refl) f
 
 pub fits_packets : {A : Type 0} (run : Run) (n : ℕ) (acts : List Act) (w : World A) (ups downs : List Datagram) (xs : List StreamPacket)
-    → FitsWorld run n acts w ups downs → FitsWorld run n acts (packets_to_host run w xs) ups downs
-fits_packets run n acts w ups downs [] f = f
-fits_packets run n acts w ups downs (x ∷ xs) f =
-    fits_packets run n acts (to_host run w (record { channel = Stream; bytes = plain x })) ups downs xs
-    (fits_down run n acts w ups downs (record { channel = Stream; bytes = plain x }) tt f)
+    → ((x : StreamPacket) → Contains xs x → Contains (given_of run acts) x) → FitsWorld run n acts w ups downs
+    → FitsWorld run n acts (packets_to_host run w xs) ups downs
+fits_packets run n acts w ups downs [] given f = f
+fits_packets run n acts w ups downs (x ∷ xs) given f =
+    fits_packets run n acts (to_host run w (record { channel = Stream; bytes = plain x })) ups downs xs (λ y among. given y (tail_in x y xs among))
+    (fits_down run n acts w ups downs (record { channel = Stream; bytes = plain x }) (record { packet = x; among = given x (head_in x xs); spelled = refl }) f)
+
+-- what was taken out counts as far as wanted
+pub with_downs : (run : Run) (n : ℕ) (acts : List Act) (s : Client) (c : Camera) (up down ups downs fewer : List Datagram)
+    → ((d : Datagram) → Contains fewer d → Contains downs d) → Fits run n acts s c up down ups downs → Fits run n acts s c up down ups fewer
+with_downs run n acts s c up down ups downs fewer sub f = record {
+  schedule = f.schedule;
+  client = f.client;
+  camera = f.camera;
+  few = f.few;
+  up_is = f.up_is;
+  down_is = f.down_is;
+  ups_are = f.ups_are;
+  downs_are = λ d among. f.downs_are d (sub d among);
+}

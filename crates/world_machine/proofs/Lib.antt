@@ -1,4 +1,5 @@
 pub mod Texts
 pub mod Fits
 pub mod Turns
+pub mod Hosts
 pub mod WholeRounds

@@ -1,5 +1,5 @@
 -- A run has one text and one end, and ends with the first round that has one.
-use Rattle.std.proofs.Common.{◌≡◌, ◌⊎◌, ℕ, zero, suc, ◌<◌, List, ◌++◌, Option, Some, None, refl, sym, ap, ◌∙◌, subst, inl, inr, arith, append_assoc}
+use Rattle.std.proofs.Common.{◌≡◌, ◌⊎◌, ℕ, zero, suc, ◌<◌, List, ◌++◌, Some, None, refl, sym, ap, ◌∙◌, subst, inl, inr, arith, append_assoc}
 use Rattle.world_machine.specs.State.{Host, Run, World, new_world}
 use Rattle.world_machine.specs.ClientTurn.{End}
 use Rattle.world_machine.specs.Rounds.{round, world_after}
@@ -51,15 +51,14 @@ below_or_last (suc k) (suc n) h = go (below_or_last k n (omega arith))
 ends_from : {A : Type 0} (run : Run) (host : Host A) (start : A) (w : World A) (text : List ℕ) (e : End) → Runs run host w text e
     → (m : ℕ) → w ≡ world_after run host start m → ((k : ℕ) → k < m → (round run host (world_after run host start k)).end ≡ None)
     → (n : ℕ) × EndsAfter run host start (text_after run host start m ++ text) e n
-ends_from run host start _ _ _ (last_round w text e h t) m is before =
-    (
-      m,
-      record {
-        goes_on = before;
-        ends = ap (λ v. (round run host v).end) (sym is) ∙ h;
-        text_is = ap (λ (zs : List ℕ). text_after run host start m ++ zs) (t ∙ ap (λ v. (round run host v).text) is);
-      },
-    )
+ends_from run host start _ _ _ (last_round w text e h t) m is before = (
+  m,
+  record {
+    goes_on = before;
+    ends = ap (λ v. (round run host v).end) (sym is) ∙ h;
+    text_is = ap (λ (zs : List ℕ). text_after run host start m ++ zs) (t ∙ ap (λ v. (round run host v).text) is);
+  },
+)
 ends_from run host start _ _ _ (round_more w text rest e h r t) m is before =
     let front : List ℕ = text_after run host start m in
     let this : List ℕ = (round run host (world_after run host start m)).text in

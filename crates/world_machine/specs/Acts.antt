@@ -11,7 +11,7 @@ use Rattle.camera_machine.specs.Stream.{waiting_count}
 use Rattle.camera_machine.specs.Events as cameras
 use Rattle.control_session.specs.Schedule.{Act, at_client, at_camera}
 use Rattle.world_machine.specs.State.{Host, Run, World}
-use Rattle.world_machine.specs.ClientTurn.{End, client_peer, stream_peer, setup_commands, Passed, client_turn}
+use Rattle.world_machine.specs.ClientTurn.{End, client_peer, stream_peer, setup_commands, client_turn}
 use Rattle.world_machine.specs.CameraTurn.{obeys, looks, camera_turn, is_due, makes}
 use Rattle.world_machine.specs.HostTurn.{arrives, unless_ended}
 use Rattle.world_machine.specs.Rounds.{rises, world_after}

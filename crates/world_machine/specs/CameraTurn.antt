@@ -1,5 +1,5 @@
 -- The camera's turn of a round: what reached it, and its next frame.
-use Rattle.std.specs.Prelude.{ℕ, ◌+◌, ◌==◌, ◌&&◌, Bool, true, not, nat_lt, if◌then◌else◌, List, [], ◌∷◌}
+use Rattle.std.specs.Prelude.{◌+◌, ◌==◌, ◌&&◌, Bool, true, not, nat_lt, if◌then◌else◌, List, [], ◌∷◌}
 use Rattle.lossy_queue.specs.declared.datagram.Datagram.{Datagram}
 use Rattle.camera_machine.specs.Camera.{is_open}
 use Rattle.camera_machine.specs.Events.{Turn, command_turn, tick_turn, frame_turn}

@@ -1,5 +1,5 @@
 -- The client's turn of a round: the setup of the stream, heartbeats, and when a run gives up.
-use Rattle.std.specs.Prelude.{ℕ, ◌+◌, List, [], ◌∷◌, ◌++◌, length, slice_get, Option, Some, None}
+use Rattle.std.specs.Prelude.{ℕ, ◌+◌, List, [], ◌∷◌, ◌++◌, slice_get, Option, Some, None}
 use Rattle.byteorder.specs.Endian.{big_bytes}
 use Rattle.gev_types.specs.declared.peer.Peer.{Peer}
 use Rattle.gvcp_wire.specs.Messages.{PlainCommand, write_reg}

@@ -1,6 +1,6 @@
 -- The laws of soak runs, which `src/laws.rt` proves.
-use Rattle.std.specs.Prelude.{◌≡◌, ℕ, zero, suc, ◌<◌, ◌≤◌, List, [], ◌++◌, length, Option, Some, None}
-use Rattle.std.specs.List.{AllByRecursion}
+use Rattle.std.specs.Prelude.{◌≡◌, ℕ, zero, suc, ◌<◌, ◌≤◌, List, [], ◌++◌, length, Some, None}
+use Rattle.std.specs.List.{AllByRecursion, Contains}
 use Rattle.gvcp_wire.specs.Reading.{command_reading}
 use Rattle.control_session.specs.Schedule.{Act, Line, new_line, after, IsNoAccess, IsSchedule}
 use Rattle.control_session.specs.Laws.{ActOnce}
@@ -9,6 +9,7 @@ use Rattle.world_machine.specs.ClientTurn.{End, client_peer}
 use Rattle.world_machine.specs.Rounds.{round, world_after}
 use Rattle.world_machine.specs.Soak.{Soak}
 use Rattle.world_machine.specs.Acts.{acts_after}
+use Rattle.world_machine.specs.HostActs.{host_hears, host_after, host_acts_after, given_in, IsGiven}
 
 -- ---- one text and one end
 
@@ -60,6 +61,23 @@ pub record IsSession {A : Type 0} (run : Run) (n : ℕ) (acts : List Act) (w : W
 abbrev pub RoundsAreActs : {A : Type 0} → Run → Host A → A → ℕ → Type 0
 RoundsAreActs run host start n = AsksNoAccess host → IsSession run n (acts_after run host start n) (world_after run host start n)
 
+-- a round submits at most one command
+abbrev pub RoundSubmitsOne : {A : Type 0} → Run → Host A → A → ℕ → Type 0
+RoundSubmitsOne run host start n =
+    AsksNoAccess host
+    → length (after (start_line run) (acts_after run host start (suc n))).submitted ≤ suc (length (after (start_line run) (acts_after run host start n)).submitted)
+
 -- the commands of each session act once, over fewer than 32,767 rounds
 abbrev pub CommandsActOnce : {A : Type 0} → Run → Host A → A → ℕ → Type 0
 CommandsActOnce run host start n = AsksNoAccess host → n < 32767 → ActOnce (after (start_line run) (acts_after run host start n))
+
+-- ---- the host
+
+-- The host is what its own acts made it, and each datagram that it hears is a packet that the camera gave.
+pub record IsFed {A : Type 0} (run : Run) (host : Host A) (start : A) (n : ℕ) : Type 0 where
+  pub host_is : (world_after run host start n).host ≡ host_after host start (host_acts_after run host start n)
+  pub given : (bytes : List ℕ) → Contains (host_acts_after run host start n) (host_hears bytes)
+      → IsGiven (given_in (start_line run) (acts_after run host start n)) bytes
+
+abbrev pub HostIsFed : {A : Type 0} → Run → Host A → A → ℕ → Type 0
+HostIsFed run host start n = AsksNoAccess host → IsFed run host start n

@@ -6,5 +6,6 @@ pub mod HostTurn
 pub mod Rounds
 pub mod Soak
 pub mod Acts
+pub mod HostActs
 pub mod Laws
 pub mod Rows

@@ -3,7 +3,7 @@ use Rattle.std.specs.Prelude.{ℕ, zero, suc, ◌+◌, ◌==◌, ◌&&◌, ◌||
 use Rattle.gev_report.specs.declared.soak_numbers.SoakNumbers.{SoakNumbers}
 use Rattle.gev_report.specs.SoakLine.{soak_line}
 use Rattle.world_machine.specs.State.{HostNumbers, Host, Run, World, new_world}
-use Rattle.world_machine.specs.ClientTurn.{End, done, SETUP_SIZE, Passed, client_turn}
+use Rattle.world_machine.specs.ClientTurn.{End, done, SETUP_SIZE, client_turn}
 use Rattle.world_machine.specs.CameraTurn.{camera_turn, makes}
 use Rattle.world_machine.specs.HostTurn.{host_turn, asks, takes}
 

@@ -1,8 +1,7 @@
 -- Worked runs over a host that does nothing.
-use Rattle.std.specs.Prelude.{◌≡◌, ℕ, true, List, [], codes}
-use Rattle.lossy_queue.specs.declared.rates.Rates.{Rates}
-use Rattle.world_machine.specs.State.{HostNumbers, Host, Run}
-use Rattle.world_machine.specs.ClientTurn.{End, done, no_answer}
+use Rattle.std.specs.Prelude.{◌≡◌, ℕ, true, [], codes}
+use Rattle.world_machine.specs.State.{Host, Run}
+use Rattle.world_machine.specs.ClientTurn.{done, no_answer}
 use Rattle.world_machine.specs.Rounds.{world_after}
 use Rattle.world_machine.specs.Soak.{Soak}
 

@@ -1,5 +1,5 @@
 -- The text of a soak run and its end.
-use Rattle.std.specs.Prelude.{◌≡◌, ℕ, List, ◌++◌, Option, Some, None}
+use Rattle.std.specs.Prelude.{◌≡◌, ℕ, List, ◌++◌, Some, None}
 use Rattle.world_machine.specs.State.{Host, Run, World, new_world}
 use Rattle.world_machine.specs.ClientTurn.{End}
 use Rattle.world_machine.specs.Rounds.{round}

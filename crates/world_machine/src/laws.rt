@@ -3,7 +3,7 @@
 
 ghost use Rattle.std.specs.Prelude.{ℕ};
 ghost use Rattle.world_machine.specs.State.{Host, Run};
-ghost use Rattle.world_machine.specs.Laws.{HasOneText, EndsInARound, RoundsAreActs, CommandsActOnce};
+ghost use Rattle.world_machine.specs.Laws.{HasOneText, EndsInARound, RoundsAreActs, RoundSubmitsOne, CommandsActOnce, HostIsFed};
 
 /// A run has one text and one end.
 pub fn run_has_one_text_and_one_end<A>()
@@ -15,14 +15,25 @@ pub fn run_ends_in_a_round<A>()
     ensures { (run : Run) (host : Host A) (start : A) → EndsInARound run host start }
 {}
 
-/// What rounds do to client and camera is a schedule of control sessions, in which each round submits
-/// at most one command, where all that the host asks the camera for are packets.
+/// What rounds do to client and camera is a schedule of control sessions, where all that the host asks
+/// the camera for are packets: they are what they are after these acts.
 pub fn rounds_are_acts_of_a_session<A>()
     ensures { (run : Run) (host : Host A) (start : A) (n : ℕ) → RoundsAreActs run host start n }
+{}
+
+/// Each round submits at most one command.
+pub fn round_submits_at_most_one<A>()
+    ensures { (run : Run) (host : Host A) (start : A) (n : ℕ) → RoundSubmitsOne run host start n }
 {}
 
 /// So the register and memory commands that a session executed are without repeats and in the order in
 /// which the client submitted them, over fewer than 32,767 rounds.
 pub fn commands_of_a_run_act_once<A>()
     ensures { (run : Run) (host : Host A) (start : A) (n : ℕ) → CommandsActOnce run host start n }
+{}
+
+/// The host is what the datagrams, ticks and takes of its rounds made it, and each datagram that it hears
+/// is a packet that the camera gave.
+pub fn host_hears_what_the_camera_gave<A>()
+    ensures { (run : Run) (host : Host A) (start : A) (n : ℕ) → HostIsFed run host start n }
 {}

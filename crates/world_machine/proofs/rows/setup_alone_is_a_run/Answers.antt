@@ -1,5 +1,6 @@
 use Rattle.std.proofs.Common.{ℕ, List, refl}
 use Rattle.std.specs.Prelude.{codes}
+use Rattle.std.specs.Fmt.{digits}
 use Rattle.wire_fields.specs.Fields.{number_at}
 use Rattle.bootstrap_regs.specs.Registers.{register_at}
 use Rattle.camera_machine.specs.Words.{words_from, initial_words}
@@ -18,7 +19,7 @@ abbrev line : List ℕ
 line = codes "soak frames=0 taken=0 complete=0 incomplete=0 underrun=0 requests=0 commands=4\n"
 
 pub returns : goal.returns
-unfolding number_at register_at words_from initial_words after_put put_lossy
+unfolding digits number_at register_at words_from initial_words after_put put_lossy
 returns c = record {
   run = round_more (w 0) line line done refl (round_more (w 1) line line done refl (round_more (w 2) line line done refl (last_round (w 3) line done refl refl) refl) refl) refl;
   moment = refl;
