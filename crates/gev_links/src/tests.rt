@@ -126,3 +126,26 @@ fn text_of_failed(rt: HostRuntime) -> Result<(), Fail> {
     assert_eq!(rt; text.as_str(), "the call failed");
     Ok(())
 }
+
+/// What a clock tells in six calls.
+fn check_clock(rt: &impl Abort, moments: &[u64], want: [u64; 6]) {
+    let mut clock = MemoryClock::new(moments);
+    for moment in want {
+        assert_eq!(rt; clock.now(), moment);
+    }
+}
+
+#[test]
+fn clocks_in_memory(rt: HostRuntime) {
+    check_clock(&rt, &[10, 12, 11], [10, 12, 11, 11, 11, 11]);
+    check_clock(&rt, &[7], [7; 6]);
+    check_clock(&rt, &[], [0; 6]);
+}
+
+#[test]
+fn gates(rt: HostRuntime) {
+    OpenGate.pass(1);
+    HoldingGate::new(2, 5).pass(1);
+    HoldingGate::new(2, 5).pass(2);
+    assert!(rt; true);
+}

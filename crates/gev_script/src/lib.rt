@@ -29,5 +29,6 @@ pub use line::Line;
 pub use line_end::LineEnd;
 pub use lines::Lines;
 pub use name::Name;
+pub use numbers::number_in;
 pub use parsing::{first_name, parse_line};
 pub use writing::write_line;

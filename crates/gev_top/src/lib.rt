@@ -6,7 +6,6 @@
 
 mod command;
 mod making;
-mod numbers;
 mod scripts;
 mod status;
 #[cfg(test)]

@@ -4,7 +4,7 @@ ghost use Rattle.std.specs.Str.{bytes_eq};
 ghost use Rattle.gev_top.specs.Usage.{number_at, none_at, rates_of, replay_of, camera_of, make_of, named, command_of};
 
 use crate::command::Command;
-use crate::numbers::number_in;
+use gev_script::number_in;
 use lossy_queue::Rates;
 
 /// The command that the words are, or the place, from 0, of the first word with which no command line
