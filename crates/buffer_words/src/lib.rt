@@ -4,6 +4,7 @@
 
 mod calls_claim;
 mod calls_loans;
+mod calls_marks;
 mod calls_passes;
 mod calls_places;
 mod calls_pool;
@@ -11,6 +12,10 @@ mod codes;
 mod crossing;
 mod laws;
 mod loan;
+mod mark_plays;
+mod marks;
+#[cfg(test)]
+mod marks_tests;
 mod pass;
 mod plays;
 mod pool;
