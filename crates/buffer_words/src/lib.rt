@@ -5,6 +5,7 @@
 mod calls_claim;
 mod calls_loans;
 mod calls_marks;
+mod calls_output;
 mod calls_passes;
 mod calls_places;
 mod calls_pool;
@@ -16,6 +17,8 @@ mod mark_plays;
 mod marks;
 #[cfg(test)]
 mod marks_tests;
+mod output;
+mod output_plays;
 mod pass;
 mod plays;
 mod pool;
