@@ -3,6 +3,8 @@
 #![tactic(auto)]
 
 mod info;
+mod looks;
 mod run;
 
-pub use run::ds_stop;
+pub use info::{ds_buffer_info, ds_info};
+pub use run::{ds_start, ds_stop};
