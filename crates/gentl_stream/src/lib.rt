@@ -3,6 +3,8 @@
 #![tactic(auto)]
 
 mod info;
+#[cfg(test)]
+mod info_tests;
 mod looks;
 mod run;
 

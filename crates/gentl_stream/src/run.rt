@@ -42,3 +42,43 @@ pub fn ds_stop(board: &Board, pass: &mut Pass, flags: u32) -> Result<(), GcError
         Err(run) => Err(GcError::ResourceInUse(shown_run(run))),
     }
 }
+
+#[cfg(test)]
+mod tests {
+    use super::*;
+    use gentl_types::{State, Word};
+    use std::test::Fail;
+
+    /// The run word, as a refusal shows it.
+    fn in_use(run: u32) -> GcError {
+        GcError::ResourceInUse(Shown::Word(Word {
+            state: State::Held,
+            size: 0,
+            generation: run,
+        }))
+    }
+
+    // A second start is refused, and a stop whose flags aren't 0 or 1; after a close a start is refused,
+    // and a stop isn't.
+    #[test]
+    fn starts_and_stops_are_refused_by_the_run_word(rt: HostRuntime) -> Result<(), Fail> {
+        let (board, mut pass) = Board::new(rt.alloc())?;
+        assert_eq!(rt; ds_stop(&board, &mut pass, 0), Err(in_use(0)));
+        assert_eq!(rt; ds_start(&board, &mut pass), Ok(()));
+        assert_eq!(rt; ds_start(&board, &mut pass), Err(in_use(1)));
+        assert_eq!(rt;
+            ds_stop(&board, &mut pass, 2),
+            Err(GcError::InvalidParameter(2))
+        );
+        assert_eq!(rt; ds_stop(&board, &mut pass, 1), Ok(()));
+        assert_eq!(rt; ds_stop(&board, &mut pass, 0), Err(in_use(2)));
+        assert_eq!(rt; ds_start(&board, &mut pass), Ok(()));
+        board.close(&mut pass);
+        assert_eq!(rt;
+            ds_start(&board, &mut pass),
+            Err(GcError::InvalidHandle(Shown::Closed))
+        );
+        assert_eq!(rt; ds_stop(&board, &mut pass, 0), Ok(()));
+        Ok(())
+    }
+}
