@@ -14,6 +14,8 @@ pub mod Lowest
 pub mod Claimed
 pub mod Sweeps
 pub mod SweptOn
+pub mod Fields
+pub mod Outs
 pub mod Retries
 pub mod Turns
 pub mod Carried

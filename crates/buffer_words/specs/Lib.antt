@@ -4,6 +4,7 @@ pub mod Swept
 pub mod Rule
 pub mod Told
 pub mod Plays
+pub mod Output
 pub mod Meeting
 pub mod Boards
 pub mod Passes

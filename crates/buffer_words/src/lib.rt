@@ -4,6 +4,7 @@
 
 mod calls_claim;
 mod calls_loans;
+mod calls_output;
 mod calls_passes;
 mod calls_places;
 mod calls_pool;
@@ -11,6 +12,8 @@ mod codes;
 mod crossing;
 mod laws;
 mod loan;
+mod output;
+mod output_plays;
 mod pass;
 mod plays;
 mod pool;
