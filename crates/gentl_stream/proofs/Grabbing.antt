@@ -1,5 +1,5 @@
 -- Calls that begin with a grab: their entries, and what a grab leaves.
-use Rattle.std.proofs.Common.{◌≡◌, ℕ, ◌<◌, [], ◌∷◌, ◌++◌, Some, Ok, Err, refl, sym, ap, subst, ◌∙◌, arith}
+use Rattle.std.proofs.Common.{◌≡◌, ℕ, ◌<◌, false, List, [], ◌∷◌, ◌++◌, Some, Ok, Err, refl, sym, ap, subst, ◌∙◌, arith}
 use Rattle.std.proofs.lemmas.List.{get_or-set_same}
 use Rattle.gev_types.specs.Filling.{Filling}
 use Rattle.gev_types.specs.Limits.{place_count}
@@ -7,18 +7,20 @@ use Rattle.gentl_types.specs.declared.buffer_id.BufferId.{BufferId}
 use Rattle.gentl_types.specs.declared.errors.GcError.{GcError}
 use Rattle.gentl_types.specs.declared.word.Word.{Word}
 use Rattle.gentl_types.specs.declared.word.State.TheVariants.{Away}
-use Rattle.board_machine.specs.declared.events.Event.TheVariants.{Grab, Lay, Vacate}
+use Rattle.board_machine.specs.declared.events.Event.{Event}
+use Rattle.board_machine.specs.declared.events.Event.TheVariants.{Grab, Lay, Vacate, Pool}
 use Rattle.board_machine.specs.Places.{times, put_in}
 use Rattle.board_machine.specs.Machine.{Board, empty_board, vacant, word_at, hand, held, no_actor, IsActor, InHand, IsHeldAs, entry, picks, with_state}
 use Rattle.board_machine.specs.Histories.{Run, After}
 use Rattle.board_machine.proofs.Boards.{actor_within}
 use Rattle.board_machine.proofs.Places.{same_self, times-put}
 use Rattle.board_machine.proofs.Runs.{run_owned, runs_front}
-use Rattle.board_calls.specs.Calls.{RefusesGrab, Borrows, Returns, Revokes}
+use Rattle.board_calls.specs.Calls.{LooksOut, OpensWith, RefusesGrab, Queues, Borrows, Returns, Revokes}
+use Rattle.board_calls.proofs.Refused.{opens, queue_refused}
 use Rattle.buffer_words.specs.Passes.{Token, down, IsWhole, Enters, GrowsTo, Stays, Has}
 use Rattle.buffer_words.specs.Loans.{Lent, IsLoanOf}
 use Rattle.buffer_words.specs.Several.{EntersOf, EntersThen}
-use Rattle.buffer_words.proofs.Several.{enters_may, enters_after, each_two, of_kind, of_one, then_grows}
+use Rattle.buffer_words.proofs.Several.{enters_may, enters_after, each_two, of_kind, of_one, of_then, then_grows}
 use Rattle.buffer_words.proofs.Partings.{stays_enters}
 use Rattle.buffer_words.proofs.Retries.{grows_self}
 
@@ -88,3 +90,15 @@ spent_whole s t i j f e has = subst (λ k. IsWhole t k) (sym e) (record { fillin
 pub returned : (s t u : Token) (i j : ℕ) → j ≡ i → Stays s t → Enters t (Lay j) u → EntersOf s (Returns i) u
 returned s t u i j e stays lay =
     of_one s u (Returns i) (Lay i) refl refl (stays_enters s t u (Lay i) stays (subst (λ (k : ℕ). Enters t (Lay k) u) e lay))
+
+pub queue_refusal : (s t u : Token) (id : BufferId) (error : GcError) → EntersOf s (LooksOut false) t → EntersOf t (RefusesGrab id error) u → EntersOf s (Queues id (Err error)) u
+queue_refusal s t u id error look refused =
+    of_then s t u (LooksOut false) (RefusesGrab id error) (Queues id (Err error))
+    (λ es fs first second. queue_refused id error fs (es ++ fs) second (opens es fs first)) look refused
+
+pub queue_done : (s t u v : Token) (id : BufferId) → id.place < place_count → EntersOf s (LooksOut false) t → Enters t (Grab id.place id.generation (Ok tt)) u → Enters u (Pool id.place) v → EntersOf s (Queues id (Ok tt)) v
+queue_done s t u v id below look grab pool =
+    of_then s t v (LooksOut false) (λ es. es ≡ Grab id.place id.generation (Ok tt) ∷ Pool id.place ∷ []) (Queues id (Ok tt))
+    (λ es fs first second. (below, subst (λ (gs : List Event). OpensWith gs (es ++ fs)) second (opens es fs first))) look
+    (of_kind t v (λ es. es ≡ Grab id.place id.generation (Ok tt) ∷ Pool id.place ∷ []) (Grab id.place id.generation (Ok tt) ∷ Pool id.place ∷ []) refl
+    (each_two t u v (Grab id.place id.generation (Ok tt)) (Pool id.place) grab pool refl refl))

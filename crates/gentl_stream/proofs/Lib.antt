@@ -1,3 +1,5 @@
 pub mod Giving
 pub mod Rounds
 pub mod Grabbing
+pub mod Sweeping
+pub mod Announcing

@@ -3,17 +3,19 @@
 ghost use Rattle.std.specs.Prelude.{◌≡◌, ◌<◌, IfOk, IfErr, OnOk, OnErr, Ok};
 ghost use Rattle.gev_types.specs.Limits.{place_count};
 ghost use Rattle.board_machine.specs.declared.events.Event.TheVariants as event;
-ghost use Rattle.board_calls.specs.Calls.{Borrows, RefusesGrab, Returns, Revokes};
+ghost use Rattle.board_calls.specs.Calls.{Borrows, Queues, RefusesGrab, Returns, Revokes};
 ghost use Rattle.buffer_words.specs.Boards.{board_id};
 ghost use Rattle.buffer_words.specs.Passes.{gone, lifted, slot_at, Enters, SameHands, Has, Gets};
 ghost use Rattle.buffer_words.specs.Loans.{IsLoanOf};
 ghost use Rattle.buffer_words.specs.Several.{EntersOf, EntersThen};
 ghost use Rattle.gentl_stream.specs.Revoked.{GivesBack};
 
+use crate::looks::look_closed;
 use board_calls::{as_busy, grab_refusal};
 use buffer_words::{Board, Loan, Pass};
 use gentl_types::{BufferId, GcError, Shown};
 use gev_types::{Buf, PLACES};
+use input_pool::put_back;
 
 /// Takes the buffer with this id in hand.
 fn grab_by_id(board: &Board, pass: &mut Pass, id: BufferId) -> Result<(), GcError>
@@ -32,6 +34,20 @@ fn grab_by_id(board: &Board, pass: &mut Pass, id: BufferId) -> Result<(), GcErro
         Ok(()) => Ok(()),
         Err(word) => Err(grab_refusal(id, word)),
     }
+}
+
+/// DSQueueBuffer: puts a held buffer into the input pool.
+pub fn ds_queue(board: &Board, pass: &mut Pass, id: BufferId) -> Result<(), GcError>
+    requires table { pass.old.table ≡ board_id board.now }
+    ensures entries { EntersOf pass.old (Queues id result) pass.new }
+    ensures hands { SameHands pass.old pass.new }
+{
+    if look_closed(board, pass) {
+        return Err(GcError::InvalidHandle(Shown::Closed));
+    }
+    grab_by_id(board, pass, id)?;
+    put_back(board, pass, id.place);
+    Ok(())
 }
 
 /// DSRevokeBuffer: takes a held buffer away from its place, and gives it back.

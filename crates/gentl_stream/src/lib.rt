@@ -2,8 +2,13 @@
 //! queued, revoked, borrowed and returned, and queues are flushed.
 #![tactic(auto)]
 
+mod announce;
 mod buffers;
+mod flush;
+mod looks;
 mod places;
 
+pub use announce::ds_announce;
 pub use buffer_words::Loan;
-pub use buffers::{ds_borrow, ds_return, ds_revoke};
+pub use buffers::{ds_borrow, ds_queue, ds_return, ds_revoke};
+pub use flush::ds_close;
