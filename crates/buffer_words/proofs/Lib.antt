@@ -27,3 +27,4 @@ pub mod Lending
 pub mod Several
 pub mod Working
 pub mod Witnessing
+pub mod Marking

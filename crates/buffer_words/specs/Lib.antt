@@ -13,3 +13,4 @@ pub mod Several
 pub mod Workers
 pub mod WorkLaws
 pub mod Witness
+pub mod Marks

@@ -3,3 +3,5 @@ pub mod Rounds
 pub mod Grabbing
 pub mod Sweeping
 pub mod Announcing
+pub mod Running
+pub mod Informing
