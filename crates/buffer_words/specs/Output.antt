@@ -2,11 +2,12 @@
 use Rattle.std.specs.Prelude.{◌≡◌, ℕ, ◌<◌, ◌≤◌, ◌^◌, ◌%◌, Bool, MatchBool, List}
 use Rattle.gev_types.specs.Limits.{place_count}
 use Rattle.atomic_table.specs.Table.{Step}
-use Rattle.board_machine.specs.declared.events.Event.TheVariants.{LookOut, Close}
+use Rattle.board_machine.specs.declared.events.Event.TheVariants.{LookOut, SweepOut, Close}
 use Rattle.board_machine.specs.Places.{times}
 use Rattle.buffer_words.specs.Codes.{out_code}
 use Rattle.buffer_words.specs.Rule.{Slot}
 use Rattle.buffer_words.specs.Plays.{Seated, LooksAt}
+use Rattle.buffer_words.specs.Swept.{TakesAll}
 
 -- The fields of the number, four bits each, are these places plus 1, the first in the lowest; no place twice.
 pub record AreFields (n : ℕ) (is : List ℕ) : Type 0 where
@@ -41,3 +42,12 @@ looked_out st before found after = LooksOut before found after
 -- The close mark is set, whatever stood there.
 abbrev pub closed_out : Step Slot → Seated → ℕ → Seated → Type 0
 closed_out st before found after = LooksAt before Close after
+
+-- A sweep of the output: all of its places, first in first. The mark stays.
+pub record SweepsOut (before : Seated) (found : ℕ) (after : Seated) : Type 0 where
+  pub places : List ℕ
+  pub fields : AreFields (found % 2 ^ 60) places
+  pub takes : TakesAll before (SweepOut places) places after
+
+abbrev pub swept_out : Step Slot → Seated → ℕ → Seated → Type 0
+swept_out st before found after = SweepsOut before found after

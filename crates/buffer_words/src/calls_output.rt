@@ -3,7 +3,9 @@ ghost use Rattle.std.specs.Prelude.{◌≡◌};
 ghost use Rattle.board_machine.specs.declared.events.Event.TheVariants as event;
 ghost use Rattle.buffer_words.specs.Boards.{board_id};
 ghost use Rattle.buffer_words.specs.Passes.{Enters, SameHands};
+ghost use Rattle.buffer_words.specs.Swept.{GetsAll};
 
+use crate::calls_claim::take_on;
 use crate::pass::Pass;
 use crate::words::Board;
 use arrayvec::ArrayVec;
@@ -25,5 +27,16 @@ impl Board {
         ensures hands { SameHands pass.old pass.new }
     {
         self.set_mark(&mut pass.seat);
+    }
+
+    /// Takes the buffers of all of the output's places in hand: the places, first in first.
+    pub fn sweep_out(&self, pass: &mut Pass) -> ArrayVec<u8, 15>
+        requires table { pass.old.table ≡ board_id self.now }
+        ensures entry { Enters pass.old (event.SweepOut result.items) pass.new }
+        ensures hands { GetsAll result.items pass.old pass.new }
+    {
+        let places = self.take_all_out(&mut pass.seat);
+        take_on(&mut pass.held, &places);
+        places
     }
 }

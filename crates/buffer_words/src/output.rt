@@ -3,9 +3,10 @@ ghost use Rattle.std.specs.Prelude.{◌≡◌, ◌^◌};
 ghost use Rattle.board_machine.specs.declared.events.Event.TheVariants as event;
 ghost use Rattle.buffer_words.specs.Boards.{board_id};
 ghost use Rattle.buffer_words.specs.Plays.{IsIdle, LooksAt};
+ghost use Rattle.buffer_words.specs.Swept.{TakesAll};
 ghost use Rattle.buffer_words.specs.Output.{AreFields, HasFields, IsMarked};
 
-use crate::output_plays::{CloseOut, LookOut};
+use crate::output_plays::{CloseOut, LookOut, SweepOut};
 use crate::words::{Board, Seat};
 use arrayvec::ArrayVec;
 
@@ -56,5 +57,15 @@ impl Board {
         ensures closes { LooksAt seat.old.me event.Close seat.new.me }
     {
         self.table.shared.fetch_or::<CloseOut>(seat, OUT, MARK);
+    }
+
+    /// Takes the buffers of all of the output's places in hand: the places, first in first.
+    pub(crate) fn take_all_out(&self, seat: &mut Seat) -> ArrayVec<u8, 15>
+        requires table { seat.old.table_id ≡ board_id self.now }
+        requires idle { IsIdle seat.old.me }
+        ensures table { seat.new.table_id ≡ seat.old.table_id }
+        ensures sweeps { TakesAll seat.old.me (event.SweepOut result.items) result.items seat.new.me }
+    {
+        places_in(self.table.shared.fetch_and::<SweepOut>(seat, OUT, MARK) % MARK)
     }
 }

@@ -1,5 +1,5 @@
 //! The kinds of step on the output's word, each named for what it does.
-ghost use Rattle.buffer_words.specs.Output.{looked_out, closed_out};
+ghost use Rattle.buffer_words.specs.Output.{looked_out, closed_out, swept_out};
 
 use crate::view::View;
 use atomic_table::Play;
@@ -15,4 +15,10 @@ pub struct CloseOut;
 
 impl Play<Option<Buf>, View> for CloseOut {
     ghost then = { closed_out };
+}
+
+pub struct SweepOut;
+
+impl Play<Option<Buf>, View> for SweepOut {
+    ghost then = { swept_out };
 }
