@@ -14,7 +14,13 @@ pub mod Lowest
 pub mod Claimed
 pub mod Sweeps
 pub mod SweptOn
+pub mod Fields
+pub mod Outs
+pub mod Takings
+pub mod Fillings
+pub mod Handed
 pub mod Retries
+pub mod Filled
 pub mod Turns
 pub mod Carried
 pub mod Handling
@@ -25,3 +31,4 @@ pub mod Lending
 pub mod Several
 pub mod Working
 pub mod Witnessing
+pub mod Marking

@@ -4,6 +4,8 @@ pub mod Swept
 pub mod Rule
 pub mod Told
 pub mod Plays
+pub mod Output
+pub mod Handing
 pub mod Meeting
 pub mod Boards
 pub mod Passes
@@ -12,3 +14,4 @@ pub mod Several
 pub mod Workers
 pub mod WorkLaws
 pub mod Witness
+pub mod Marks

@@ -7,7 +7,8 @@ ghost use Rattle.buffer_words.specs.Boards.{board_id};
 ghost use Rattle.buffer_words.specs.Passes.{Enters};
 ghost use Rattle.board_machine.specs.Places.{IsRising};
 ghost use Rattle.buffer_words.specs.Swept.{GetsAll};
-ghost use Rattle.buffer_words.specs.Tries.{IfDid, IfLost, SeesPool, LostTo, GetsOne};
+ghost use Rattle.buffer_words.specs.Plays.{SeesPool};
+ghost use Rattle.buffer_words.specs.Tries.{IfDid, IfLost, LostTo, GetsOne};
 
 use crate::pass::Pass;
 use crate::tried::Tried;
@@ -27,7 +28,7 @@ fn lowest_of(number: u64) -> u8
 }
 
 /// Puts the places of a sweep in front of those that a pass has.
-fn take_on(held: &mut ArrayVec<u8, 15>, places: &ArrayVec<u8, 15>)
+pub(crate) fn take_on(held: &mut ArrayVec<u8, 15>, places: &ArrayVec<u8, 15>)
     requires room { length places.now.items + length held.old.items ≤ 15 }
     ensures { held.new.items ≡ places.now.items ++ held.old.items }
 {
