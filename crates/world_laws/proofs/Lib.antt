@@ -1,0 +1,5 @@
+pub mod Worlds
+pub mod Inputs
+pub mod Reading
+pub mod Made
+pub mod Images
