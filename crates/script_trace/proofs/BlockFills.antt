@@ -18,7 +18,6 @@ use Rattle.gev_script.specs.declared.act.Act.{Act}
 use Rattle.gev_script.specs.declared.act.Act.TheVariants as act
 use Rattle.gev_script.specs.Lines as line
 use Rattle.gev_script.specs.Lines.{ScriptLine}
-use Rattle.gev_script.specs.Spelling.{IsScriptLine}
 use Rattle.acquisition_machine.specs.declared.config.AcqConfig.{AcqConfig}
 use Rattle.acquisition_machine.specs.declared.retired.Retired.{Retired}
 use Rattle.acquisition_machine.specs.Blocks.{Retirement, fills, fill_of}
@@ -208,19 +207,15 @@ step_agrees c t k act.SweepPool i part apart (pooled, is) = acts_agree c t k (Sw
 step_agrees c t k act.SweepOut i part apart (output, is) = acts_agree c t k (SweepOut output ∷ []) _ part apart is
 step_agrees c t k act.Close i part apart is = acts_agree c t k (Close ∷ []) _ part apart is
 
--- A `step` line is of an actor whose entries aren't the acquisition's.
-abbrev pub IsOfAnActor : ScriptLine → Type 0
-IsOfAnActor (line.step actor a place) = actor ≤ 4
-IsOfAnActor _ = ⊤
-
-pub spelled_actor : (l : ScriptLine) → IsScriptLine l → IsOfAnActor l
-spelled_actor (line.step actor a place) is = is.actor_to
-spelled_actor _ is = tt
-
 not_acquirer : (k : ℕ) → k ≤ 4 → (k == acquirer) ≡ false
 not_acquirer k few = let apart : k ≢ 5 = λ e. omega (arith, e) in ne_eqb k 5 apart
 
-line_agrees : (c : AcqConfig) (t : Trace) (l : ScriptLine) (part : Part) → IsOfAnActor l → Spells c t l part → FillsAgree c t part
+-- No step is the acquisition's.
+abbrev pub IsByOther : ScriptLine → Type 0
+IsByOther (line.step actor act place) = actor ≤ 4
+IsByOther _ = ⊤
+
+line_agrees : (c : AcqConfig) (t : Trace) (l : ScriptLine) (part : Part) → IsByOther l → Spells c t l part → FillsAgree c t part
 line_agrees c t (line.header config) part ok s = absurd s
 line_agrees c t (line.announce size) part ok (answer, some, calls) = calls_agree c t _ _ part calls
 line_agrees c t (line.queue place generation) part ok (answer, calls) = calls_agree c t _ _ part calls
@@ -256,7 +251,7 @@ grown_agrees c t part before now =
     ∙ (ap (λ l. retired_items c t.inputs ++ l) now
     ∙ sym (items_from-append c first_state t.inputs part.inputs))))
 
-pub leads_agree : (c : AcqConfig) (t : Trace) (lines : List ScriptLine) (new : Trace) → AllByRecursion IsOfAnActor lines → Leads c t lines new → AgreeSoFar c t → AgreeSoFar c new
+pub leads_agree : (c : AcqConfig) (t : Trace) (lines : List ScriptLine) (new : Trace) → AllByRecursion IsByOther lines → Leads c t lines new → AgreeSoFar c t → AgreeSoFar c new
 leads_agree c t [] new are is so = subst (AgreeSoFar c) (sym is) so
 leads_agree c t (l ∷ lines) new are (part, adds, rest) so =
     leads_agree c (grown t part) lines new are.1 rest (grown_agrees c t part so (line_agrees c t l part are.0 adds.spells))

@@ -23,11 +23,12 @@ use Rattle.acquisition_machine.specs.Runs.{packets_in}
 use Rattle.acquisition_machine.proofs.Joining.{packets_in-append}
 use Rattle.acquisition_machine.proofs.Order.{all_front, all_back, all_weaker}
 use Rattle.script_trace.specs.Opening.{opening}
-use Rattle.script_trace.specs.Fills.{IsRetired, IsHandedSo}
+use Rattle.script_trace.specs.Fills.{tried_blocks, IsRetired, IsHandedSo}
+use Rattle.script_trace.specs.Laws.{KeepsPromises}
 use Rattle.control_session.specs.Schedule.{new_line}
 use Rattle.world_machine.specs.HostActs.{given_in}
 use Rattle.world_laws.specs.Schedule.{WorldEvent, session_acts, host_lines}
-use Rattle.world_laws.specs.Images.{AreOfFrames, IsTrueImage, made_in}
+use Rattle.world_laws.specs.Images.{AreOfFrames, HoldsBlock, IsTrueImage, made_in}
 use Rattle.world_laws.specs.Laws.{ImagesAreTrue, ImagesAreOfMadeFrames}
 use Rattle.world_laws.proofs.Worlds.{Spells, datagrams_are_given, trace_keeps}
 use Rattle.world_laws.proofs.Inputs.{Tells, leads_tell}
@@ -64,18 +65,18 @@ part_sent P inputs before since last rest parts all =
 
 -- ---- what was handed out
 
-retired_true : (frames : ℕ → Option Frame) (c : AcqConfig) (packets : List StreamPacket) (inputs : List Input) (x : Item) → AreOfFrames frames c.p packets
-    → AllByRecursion (IsSent frames c.p) (packets_in inputs) → IsRetired c inputs x → IsTrueImage frames c inputs x
-retired_true frames c packets inputs x are all r =
+retired_holds : (frames : ℕ → Option Frame) (c : AcqConfig) (packets : List StreamPacket) (inputs : List Input) → AreOfFrames frames c.p packets
+    → AllByRecursion (IsSent frames c.p) (packets_in inputs) → (x : Item) → IsRetired c inputs x → HoldsBlock frames c inputs x
+retired_holds frames c packets inputs are all x r =
     let P : StreamPacket → Type 0 = IsSent frames c.p in
     let here : List StreamPacket = packets_in (r.since ++ r.last ∷ []) in
     let sent : AreSent frames c.p here
     = record {
-      are_frames = are.sent.are_frames;
-      payload_size = are.sent.payload_size;
-      sent = All-from_recursion P here (part_sent P inputs r.before r.since r.last r.rest r.parts all);
-    } in
-    inl (record {
+        are_frames = are.sent.are_frames;
+        payload_size = are.sent.payload_size;
+        sent = All-from_recursion P here (part_sent P inputs r.before r.since r.last r.rest r.parts all);
+      } in
+    record {
       front = (r.before ++ r.since) ++ r.last ∷ [];
       rest = r.rest;
       parts = r.parts ∙ sym (append_assoc (r.before ++ r.since) (r.last ∷ []) r.rest);
@@ -85,11 +86,11 @@ retired_true frames c packets inputs x are all r =
       has = r.has;
       is = r.is;
       holds = r.holds frames sent;
-    })
+    }
 
 handed_true : (frames : ℕ → Option Frame) (c : AcqConfig) (packets : List StreamPacket) (inputs : List Input) → AreOfFrames frames c.p packets
     → AllByRecursion (IsSent frames c.p) (packets_in inputs) → (x : Item) → IsHandedSo c inputs x → IsTrueImage frames c inputs x
-handed_true frames c packets inputs are all x (inl r) = retired_true frames c packets inputs x are all r
+handed_true frames c packets inputs are all x (inl r) = inl (retired_holds frames c packets inputs are all x r)
 handed_true frames c packets inputs are all x (inr none) = inr none
 
 pub images_true : (seed : ℕ) (shape : Shape) (room : ℕ) (peer : Peer) (es : List WorldEvent) → ImagesAreTrue seed shape room peer es
@@ -99,8 +100,11 @@ images_true seed shape room peer es frames c t w are is =
     = all_weaker (Spells packets) (Tells (IsSent frames c.p)) (given_tells frames c.p packets are) (host_lines es)
     (datagrams_are_given peer (new_line seed shape room) es w) in
     let heard : AllByRecursion (IsSent frames c.p) (packets_in t.inputs) = leads_tell (IsSent frames c.p) c opening (host_lines es) t told is.leads tt in
-    all_weaker (IsHandedSo c t.inputs) (IsTrueImage frames c t.inputs) (handed_true frames c packets t.inputs are heard) (handed_items t.entries)
-    (trace_keeps seed shape room peer es c t w is).handed
+    let keeps : KeepsPromises c t = trace_keeps seed shape room peer es c t w is in
+    record {
+      blocks = all_weaker (IsRetired c t.inputs) (HoldsBlock frames c t.inputs) (retired_holds frames c packets t.inputs are heard) (tried_blocks t) keeps.blocks;
+      handed = all_weaker (IsHandedSo c t.inputs) (IsTrueImage frames c t.inputs) (handed_true frames c packets t.inputs are heard) (handed_items t.entries) keeps.handed;
+    }
 
 pub images_of_made : (seed : ℕ) (shape : Shape) (room : ℕ) (peer : Peer) (es : List WorldEvent) → ImagesAreOfMadeFrames seed shape room peer es
 images_of_made seed shape room peer es c t w sends is =

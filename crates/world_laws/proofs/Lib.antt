@@ -3,3 +3,4 @@ pub mod Inputs
 pub mod Reading
 pub mod Made
 pub mod Images
+pub mod Fronts

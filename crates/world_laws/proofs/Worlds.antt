@@ -10,8 +10,8 @@ use Rattle.gvsp_wire.specs.Plain.{plain}
 use Rattle.gev_script.specs.Lines as line
 use Rattle.gev_script.specs.Lines.{ScriptLine}
 use Rattle.acquisition_machine.proofs.Order.{all_append, all_weaker}
-use Rattle.script_trace.proofs.BlockFills.{IsOfAnActor}
-use Rattle.script_trace.proofs.Promises.{lines_keep}
+use Rattle.script_trace.proofs.BlockFills.{IsByOther}
+use Rattle.script_trace.proofs.Promises.{traces_keep_by}
 use Rattle.control_session.specs.Schedule.{Line, new_line, after, with_last, IsSchedule}
 use Rattle.control_session.proofs.Lines.{acts_once}
 use Rattle.world_machine.specs.HostActs.{given_at, given_in, IsGiven}
@@ -35,24 +35,24 @@ commands_once seed shape room peer es w few =
 
 -- ---- the lines
 
-applied_actor : (l : ScriptLine) → IsApplied l → IsOfAnActor l
-applied_actor (line.step actor act place) is = is.actor_to
-applied_actor _ is = tt
+applied_by_other : (l : ScriptLine) → IsApplied l → IsByOther l
+applied_by_other (line.step actor act place) is = is.actor_to
+applied_by_other _ is = tt
 
-event_lines : (peer : Peer) (start : Line) (es : List WorldEvent) (e : WorldEvent) → MayCome peer start es e → AllByRecursion IsOfAnActor (lines_of e)
+event_lines : (peer : Peer) (start : Line) (es : List WorldEvent) (e : WorldEvent) → MayCome peer start es e → AllByRecursion IsByOther (lines_of e)
 event_lines peer start es (at_session a) may = tt
 event_lines peer start es (hears bytes) may = (tt, tt)
 event_lines peer start es (passes moment) may = (tt, tt)
-event_lines peer start es (applies l) may = (applied_actor l may, tt)
+event_lines peer start es (applies l) may = (applied_by_other l may, tt)
 
-pub lines_of_actors : (peer : Peer) (start : Line) (es : List WorldEvent) → IsWorld peer start es → AllByRecursion IsOfAnActor (host_lines es)
-lines_of_actors peer start [] w = tt
-lines_of_actors peer start (e ∷ es) w =
-    all_append IsOfAnActor (host_lines es) (lines_of e) (lines_of_actors peer start es w.1) (event_lines peer start es e w.0)
+pub lines_are_by_others : (peer : Peer) (start : Line) (es : List WorldEvent) → IsWorld peer start es → AllByRecursion IsByOther (host_lines es)
+lines_are_by_others peer start [] w = tt
+lines_are_by_others peer start (e ∷ es) w =
+    all_append IsByOther (host_lines es) (lines_of e) (lines_are_by_others peer start es w.1) (event_lines peer start es e w.0)
 
 pub trace_keeps : (seed : ℕ) (shape : Shape) (room : ℕ) (peer : Peer) (es : List WorldEvent) → TraceKeepsPromises seed shape room peer es
 trace_keeps seed shape room peer es c t w is =
-    lines_keep c (host_lines es) t is.window (lines_of_actors peer (new_line seed shape room) es w) is.leads
+    traces_keep_by c (host_lines es) t is.window (lines_are_by_others peer (new_line seed shape room) es w) is.leads
 
 -- ---- the datagrams
 

@@ -1,5 +1,6 @@
 -- Which frames stand behind the packets that a camera gave, and what a buffer holds of them.
 use Rattle.std.specs.Prelude.{◌≡◌, ◌⊎◌, ℕ, ◌<◌, ◌^◌, List, ◌++◌, Option, Some}
+use Rattle.std.specs.List.{AllByRecursion}
 use Rattle.gev_types.specs.declared.frame.Frame.{Frame}
 use Rattle.gev_types.specs.declared.frame.Shape.{Shape}
 use Rattle.gev_types.specs.FrameSize.{IsImageSize}
@@ -11,10 +12,13 @@ use Rattle.gvsp_wire.specs.Plain.{AreBytes, InfoFits}
 use Rattle.block_image.specs.Sizes.{IsPayloadSize}
 use Rattle.block_image.specs.OneBlock.{AreSent}
 use Rattle.board_machine.specs.Machine.{Item, item}
+use Rattle.board_machine.specs.Handout.{handed_items}
 use Rattle.acquisition_machine.specs.declared.config.AcqConfig.{AcqConfig}
 use Rattle.acquisition_machine.specs.Blocks.{Given, Open, filling_in}
 use Rattle.acquisition_machine.specs.Machine.{Input}
 use Rattle.acquisition_machine.specs.FrameLaws.{IsSince, HoldsOfFrame}
+use Rattle.script_trace.specs.Trace.{Trace}
+use Rattle.script_trace.specs.Fills.{tried_blocks}
 use Rattle.camera_machine.specs.Camera.{new_camera}
 use Rattle.camera_machine.specs.Events.{past, frames_made}
 use Rattle.camera_machine.specs.Sending.{AreGenerated, AskFromOne, HaveSize}
@@ -54,6 +58,12 @@ pub record HoldsBlock (frames : ℕ → Option Frame) (c : AcqConfig) (inputs : 
 -- the same, or the buffer has the empty record
 abbrev pub IsTrueImage : (ℕ → Option Frame) → AcqConfig → List Input → Item → Type 0
 IsTrueImage frames c inputs x = HoldsBlock frames c inputs x ⊎ (x.filling.rec ≡ empty_record)
+
+-- Each block that the acquisition filled, or tried to fill where the stream was closed, is so; and so is each
+-- buffer that was handed out, but for those with the empty record.
+pub record HasTrueImages (frames : ℕ → Option Frame) (c : AcqConfig) (t : Trace) : Type 0 where
+  pub blocks : AllByRecursion (HoldsBlock frames c t.inputs) (tried_blocks t)
+  pub handed : AllByRecursion (IsTrueImage frames c t.inputs) (handed_items t.entries)
 
 -- ---- a camera that sends such frames
 

@@ -1,11 +1,9 @@
 -- The laws of the world, which `src/laws.rt` proves: of every schedule, whatever is lost, repeated or
 -- reordered.
 use Rattle.std.specs.Prelude.{ℕ, ◌<◌, ◌≤◌, List, length, Option}
-use Rattle.std.specs.List.{AllByRecursion}
 use Rattle.gev_types.specs.declared.frame.Frame.{Frame}
 use Rattle.gev_types.specs.declared.frame.Shape.{Shape}
 use Rattle.gev_types.specs.declared.peer.Peer.{Peer}
-use Rattle.board_machine.specs.Handout.{handed_items}
 use Rattle.acquisition_machine.specs.declared.config.AcqConfig.{AcqConfig}
 use Rattle.script_trace.specs.Trace.{Trace}
 use Rattle.script_trace.specs.Adding.{Leads}
@@ -15,7 +13,7 @@ use Rattle.control_session.specs.Schedule.{new_line, after}
 use Rattle.control_session.specs.Laws.{ActOnce}
 use Rattle.world_machine.specs.HostActs.{given_in}
 use Rattle.world_laws.specs.Schedule.{WorldEvent, session_acts, host_lines, IsWorld}
-use Rattle.world_laws.specs.Images.{AreOfFrames, IsTrueImage, SendsFrames, AreOfMade, made_in}
+use Rattle.world_laws.specs.Images.{AreOfFrames, HasTrueImages, SendsFrames, AreOfMade, made_in}
 
 -- The commands of each session act once, while the client submitted fewer than 32,767.
 abbrev pub CommandsActOnce : ℕ → Shape → ℕ → Peer → List WorldEvent → Type 0
@@ -35,13 +33,13 @@ abbrev pub TraceKeepsPromises : ℕ → Shape → ℕ → Peer → List WorldEve
 TraceKeepsPromises seed shape room peer es =
     (c : AcqConfig) (t : Trace) → IsWorld peer (new_line seed shape room) es → IsTraceOf c es t → KeepsPromises c t
 
--- Where one map of frames stands behind the packets that the camera gave, each buffer that was handed out
--- holds what came of its block's frame, or has the empty record.
+-- Where one map of frames stands behind the packets that the camera gave, each buffer that was filled or
+-- handed out holds what came of its block's frame, or has the empty record.
 abbrev pub ImagesAreTrue : ℕ → Shape → ℕ → Peer → List WorldEvent → Type 0
 ImagesAreTrue seed shape room peer es =
     (frames : ℕ → Option Frame) (c : AcqConfig) (t : Trace) → IsWorld peer (new_line seed shape room) es
     → AreOfFrames frames c.p (given_in (new_line seed shape room) (session_acts es)) → IsTraceOf c es t
-    → AllByRecursion (IsTrueImage frames c t.inputs) (handed_items t.entries)
+    → HasTrueImages frames c t
 
 -- The frames that the camera made are such a map.
 abbrev pub MadeFramesAreBehind : ℕ → Shape → ℕ → List WorldEvent → Type 0
@@ -49,9 +47,9 @@ MadeFramesAreBehind seed shape room es =
     (p : ℕ) → SendsFrames seed shape room p es
     → AreOfMade seed shape room p es (given_in (new_line seed shape room) (session_acts es))
 
--- So each buffer that was handed out holds what came of the frame that the camera made under its block's id,
--- or has the empty record.
+-- So each buffer that was filled or handed out holds what came of the frame that the camera made under its
+-- block's id, or has the empty record.
 abbrev pub ImagesAreOfMadeFrames : ℕ → Shape → ℕ → Peer → List WorldEvent → Type 0
 ImagesAreOfMadeFrames seed shape room peer es =
     (c : AcqConfig) (t : Trace) → IsWorld peer (new_line seed shape room) es → SendsFrames seed shape room c.p es → IsTraceOf c es t
-    → AllByRecursion (IsTrueImage (made_in seed shape room es) c t.inputs) (handed_items t.entries)
+    → HasTrueImages (made_in seed shape room es) c t

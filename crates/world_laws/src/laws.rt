@@ -19,10 +19,10 @@ pub fn trace_of_a_world_keeps_promises()
     ensures { (seed : ℕ) (shape : Shape) (room : ℕ) (peer : Peer) (es : List WorldEvent) → TraceKeepsPromises seed shape room peer es }
 {}
 
-/// Where the camera gave packets of one map of frames, in one payload size, each buffer that was handed
-/// out is its block's frame or isn't marked complete; each received byte is in place, and 0 elsewhere;
-/// and in a large enough buffer it's marked complete where all packets came before it retired. Buffers
-/// with the empty record, which no block filled, are left out.
+/// Where the camera gave packets of one map of frames, in one payload size, each buffer that was filled
+/// or handed out is its block's frame or isn't marked complete; each received byte is in place, and 0
+/// elsewhere; and in a large enough buffer it's marked complete where all packets came before it
+/// retired. Buffers with the empty record, which no block filled, are left out.
 pub fn images_of_a_world_are_true()
     ensures { (seed : ℕ) (shape : Shape) (room : ℕ) (peer : Peer) (es : List WorldEvent) → ImagesAreTrue seed shape room peer es }
 {}
@@ -32,7 +32,7 @@ pub fn made_frames_are_behind_the_packets()
     ensures { (seed : ℕ) (shape : Shape) (room : ℕ) (es : List WorldEvent) → MadeFramesAreBehind seed shape room es }
 {}
 
-/// So each buffer that was handed out holds what came of a frame that the camera made.
+/// So each buffer that was filled or handed out holds what came of a frame that the camera made.
 pub fn images_of_a_world_are_of_made_frames()
     ensures { (seed : ℕ) (shape : Shape) (room : ℕ) (peer : Peer) (es : List WorldEvent) → ImagesAreOfMadeFrames seed shape room peer es }
 {}
