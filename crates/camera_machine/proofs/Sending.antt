@@ -124,11 +124,33 @@ made_step seed shape s make_frame ds a b h = go (is_open s)
     go false = h
 made_step seed shape s next_packet ds a b h = h
 
+grows_same : (frames more : Frames) → ((b : ℕ) → more b ≡ frames b) → Grows frames more
+grows_same frames more same b f e = same b ∙ e
+
+grows_step : (seed : ℕ) (shape : Shape) (s : Camera) (e : Event) (ds : List Deed) → s.seed ≡ seed → s.shape ≡ shape → AreMade seed shape ds
+    → Grows (frames_made ds) (frames_made (past_with s e ds))
+grows_step seed shape s (command peer bytes moment) ds a b h =
+    grows_same (frames_made ds) (frames_made (past_with s (command peer bytes moment) ds)) (frames_command s peer bytes moment ds)
+grows_step seed shape s (tick moment) ds a b h = grows_same (frames_made ds) (frames_made (with_look s moment ds)) (frames_look s moment ds)
+grows_step seed shape s make_frame ds a b h = go (is_open s)
+  where
+    go : (t : Bool) → Grows (frames_made ds) (frames_made (if t then made (next_frame s) ∷ ds else ds))
+    go true = made_grows seed shape ds (next_frame s) (next_is_made seed shape s ds a b h)
+    go false = λ k f e. e
+grows_step seed shape s next_packet ds a b h = λ k f e. e
+
 made_past : (seed : ℕ) (shape : Shape) (room : ℕ) (es : List Event) → AreMade seed shape (past (new_camera seed shape room) es)
 made_past seed shape room [] = tt
 made_past seed shape room (e ∷ es) =
     let left = state_says seed shape room es in
     made_step seed shape (after (new_camera seed shape room) es) e (past (new_camera seed shape room) es) left.seed_is left.shape_is (made_past seed shape room es)
+
+-- no frame is lost from the map of those that were made
+pub frames_grow : (seed : ℕ) (shape : Shape) (room : ℕ) (e : Event) (es : List Event)
+    → Grows (frames_made (past (new_camera seed shape room) es)) (frames_made (past (new_camera seed shape room) (e ∷ es)))
+frames_grow seed shape room e es =
+    let left = state_says seed shape room es in
+    grows_step seed shape (after (new_camera seed shape room) es) e (past (new_camera seed shape room) es) left.seed_is left.shape_is (made_past seed shape room es)
 
 pub frames_are : (seed : ℕ) (shape : Shape) (room : ℕ) (es : List Event) → FramesAreGenerated seed shape room es
 frames_are seed shape room es =
@@ -159,7 +181,7 @@ size_look p s moment ds = go (has_lost s moment)
     go true h = h
     go false h = h
 
-size_step : (p : ℕ) (s : Camera) (e : Event) (ds : List Deed) → HaveSize p (past_with s e ds) → HaveSize p ds
+pub size_step : (p : ℕ) (s : Camera) (e : Event) (ds : List Deed) → HaveSize p (past_with s e ds) → HaveSize p ds
 size_step p s (command peer bytes moment) ds h =
     size_look p s moment ds (size_changes p (commanded s peer bytes moment).changes (with_look s moment ds)
     (size_execution p (commanded s peer bytes moment).execution (with_changes (commanded s peer bytes moment).changes (with_look s moment ds)) h))
@@ -171,14 +193,11 @@ size_step p s make_frame ds h = go (is_open s) h
     go false h = h
 size_step p s next_packet ds h = h
 
-asks_rest : (e : Event) (es : List Event) → AskFromOne (e ∷ es) → AskFromOne es
+pub asks_rest : (e : Event) (es : List Event) → AskFromOne (e ∷ es) → AskFromOne es
 asks_rest (command peer bytes moment) es h = h.1
 asks_rest (tick moment) es h = h
 asks_rest make_frame es h = h
 asks_rest next_packet es h = h
-
-grows_same : (frames more : Frames) → ((b : ℕ) → more b ≡ frames b) → Grows frames more
-grows_same frames more same b f e = same b ∙ e
 
 staying_stored : (P : SentFrame → Type 0) (room : ℕ) (held : List SentFrame) → All P held → All P (staying room held)
 staying_stored P room held h = go (nat_lt (length held) room)

@@ -72,7 +72,7 @@ carries_more : (frames more : Frames) (p : ℕ) (x : StreamPacket) → Grows fra
 carries_more frames more p x g c =
     record { frame = c.frame; of_block = g (head_of x).block c.frame c.of_block; packet = c.packet; status = c.status }
 
-sent_more : (frames more : Frames) (p : ℕ) (x : StreamPacket) → Grows frames more → IsSent frames p x → IsSent more p x
+pub sent_more : (frames more : Frames) (p : ℕ) (x : StreamPacket) → Grows frames more → IsSent frames p x → IsSent more p x
 sent_more frames more p (leader h i) g c = carries_more frames more p (leader h i) g c
 sent_more frames more p (payload h d) g c = carries_more frames more p (payload h d) g c
 sent_more frames more p (trailer h y) g c = carries_more frames more p (trailer h y) g c

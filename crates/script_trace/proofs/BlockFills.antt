@@ -1,6 +1,6 @@
 -- The acquisition's fills are the retired blocks.
 use Rattle.std.proofs.Common.{◌≡◌, ◌≢◌, inl, inr, ℕ, ◌≤◌, ◌==◌, cond, Bool, true, false, List, [], ◌∷◌, ◌++◌, map, refl, sym, ap, subst, ◌∙◌, append_assoc, append-nil, arith}
-use Rattle.std.specs.Prelude.{Option, Some, None, Result, Ok, Err, unwrap_or, codes}
+use Rattle.std.specs.Prelude.{⊤, Option, Some, None, Result, Ok, Err, unwrap_or, codes}
 use Rattle.std.specs.List.{AllByRecursion}
 use Rattle.std.proofs.lemmas.Bool.{ne_eqb}
 use Rattle.board_machine.specs.declared.events.Entry.{Entry}
@@ -18,7 +18,6 @@ use Rattle.gev_script.specs.declared.act.Act.{Act}
 use Rattle.gev_script.specs.declared.act.Act.TheVariants as act
 use Rattle.gev_script.specs.Lines as line
 use Rattle.gev_script.specs.Lines.{ScriptLine}
-use Rattle.gev_script.specs.Spelling.{IsScriptLine}
 use Rattle.acquisition_machine.specs.declared.config.AcqConfig.{AcqConfig}
 use Rattle.acquisition_machine.specs.declared.retired.Retired.{Retired}
 use Rattle.acquisition_machine.specs.Blocks.{Retirement, fills, fill_of}
@@ -211,7 +210,12 @@ step_agrees c t k act.Close i part apart is = acts_agree c t k (Close ∷ []) _ 
 not_acquirer : (k : ℕ) → k ≤ 4 → (k == acquirer) ≡ false
 not_acquirer k few = let apart : k ≢ 5 = λ e. omega (arith, e) in ne_eqb k 5 apart
 
-line_agrees : (c : AcqConfig) (t : Trace) (l : ScriptLine) (part : Part) → IsScriptLine l → Spells c t l part → FillsAgree c t part
+-- No step is the acquisition's.
+abbrev pub IsByOther : ScriptLine → Type 0
+IsByOther (line.step actor act place) = actor ≤ 4
+IsByOther _ = ⊤
+
+line_agrees : (c : AcqConfig) (t : Trace) (l : ScriptLine) (part : Part) → IsByOther l → Spells c t l part → FillsAgree c t part
 line_agrees c t (line.header config) part ok s = absurd s
 line_agrees c t (line.announce size) part ok (answer, some, calls) = calls_agree c t _ _ part calls
 line_agrees c t (line.queue place generation) part ok (answer, calls) = calls_agree c t _ _ part calls
@@ -228,7 +232,7 @@ line_agrees c t (line.info which) part ok (answer, calls) = calls_agree c t _ _ 
 line_agrees c t (line.buffer_info place generation which) part ok asks = buffer_agrees c t place generation which (is_of_loan which) part asks
 line_agrees c t (line.open_child parent index) part ok is = subst (FillsAgree c t) (sym is) refl
 line_agrees c t (line.close_all serial) part ok closes = close_agrees c t serial (closing t.handles serial) part closes
-line_agrees c t (line.step actor a place) part ok steps = step_agrees c t actor a (unwrap_or place 0) part (not_acquirer actor ok.actor_to) steps
+line_agrees c t (line.step actor a place) part ok steps = step_agrees c t actor a (unwrap_or place 0) part (not_acquirer actor ok) steps
 line_agrees c t line.end_of_script part ok s = absurd s
 line_agrees c t line.camera_header part ok s = absurd s
 line_agrees c t (line.command peer digits) part ok s = absurd s
@@ -247,7 +251,7 @@ grown_agrees c t part before now =
     ∙ (ap (λ l. retired_items c t.inputs ++ l) now
     ∙ sym (items_from-append c first_state t.inputs part.inputs))))
 
-pub leads_agree : (c : AcqConfig) (t : Trace) (lines : List ScriptLine) (new : Trace) → AllByRecursion IsScriptLine lines → Leads c t lines new → AgreeSoFar c t → AgreeSoFar c new
+pub leads_agree : (c : AcqConfig) (t : Trace) (lines : List ScriptLine) (new : Trace) → AllByRecursion IsByOther lines → Leads c t lines new → AgreeSoFar c t → AgreeSoFar c new
 leads_agree c t [] new are is so = subst (AgreeSoFar c) (sym is) so
 leads_agree c t (l ∷ lines) new are (part, adds, rest) so =
     leads_agree c (grown t part) lines new are.1 rest (grown_agrees c t part so (line_agrees c t l part are.0 adds.spells))
