@@ -14,6 +14,8 @@ pub mod Lowest
 pub mod Claimed
 pub mod Sweeps
 pub mod SweptOn
+pub mod Fields
+pub mod Outs
 pub mod Retries
 pub mod Turns
 pub mod Carried
@@ -25,3 +27,4 @@ pub mod Lending
 pub mod Several
 pub mod Working
 pub mod Witnessing
+pub mod Marking

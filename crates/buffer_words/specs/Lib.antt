@@ -4,6 +4,7 @@ pub mod Swept
 pub mod Rule
 pub mod Told
 pub mod Plays
+pub mod Output
 pub mod Meeting
 pub mod Boards
 pub mod Passes
@@ -12,3 +13,4 @@ pub mod Several
 pub mod Workers
 pub mod WorkLaws
 pub mod Witness
+pub mod Marks

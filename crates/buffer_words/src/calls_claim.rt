@@ -27,7 +27,7 @@ fn lowest_of(number: u64) -> u8
 }
 
 /// Puts the places of a sweep in front of those that a pass has.
-fn take_on(held: &mut ArrayVec<u8, 15>, places: &ArrayVec<u8, 15>)
+pub(crate) fn take_on(held: &mut ArrayVec<u8, 15>, places: &ArrayVec<u8, 15>)
     requires room { length places.now.items + length held.old.items ≤ 15 }
     ensures { held.new.items ≡ places.now.items ++ held.old.items }
 {

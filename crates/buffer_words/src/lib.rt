@@ -4,6 +4,8 @@
 
 mod calls_claim;
 mod calls_loans;
+mod calls_marks;
+mod calls_output;
 mod calls_passes;
 mod calls_places;
 mod calls_pool;
@@ -11,6 +13,12 @@ mod codes;
 mod crossing;
 mod laws;
 mod loan;
+mod mark_plays;
+mod marks;
+#[cfg(test)]
+mod marks_tests;
+mod output;
+mod output_plays;
 mod pass;
 mod plays;
 mod pool;

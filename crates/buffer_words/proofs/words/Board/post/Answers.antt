@@ -1,0 +1,13 @@
+use Rattle.std.proofs.Common.{subst, refl}
+use Rattle.buffer_words.specs.Passes.{Token, SameHands}
+use Rattle.buffer_words.proofs.Carried.{same_pass}
+use Rattle.buffer_words.proofs.Handling.{token, looks_same}
+use Rattle.buffer_words.proofs.words.Board.post.Goals as goal
+
+pub invariant_of-pass : goal.invariant_of-pass
+invariant_of-pass c = same_pass _ _ _ _ c.pass.invariant c.set_kill.ensures.posts (λ b may. refl)
+
+pub returns-clause-hands : goal.returns-clause-hands
+returns-clause-hands c =
+    subst (λ (s : Token). SameHands s (token c.set_kill.new.seat.table_id c.set_kill.new.seat.me)) c.pass.view_is
+    (looks_same _ _ _ _ _ c.pass.invariant.carries c.set_kill.ensures.posts)

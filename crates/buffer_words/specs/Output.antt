@@ -1,0 +1,53 @@
+-- The output's word, and what each kind of step on it tells.
+use Rattle.std.specs.Prelude.{◌≡◌, ℕ, ◌<◌, ◌≤◌, ◌^◌, ◌%◌, Bool, MatchBool, List}
+use Rattle.gev_types.specs.Limits.{place_count}
+use Rattle.atomic_table.specs.Table.{Step}
+use Rattle.board_machine.specs.declared.events.Event.TheVariants.{LookOut, SweepOut, Close}
+use Rattle.board_machine.specs.Places.{times}
+use Rattle.buffer_words.specs.Codes.{out_code}
+use Rattle.buffer_words.specs.Rule.{Slot}
+use Rattle.buffer_words.specs.Plays.{Seated, LooksAt}
+use Rattle.buffer_words.specs.Swept.{TakesAll}
+
+-- The fields of the number, four bits each, are these places plus 1, the first in the lowest; no place twice.
+pub record AreFields (n : ℕ) (is : List ℕ) : Type 0 where
+  pub number : n ≡ out_code is
+  pub single : (i : ℕ) → times i is ≤ 1
+  pub below : (i : ℕ) → 1 ≤ times i is → i < place_count
+
+-- The number has such fields and nothing else.
+pub record HasFields (n : ℕ) : Type 0 where
+  pub places : List ℕ
+  pub are : AreFields n places
+
+-- Whether the close mark stands in the number.
+abbrev pub IsMarked : ℕ → Bool → Type 0
+IsMarked n closed = MatchBool closed (2 ^ 60 ≤ n) (n < 2 ^ 60)
+
+-- The output's word is this number: its places, first in first, and the close mark.
+pub record IsOut (n : ℕ) (is : List ℕ) (closed : Bool) : Type 0 where
+  pub fields : AreFields (n % 2 ^ 60) is
+  pub mark : IsMarked n closed
+
+-- A look at the output.
+pub record LooksOut (before : Seated) (found : ℕ) (after : Seated) : Type 0 where
+  pub places : List ℕ
+  pub closed : Bool
+  pub is : IsOut found places closed
+  pub looks : LooksAt before (LookOut places closed) after
+
+abbrev pub looked_out : Step Slot → Seated → ℕ → Seated → Type 0
+looked_out st before found after = LooksOut before found after
+
+-- The close mark is set, whatever stood there.
+abbrev pub closed_out : Step Slot → Seated → ℕ → Seated → Type 0
+closed_out st before found after = LooksAt before Close after
+
+-- A sweep of the output: all of its places, first in first. The mark stays.
+pub record SweepsOut (before : Seated) (found : ℕ) (after : Seated) : Type 0 where
+  pub places : List ℕ
+  pub fields : AreFields (found % 2 ^ 60) places
+  pub takes : TakesAll before (SweepOut places) places after
+
+abbrev pub swept_out : Step Slot → Seated → ℕ → Seated → Type 0
+swept_out st before found after = SweepsOut before found after

@@ -1,0 +1,24 @@
+//! The kinds of step on the output's word, each named for what it does.
+ghost use Rattle.buffer_words.specs.Output.{looked_out, closed_out, swept_out};
+
+use crate::view::View;
+use atomic_table::Play;
+use gev_types::Buf;
+
+pub struct LookOut;
+
+impl Play<Option<Buf>, View> for LookOut {
+    ghost then = { looked_out };
+}
+
+pub struct CloseOut;
+
+impl Play<Option<Buf>, View> for CloseOut {
+    ghost then = { closed_out };
+}
+
+pub struct SweepOut;
+
+impl Play<Option<Buf>, View> for SweepOut {
+    ghost then = { swept_out };
+}

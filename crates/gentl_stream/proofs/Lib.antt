@@ -1,0 +1,7 @@
+pub mod Giving
+pub mod Rounds
+pub mod Grabbing
+pub mod Sweeping
+pub mod Announcing
+pub mod Running
+pub mod Informing

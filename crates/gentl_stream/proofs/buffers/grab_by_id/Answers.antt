@@ -1,0 +1,8 @@
+use Rattle.gentl_stream.proofs.Grabbing.{refused_isnt, refused_grab}
+use Rattle.gentl_stream.proofs.buffers.grab_by_id.Goals as goal
+
+pub grab_refusal-requires-clause-missing : goal.grab_refusal-requires-clause-missing
+grab_refusal-requires-clause-missing c = refused_isnt _ _ _ _ _ c.in-Err.ensures.entry
+
+pub returns-in-Err-clause-refused : goal.returns-in-Err-clause-refused
+returns-in-Err-clause-refused c = refused_grab _ _ _ _ _ c.grab_refusal.ensures c.in-Err.ensures.entry

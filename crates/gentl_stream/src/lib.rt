@@ -1,0 +1,20 @@
+//! The calls on a data stream of the board that threads share, as EMVA GenTL has them: buffers are
+//! queued, revoked, borrowed and returned, and queues are flushed.
+#![tactic(auto)]
+
+mod announce;
+mod buffers;
+mod flush;
+mod info;
+#[cfg(test)]
+mod info_tests;
+mod looks;
+mod places;
+mod run;
+
+pub use announce::ds_announce;
+pub use buffer_words::Loan;
+pub use buffers::{ds_borrow, ds_queue, ds_return, ds_revoke};
+pub use flush::ds_close;
+pub use info::{ds_buffer_info, ds_info};
+pub use run::{ds_start, ds_stop};
