@@ -90,7 +90,7 @@ without_mark n c e small = (omega arith, omega arith)
 with_mark : (n c : ℕ) → n ≡ c + 1152921504606846976 → c < 1152921504606846976 → (n % 1152921504606846976 ≡ c) × (1152921504606846976 ≤ n)
 with_mark n c e small = (omega arith, omega arith)
 
-renamed : (n m : ℕ) (is : List ℕ) → n ≡ m → AreFields m is → AreFields n is
+pub renamed : (n m : ℕ) (is : List ℕ) → n ≡ m → AreFields m is → AreFields n is
 renamed n m is e are = record { number = e ∙ are.number; single = are.single; below = are.below }
 
 pub out_is : (n : ℕ) (is : List ℕ) (closed : Bool) → n ≡ out_code is + mark_code closed → AreFields (out_code is) is → IsOut n is closed

@@ -16,6 +16,8 @@ pub mod Sweeps
 pub mod SweptOn
 pub mod Fields
 pub mod Outs
+pub mod Takings
+pub mod Handed
 pub mod Retries
 pub mod Turns
 pub mod Carried

@@ -105,7 +105,7 @@ waiting_pool : (s : State Slot View) (id : ℕ) (me : Seated) (k : Kept s) → m
     × ReadsPool me (get_or s.words 15 0) (idle me.0.number k.history, me.1)
 waiting_pool s id me k st at =
     let both = idle_waits s id 15 me.1 me.0 k st at in
-    (both.0, record { waited = both.1; slots = refl; pool = k.shows.pool })
+    (both.0, record { waited = both.1; slots = refl; sees = k.shows.pool })
 
 sees_by : (slots id : ℕ) (me : Seated) → me.0.stage ≡ Idle → (s : State Slot View) (k : Kept s) → get_elem? s.views id ≡ opt.some me.0
     → (get_or s.words 15 0 ≡ 0) ⊎ (get_or s.words 15 0 ≢ 0)

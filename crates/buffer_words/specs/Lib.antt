@@ -5,6 +5,7 @@ pub mod Rule
 pub mod Told
 pub mod Plays
 pub mod Output
+pub mod Handing
 pub mod Meeting
 pub mod Boards
 pub mod Passes

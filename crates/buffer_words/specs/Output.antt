@@ -1,12 +1,17 @@
 -- The output's word, and what each kind of step on it tells.
-use Rattle.std.specs.Prelude.{◌≡◌, ℕ, ◌<◌, ◌≤◌, ◌^◌, ◌%◌, Bool, MatchBool, List}
+use Rattle.std.specs.Prelude.{◌≡◌, ◌≢◌, ℕ, ◌+◌, ◌-◌, ◌%◌, ◌^◌, ◌<◌, ◌≤◌, Bool, MatchBool, List, [], ◌∷◌, ◌++◌}
 use Rattle.gev_types.specs.Limits.{place_count}
 use Rattle.atomic_table.specs.Table.{Step}
-use Rattle.board_machine.specs.declared.events.Event.TheVariants.{LookOut, SweepOut, Close}
+use Rattle.board_machine.specs.declared.events.Entry.{Entry}
+use Rattle.board_machine.specs.declared.events.Event.TheVariants.{LookOut, Take, SweepOut, Close}
+use Rattle.board_machine.specs.declared.events.TakeEnd.TheVariants.{Taken, Empty, Closed}
 use Rattle.board_machine.specs.Places.{times}
-use Rattle.buffer_words.specs.Codes.{out_code}
+use Rattle.board_machine.specs.Machine.{Item, item, places}
+use Rattle.board_machine.specs.Histories.{After}
+use Rattle.board_machine.specs.Handout.{removed_items}
+use Rattle.buffer_words.specs.Codes.{out_code, mark_code}
 use Rattle.buffer_words.specs.Rule.{Slot}
-use Rattle.buffer_words.specs.Plays.{Seated, LooksAt}
+use Rattle.buffer_words.specs.Plays.{Seated, ReadsQueue, LooksAt, TakesBuffer}
 use Rattle.buffer_words.specs.Swept.{TakesAll}
 
 -- The fields of the number, four bits each, are these places plus 1, the first in the lowest; no place twice.
@@ -28,6 +33,13 @@ IsMarked n closed = MatchBool closed (2 ^ 60 ≤ n) (n < 2 ^ 60)
 pub record IsOut (n : ℕ) (is : List ℕ) (closed : Bool) : Type 0 where
   pub fields : AreFields (n % 2 ^ 60) is
   pub mark : IsMarked n closed
+
+-- the output's word after this history
+abbrev pub SeesOut : List Entry → ℕ → Type 0
+SeesOut h n = n ≡ out_code (places (After h).out) + mark_code (After h).closed
+
+abbrev pub ReadsOut : Seated → ℕ → Seated → Type 0
+ReadsOut before found after = ReadsQueue SeesOut before found after
 
 -- A look at the output.
 pub record LooksOut (before : Seated) (found : ℕ) (after : Seated) : Type 0 where
@@ -51,3 +63,26 @@ pub record SweepsOut (before : Seated) (found : ℕ) (after : Seated) : Type 0 w
 
 abbrev pub swept_out : Step Slot → Seated → ℕ → Seated → Type 0
 swept_out st before found after = SweepsOut before found after
+
+-- the place in the lowest field
+abbrev pub first_in : ℕ → ℕ
+first_in n = n % 16 - 1
+
+-- A take: the slot of the output's first place is taken up, with the bytes and the record of its fill.
+pub record TakesOut (before : Seated) (place : ℕ) (after : Seated) : Type 0 where
+  pub takes : TakesBuffer before (Take (Taken place)) place after
+  pub earlier : List Item
+  pub removed : removed_items after.0.seen ≡ earlier ++ item place takes.filling ∷ []
+
+-- A take's load: the mark stands, or the output is empty, or nothing was added.
+abbrev pub saw_first : Step Slot → Seated → ℕ → Seated → Type 0
+saw_first st before found after =
+    (2 ^ 60 ≤ found → LooksAt before (Take Closed) after)
+    × (found ≡ 0 → LooksAt before (Take Empty) after)
+    × (0 < found → found < 2 ^ 60 → ReadsOut before found after)
+
+-- A take's exchange: the word was the one that was read, or nothing was added.
+abbrev pub took : Step Slot → Seated → ℕ → Seated → Type 0
+took st before found after =
+    (found ≡ st.first → TakesOut before (first_in st.first) after)
+    × (found ≢ st.first → ReadsOut before found after)

@@ -170,11 +170,18 @@ seen_in _ = []
 abbrev pub ends : Step Slot → Seated → ℕ → Seated → Type 0
 ends st before found after = Ends before (number_in before.0.stage) (seen_in before.0.stage) after
 
--- The pool's word was this number, and nothing was added.
-pub record ReadsPool (before : Seated) (found : ℕ) (after : Seated) : Type 0 where
+-- the pool's word after this history
+abbrev pub SeesPool : List Entry → ℕ → Type 0
+SeesPool h n = IsPool n (After h).pool
+
+-- The word of a queue was this number, and nothing was added.
+pub record ReadsQueue (Sees : List Entry → ℕ → Type 0) (before : Seated) (found : ℕ) (after : Seated) : Type 0 where
   pub waited : Waited before.0 after.0
   pub slots : after.1 ≡ before.1
-  pub pool : IsPool found (After after.0.seen).pool
+  pub sees : Sees after.0.seen found
+
+abbrev pub ReadsPool : Seated → ℕ → Seated → Type 0
+ReadsPool before found after = ReadsQueue SeesPool before found after
 
 -- A look at the pool: its places, lowest first.
 pub record LooksPool (before : Seated) (found : ℕ) (after : Seated) : Type 0 where

@@ -7,7 +7,8 @@ ghost use Rattle.buffer_words.specs.Boards.{board_id};
 ghost use Rattle.buffer_words.specs.Passes.{Enters};
 ghost use Rattle.board_machine.specs.Places.{IsRising};
 ghost use Rattle.buffer_words.specs.Swept.{GetsAll};
-ghost use Rattle.buffer_words.specs.Tries.{IfDid, IfLost, SeesPool, LostTo, GetsOne};
+ghost use Rattle.buffer_words.specs.Plays.{SeesPool};
+ghost use Rattle.buffer_words.specs.Tries.{IfDid, IfLost, LostTo, GetsOne};
 
 use crate::pass::Pass;
 use crate::tried::Tried;

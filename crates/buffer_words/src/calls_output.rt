@@ -4,11 +4,17 @@ ghost use Rattle.board_machine.specs.declared.events.Event.TheVariants as event;
 ghost use Rattle.buffer_words.specs.Boards.{board_id};
 ghost use Rattle.buffer_words.specs.Passes.{Enters, SameHands};
 ghost use Rattle.buffer_words.specs.Swept.{GetsAll};
+ghost use Rattle.buffer_words.specs.Tries.{IfDid, IfLost, LostTo};
+ghost use Rattle.buffer_words.specs.Output.{SeesOut};
+ghost use Rattle.buffer_words.specs.Handing.{HandsOne};
 
 use crate::calls_claim::take_on;
+use crate::output::{first_place, is_marked};
 use crate::pass::Pass;
+use crate::tried::Tried;
 use crate::words::Board;
 use arrayvec::ArrayVec;
+use board_machine::TakeEnd;
 
 impl Board {
     /// The output's places, first in first, and whether the stream was closed.
@@ -38,5 +44,31 @@ impl Board {
         let places = self.take_all_out(&mut pass.seat);
         take_on(&mut pass.held, &places);
         places
+    }
+
+    /// Takes the output's first buffer in hand, by one try.
+    pub fn try_take(&self, pass: &mut Pass) -> Tried<TakeEnd>
+        requires table { pass.old.table ≡ board_id self.now }
+        ensures entry { IfDid result (λ end. Enters pass.old (event.Take end) pass.new) }
+        ensures hands { IfDid result (λ end. HandsOne end pass.old pass.new) }
+        ensures lost { IfLost result (λ loaded found. LostTo SeesOut pass.old loaded found pass.new) }
+    {
+        let number = self.see_first(&mut pass.seat);
+        if is_marked(number) {
+            return Tried::Did(TakeEnd::Closed);
+        }
+        if number == 0 {
+            return Tried::Did(TakeEnd::Empty);
+        }
+        let place = first_place(number);
+        let found = self.take_first(&mut pass.seat, number);
+        if found != number {
+            return Tried::Lost {
+                loaded: number,
+                found,
+            };
+        }
+        pass.held.insert(0, place);
+        Tried::Did(TakeEnd::Taken(place))
     }
 }

@@ -1,12 +1,14 @@
 //! The single steps on the output's word.
-ghost use Rattle.std.specs.Prelude.{◌≡◌, ◌^◌};
+ghost use Rattle.std.specs.Prelude.{◌≡◌, ◌≢◌, ◌<◌, ◌≤◌, ◌^◌};
 ghost use Rattle.board_machine.specs.declared.events.Event.TheVariants as event;
+ghost use Rattle.board_machine.specs.declared.events.TakeEnd.TheVariants as take_end;
 ghost use Rattle.buffer_words.specs.Boards.{board_id};
 ghost use Rattle.buffer_words.specs.Plays.{IsIdle, LooksAt};
 ghost use Rattle.buffer_words.specs.Swept.{TakesAll};
-ghost use Rattle.buffer_words.specs.Output.{AreFields, HasFields, IsMarked};
+ghost use Rattle.gev_types.specs.Limits.{place_count};
+ghost use Rattle.buffer_words.specs.Output.{AreFields, HasFields, IsMarked, ReadsOut, TakesOut, first_in};
 
-use crate::output_plays::{CloseOut, LookOut, SweepOut};
+use crate::output_plays::{CloseOut, LookOut, SeeFirst, SweepOut, TakeFirst};
 use crate::words::{Board, Seat};
 use arrayvec::ArrayVec;
 
@@ -30,8 +32,18 @@ fn places_in(number: u64) -> ArrayVec<u8, 15>
     places
 }
 
+/// The place in the lowest field.
+pub(crate) fn first_place(number: u64) -> u8
+    requires fields { HasFields number }
+    requires some { 0 < number }
+    ensures in_range { result < place_count }
+    ensures first { result ≡ first_in number }
+{
+    (number % 16 - 1) as u8
+}
+
 /// Whether the close mark stands in the output's word.
-fn is_marked(number: u64) -> bool
+pub(crate) fn is_marked(number: u64) -> bool
     ensures mark { IsMarked number result }
 {
     number >= MARK
@@ -67,5 +79,32 @@ impl Board {
         ensures sweeps { TakesAll seat.old.me (event.SweepOut result.items) result.items seat.new.me }
     {
         places_in(self.table.shared.fetch_and::<SweepOut>(seat, OUT, MARK) % MARK)
+    }
+
+    /// A take's load: the number of the output's word.
+    pub(crate) fn see_first(&self, seat: &mut Seat) -> u64
+        requires table { seat.old.table_id ≡ board_id self.now }
+        requires idle { IsIdle seat.old.me }
+        ensures table { seat.new.table_id ≡ seat.old.table_id }
+        ensures closed { 2 ^ 60 ≤ result → LooksAt seat.old.me (event.Take take_end.Closed) seat.new.me }
+        ensures empty { result ≡ 0 → LooksAt seat.old.me (event.Take take_end.Empty) seat.new.me }
+        ensures some { 0 < result → result < 2 ^ 60 → ReadsOut seat.old.me result seat.new.me }
+    {
+        self.table.shared.load::<SeeFirst>(seat, OUT)
+    }
+
+    /// A take's exchange: the number found, which is the one that was read where the take is done.
+    pub(crate) fn take_first(&self, seat: &mut Seat, number: u64) -> u64
+        requires table { seat.old.table_id ≡ board_id self.now }
+        requires idle { IsIdle seat.old.me }
+        requires some { 0 < number }
+        requires open { number < 2 ^ 60 }
+        ensures table { seat.new.table_id ≡ seat.old.table_id }
+        ensures done { result ≡ number → TakesOut seat.old.me (first_in number) seat.new.me }
+        ensures lost { result ≢ number → ReadsOut seat.old.me result seat.new.me }
+    {
+        self.table
+            .shared
+            .compare_exchange::<TakeFirst>(seat, OUT, number, number / 16)
     }
 }

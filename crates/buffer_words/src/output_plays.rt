@@ -1,5 +1,5 @@
 //! The kinds of step on the output's word, each named for what it does.
-ghost use Rattle.buffer_words.specs.Output.{looked_out, closed_out, swept_out};
+ghost use Rattle.buffer_words.specs.Output.{looked_out, closed_out, swept_out, saw_first, took};
 
 use crate::view::View;
 use atomic_table::Play;
@@ -21,4 +21,16 @@ pub struct SweepOut;
 
 impl Play<Option<Buf>, View> for SweepOut {
     ghost then = { swept_out };
+}
+
+pub struct SeeFirst;
+
+impl Play<Option<Buf>, View> for SeeFirst {
+    ghost then = { saw_first };
+}
+
+pub struct TakeFirst;
+
+impl Play<Option<Buf>, View> for TakeFirst {
+    ghost then = { took };
 }
