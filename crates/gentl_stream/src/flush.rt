@@ -10,8 +10,8 @@ use crate::places::{lay_each, pool_each, pool_held};
 use buffer_words::{Board, Pass};
 use input_pool::sweep;
 
-/// Sweeps the output and lays it.
-fn discard_output(board: &Board, pass: &mut Pass)
+/// Sweeps the output and lays it: OUTPUT_DISCARD, and the flush of the event of new buffers.
+pub fn discard_output(board: &Board, pass: &mut Pass)
     requires table { pass.old.table ≡ board_id board.now }
     ensures entries { EntersOf pass.old DiscardsOutput pass.new }
     ensures hands { SameHands pass.old pass.new }

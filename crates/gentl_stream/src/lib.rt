@@ -15,6 +15,6 @@ mod run;
 pub use announce::ds_announce;
 pub use buffer_words::Loan;
 pub use buffers::{ds_borrow, ds_queue, ds_return, ds_revoke};
-pub use flush::ds_close;
+pub use flush::{discard_output, ds_close};
 pub use info::{ds_buffer_info, ds_info};
 pub use run::{ds_start, ds_stop};
