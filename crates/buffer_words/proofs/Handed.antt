@@ -8,29 +8,28 @@ use Rattle.board_machine.specs.Machine.{item, places, entry}
 use Rattle.board_machine.specs.Histories.{After}
 use Rattle.board_machine.proofs.Runs.{run_owned}
 use Rattle.buffer_words.specs.Codes.{out_code, mark_code}
-use Rattle.buffer_words.proofs.Fields.{renamed}
+use Rattle.buffer_words.proofs.Fields.{renamed, open_of}
 use Rattle.buffer_words.proofs.Outs.{out_fields}
-use Rattle.buffer_words.proofs.Takings.{open_of}
 use Rattle.board_machine.specs.Handout.{handed, removed_items, taken_items}
 use Rattle.board_machine.specs.Laws.{TakesFirst}
 use Rattle.board_machine.proofs.Handed.{take_hands, taken_stays}
 use Rattle.buffer_words.specs.Plays.{Seated}
 use Rattle.buffer_words.specs.Passes.{IsPass}
-use Rattle.buffer_words.specs.Output.{HasFields, ReadsOut, TakesOut}
+use Rattle.buffer_words.specs.Output.{AreFields, HasFields, ReadsOut, TakesOut}
 use Rattle.buffer_words.specs.Handing.{HandsOver}
 use Rattle.buffer_words.proofs.Carried.{entered_runs, entered_front}
 use Rattle.buffer_words.proofs.Grown.{grows_takes}
 use Rattle.buffer_words.proofs.Handling.{token, takes_has, was_gone, buffer_pass}
 
 -- the fields of a number that was read without the mark
-pub reads_fields : (me mid : Seated) (n : ℕ) → ReadsOut me n mid → n < 1152921504606846976 → HasFields n
-reads_fields me mid n told small =
+pub reads_are : (me mid : Seated) (n : ℕ) → ReadsOut me n mid → n < 1152921504606846976 → AreFields n (places (After mid.0.seen).out)
+reads_are me mid n told small =
     let b = After mid.0.seen in
     let unmarked : b.closed ≡ false = open_of n (out_code (places b.out)) b.closed told.sees small in
-    record {
-      places = places b.out;
-      are = renamed n (out_code (places b.out)) (places b.out) (omega (arith, told.sees, ap mark_code unmarked)) (out_fields b (run_owned mid.0.seen told.waited.run));
-    }
+    renamed n (out_code (places b.out)) (places b.out) (omega (arith, told.sees, ap mark_code unmarked)) (out_fields b (run_owned mid.0.seen told.waited.run))
+
+pub reads_fields : (me mid : Seated) (n : ℕ) → ReadsOut me n mid → n < 1152921504606846976 → HasFields n
+reads_fields me mid n told small = record { places = places (After mid.0.seen).out; are = reads_are me mid n told small }
 
 -- a take after its load
 pub take_done : (me mid after : Seated) (loaded place : ℕ) → ReadsOut me loaded mid → TakesOut mid place after → TakesOut me place after

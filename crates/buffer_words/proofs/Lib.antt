@@ -17,8 +17,10 @@ pub mod SweptOn
 pub mod Fields
 pub mod Outs
 pub mod Takings
+pub mod Fillings
 pub mod Handed
 pub mod Retries
+pub mod Filled
 pub mod Turns
 pub mod Carried
 pub mod Handling

@@ -7,7 +7,10 @@ use Rattle.std.specs.Int.Bits.{or_add_and}
 use Rattle.std.specs.Prelude.{bit_and, bit_or, slice_get}
 use Rattle.std.specs.Int.{bit_at}
 use mathlib.Core.Option as opt
-use Rattle.atomic_table.specs.Table.{State, step, keeps, homes_after, Allows}
+use lib.ListN.{get_elem?}
+use Rattle.atomic_table.specs.Table.{State, step, keeps, homes_after, stepped, Allows}
+use Rattle.atomic_table.proofs.Lists.{set_else}
+use Rattle.gentl_types.specs.declared.word.State.TheVariants.{Vacant, Held, Away}
 use Rattle.board_machine.specs.declared.events.Event.TheVariants.{LookOut, SweepOut, Close}
 use Rattle.board_machine.specs.Places.{times, put_all}
 use Rattle.board_machine.specs.Machine.{Board, Item, word_at, hand, places, entry, set_hand}
@@ -23,8 +26,8 @@ use Rattle.buffer_words.specs.Codes.{IsPool, out_code, mark_code}
 use Rattle.buffer_words.specs.Rule.{Slot, Slots, Homes, idle, Shows, Stored, Shelved, Kept}
 use Rattle.buffer_words.specs.Plays.{Seated}
 use Rattle.buffer_words.specs.Passes.{slot_places}
-use Rattle.buffer_words.specs.Output.{AreFields, IsOut, looked_out, closed_out, swept_out}
-use Rattle.buffer_words.proofs.Frames.{idle_adds}
+use Rattle.buffer_words.specs.Output.{AreFields, IsOut, ReadsOut, looked_out, closed_out, swept_out}
+use Rattle.buffer_words.proofs.Frames.{idle_adds, idle_waits}
 use Rattle.buffer_words.proofs.Own.{looking}
 use Rattle.buffer_words.proofs.Sweeps.{takes_all, carried_all, homes_else, homes_wide, gather}
 use Rattle.buffer_words.proofs.Fields.{out_is, out_small}
@@ -53,6 +56,14 @@ out_now s k =
     out_is (get_or s.words 16 0) (places (After k.history).out) (After k.history).closed k.shows.out
     (out_fields (After k.history) (run_owned k.history k.run))
 
+-- a step that adds nothing
+pub waiting_out : (s : State Slot View) (id : ℕ) (me : Seated) (k : Kept s) → me.0.stage ≡ Idle → get_elem? s.views id ≡ opt.some me.0
+    → Kept (stepped s 16 (get_or s.words 16 0) id me.1 (idle me.0.number k.history) keeps)
+    × ReadsOut me (get_or s.words 16 0) (idle me.0.number k.history, me.1)
+waiting_out s id me k st at =
+    let both = idle_waits s id 16 me.1 me.0 k st at in
+    (both.0, record { waited = both.1; slots = refl; sees = k.shows.out })
+
 pub looks_out : (slots id : ℕ) (me : Seated) → me.0.stage ≡ Idle → Allows Kept slots id me 16 (λ n. n) (looked_out (step slots 16 0 0 opt.none) me)
 looks_out slots id me st s k homes at small =
     let event = LookOut (places (After k.history).out) (After k.history).closed in
@@ -63,6 +74,22 @@ looks_out slots id me st s k homes at small =
       both.0,
       record { places = places (After k.history).out; closed = (After k.history).closed; is = out_now s k; looks = both.1 },
     )
+
+-- slots where the output has changed, and one place whose buffer comes to it or leaves it
+pub shelved_out : (b : Board) (hands : List (Option (List ℕ))) (out : List Item) (homes : Homes) (i : ℕ) (x : opt.Option Slot)
+    → (word_at b i).state ≡ Away → times i b.pool ≡ 0
+    → ((n : ℕ) (y : Item) → slice_get out n ≡ Some y → get_elem? (set homes i x) y.place ≡ opt.some (opt.some (Some y.filling)))
+    → Shelved b homes → Shelved (with_out b hands out b.closed) (set homes i x)
+shelved_out b hands out homes i x away unpooled filled sh = record {
+  wide = length-set homes i x ∙ sh.wide;
+  vacant = λ j lt v. set_else homes i j x (λ e. let q : (word_at b i).state ≡ Vacant = ap (λ m. (word_at b m).state) (sym e) ∙ v in absurd (cc)) ∙ sh.vacant j lt v;
+  laid = λ j h. stays j (λ e. let q : (word_at b i).state ≡ Held = ap (λ m. (word_at b m).state) (sym e) ∙ h in absurd (cc)) (sh.laid j h);
+  pooled = λ j more. stays j (λ e. absurd (omega (arith, more, unpooled, ap (λ m. times m b.pool) e))) (sh.pooled j more);
+  filled = filled;
+}
+  where
+    stays : (j : ℕ) → j ≢ i → Stored b homes j → Stored (with_out b hands out b.closed) (set homes i x) j
+    stays j ne st = record { filling = st.filling; is = set_else homes i j x ne ∙ st.is; size = st.size }
 
 -- the mark stands after it's set
 closed_number : (n c : ℕ) (closed : Bool) → n ≡ c + mark_code closed → c < 1152921504606846976 → bit_or n 1152921504606846976 ≡ c + 1152921504606846976

@@ -1,19 +1,20 @@
 -- The take of the output's first place keeps the rule.
-use Rattle.std.proofs.Common.{◌≡◌, ◌≢◌, ◌⊎◌, ℕ, suc, ◌+◌, ◌*◌, ◌/◌, ◌<◌, ◌≤◌, Bool, true, false, List, [], ◌∷◌, ◌++◌, length, set, get_or, Option, Some, refl, sym, ap, ◌∙◌, inl, inr, eqb, arith}
+use Rattle.std.proofs.Common.{◌≡◌, ◌≢◌, ◌⊎◌, ℕ, suc, ◌+◌, ◌*◌, ◌/◌, ◌<◌, ◌≤◌, Bool, false, List, [], ◌∷◌, ◌++◌, length, set, get_or, Some, refl, sym, ap, ◌∙◌, inl, inr, eqb, arith}
 use Rattle.std.proofs.lemmas.Bool.{cases_eq, cases_lt}
-use Rattle.std.proofs.lemmas.List.{length-set}
 use Rattle.std.specs.Prelude.{slice_get}
 use mathlib.Core.Option as opt
 use prog.Atomic.{either}
 use lib.ListN.{get_elem?}
-use Rattle.atomic_table.specs.Table.{State, step, keeps, takes, stepped, Allows}
+use Rattle.atomic_table.specs.Table.{State, step, keeps, takes, Allows}
 use Rattle.atomic_table.proofs.Lists.{set_else, exchanged}
 use Rattle.gev_types.specs.Filling.{Filling}
-use Rattle.gentl_types.specs.declared.word.State.TheVariants.{Vacant, Held, Away}
+use Rattle.gentl_types.specs.declared.word.State.TheVariants.{Away}
+use Rattle.board_machine.specs.declared.events.Entry.{Entry}
+use Rattle.board_machine.specs.declared.events.Event.{Event}
 use Rattle.board_machine.specs.declared.events.Event.TheVariants.{Take}
 use Rattle.board_machine.specs.declared.events.TakeEnd.TheVariants.{Taken, Empty, Closed}
 use Rattle.board_machine.specs.Places.{same, times, tail}
-use Rattle.board_machine.specs.Machine.{Board, Item, item, word_at, places, entry, picks}
+use Rattle.board_machine.specs.Machine.{Board, Item, item, word_at, places, entry, next, picks}
 use Rattle.board_machine.specs.Histories.{After}
 use Rattle.board_machine.specs.Handout.{removed_items}
 use Rattle.board_machine.proofs.Places.{same_self}
@@ -24,22 +25,13 @@ use Rattle.board_machine.proofs.Handed.{take_hands}
 use Rattle.buffer_words.specs.declared.view.View.{View}
 use Rattle.buffer_words.specs.declared.view.Stage.TheVariants.{Idle}
 use Rattle.buffer_words.specs.Codes.{out_code, mark_code}
-use Rattle.buffer_words.specs.Rule.{Slot, Homes, idle, Stored, Shelved, Kept}
+use Rattle.buffer_words.specs.Rule.{Slot, Homes, idle, Shelved, Kept}
 use Rattle.buffer_words.specs.Plays.{Seated}
-use Rattle.buffer_words.specs.Output.{ReadsOut, TakesOut, first_in, saw_first, took}
-use Rattle.buffer_words.proofs.Frames.{idle_adds, idle_waits}
+use Rattle.buffer_words.specs.Output.{TakesOut, first_in, saw_first, took}
+use Rattle.buffer_words.proofs.Frames.{idle_adds}
 use Rattle.buffer_words.proofs.Own.{Makes, looking}
-use Rattle.buffer_words.proofs.Outs.{with_out, shows_out, out_fields}
-use Rattle.buffer_words.proofs.Fields.{out_small}
-
--- whether the mark stands, by the number
-pub open_of : (n c : ℕ) (closed : Bool) → n ≡ c + mark_code closed → n < 1152921504606846976 → closed ≡ false
-open_of n c true e small = absurd (omega (arith, e, small))
-open_of n c false e small = refl
-
-pub closed_of : (n c : ℕ) (closed : Bool) → n ≡ c + mark_code closed → c < 1152921504606846976 → 1152921504606846976 ≤ n → closed ≡ true
-closed_of n c true e small large = refl
-closed_of n c false e small large = absurd (omega (arith, e, small, large))
+use Rattle.buffer_words.proofs.Outs.{shows_out, shelved_out, out_fields, waiting_out}
+use Rattle.buffer_words.proofs.Fields.{out_small, open_of, closed_of}
 
 no_items : (out : List Item) → out_code (places out) ≡ 0 → out ≡ []
 no_items [] none = refl
@@ -57,13 +49,6 @@ first_item n closed (x ∷ out) is open_now some below =
     let small : x.place < 15 = below x.place (omega (arith, same_self x.place)) in
     let place : x.place ≡ first_in n = omega (arith, is, ap mark_code open_now, small) in
     record { filling = x.filling; rest = out; is = ap (λ i. item i x.filling ∷ out) place }
-
-pub waiting_out : (s : State Slot View) (id : ℕ) (me : Seated) (k : Kept s) → me.0.stage ≡ Idle → get_elem? s.views id ≡ opt.some me.0
-    → Kept (stepped s 16 (get_or s.words 16 0) id me.1 (idle me.0.number k.history) keeps)
-    × ReadsOut me (get_or s.words 16 0) (idle me.0.number k.history, me.1)
-waiting_out s id me k st at =
-    let both = idle_waits s id 16 me.1 me.0 k st at in
-    (both.0, record { waited = both.1; slots = refl; sees = k.shows.out })
 
 sees_by : (slots id : ℕ) (me : Seated) → me.0.stage ≡ Idle → (s : State Slot View) (k : Kept s) → get_elem? s.views id ≡ opt.some me.0
     → (get_or s.words 16 0 < 1152921504606846976) ⊎ (1152921504606846976 ≤ get_or s.words 16 0) → (get_or s.words 16 0 ≡ 0) ⊎ (get_or s.words 16 0 ≢ 0)
@@ -96,22 +81,6 @@ pub sees_first : (slots id : ℕ) (me : Seated) → me.0.stage ≡ Idle → Allo
 sees_first slots id me st s k homes at small =
     sees_by slots id me st s k at (cases_lt (get_or s.words 16 0) 1152921504606846976) (cases_eq (get_or s.words 16 0) 0)
 
--- slots where the output has changed, and one place whose buffer comes to it or leaves it
-pub shelved_out : (b : Board) (hands : List (Option (List ℕ))) (out : List Item) (homes : Homes) (i : ℕ) (x : opt.Option Slot)
-    → (word_at b i).state ≡ Away → times i b.pool ≡ 0
-    → ((n : ℕ) (y : Item) → slice_get out n ≡ Some y → get_elem? (set homes i x) y.place ≡ opt.some (opt.some (Some y.filling)))
-    → Shelved b homes → Shelved (with_out b hands out b.closed) (set homes i x)
-shelved_out b hands out homes i x away unpooled filled sh = record {
-  wide = length-set homes i x ∙ sh.wide;
-  vacant = λ j lt v. set_else homes i j x (λ e. let q : (word_at b i).state ≡ Vacant = ap (λ m. (word_at b m).state) (sym e) ∙ v in absurd (cc)) ∙ sh.vacant j lt v;
-  laid = λ j h. stays j (λ e. let q : (word_at b i).state ≡ Held = ap (λ m. (word_at b m).state) (sym e) ∙ h in absurd (cc)) (sh.laid j h);
-  pooled = λ j more. stays j (λ e. absurd (omega (arith, more, unpooled, ap (λ m. times m b.pool) e))) (sh.pooled j more);
-  filled = filled;
-}
-  where
-    stays : (j : ℕ) → j ≢ i → Stored b homes j → Stored (with_out b hands out b.closed) (set homes i x) j
-    stays j ne st = record { filling = st.filling; is = set_else homes i j x ne ∙ st.is; size = st.size }
-
 -- what is left of the output, where its first place is single
 left_filled : (b : Board) (homes : Homes) (i : ℕ) (f : Filling) (rest : List Item) → b.out ≡ item i f ∷ rest → times i (places b.out) ≤ 1 → Shelved b homes
     → (n : ℕ) (y : Item) → slice_get (tail b.out) n ≡ Some y → get_elem? (set homes i opt.none) y.place ≡ opt.some (opt.some (Some y.filling))
@@ -120,6 +89,10 @@ left_filled b homes i f rest first single sh n y e =
     set_else homes i y.place opt.none
     (λ q. absurd (omega (arith, in_places rest n y left, ap (λ m. times m (places rest)) q, ap (λ xs. times i (places xs)) first, same_self i, single)))
     ∙ sh.filled (suc n) y (ap (λ xs. slice_get xs (suc n)) first ∙ left)
+
+-- the size of a place's word after an entry that leaves the word
+size_after : (h : List Entry) (n i : ℕ) (event : Event) → word_at (next (After h) (entry n event)) i ≡ word_at (After h) i → (word_at (After h) i).size ≡ (word_at (After (h ++ entry n event ∷ [])) i).size
+size_after h n i event same_word = sym (ap (λ b. (word_at b i).size) (after-push h (entry n event)) ∙ ap (λ w. w.size) same_word)
 
 -- the take of this place
 takes_first : (id old i : ℕ) (f : Filling) (rest : List Item) (me : Seated) → me.0.stage ≡ Idle → (s : State Slot View) (k : Kept s) → get_elem? s.views id ≡ opt.some me.0
@@ -142,7 +115,6 @@ takes_first id old i f rest me st s k at hit open_now first =
     let both = idle_adds s id 16 (old / 16) me.1 (takes i (Some f)) me.0 event k st at (open_now, (f, rest, first)) (λ j q. cc)
     (shows_out b hands (tail b.out) b.closed s.words (old / 16) number k.shows)
     (shelved_out b hands (tail b.out) s.homes i opt.none away unpooled (left_filled b s.homes i f rest first (few.once i) k.shelved) k.shelved) in
-    let word : word_at (After (k.history ++ entry me.0.number event ∷ [])) i ≡ word_at b i = ap (λ c. word_at c i) (after-push k.history (entry me.0.number event)) in
     let told = take_hands k.history (entry me.0.number event) i both.1.run refl in
     let one : item i told.filling ≡ item i f = let both_first : item i told.filling ∷ told.rest ≡ item i f ∷ rest = sym told.first ∙ first in cc in (
       idle me.0.number (k.history ++ entry me.0.number event ∷ []),
@@ -150,7 +122,7 @@ takes_first id old i f rest me st s k at hit open_now first =
       k.shelved.filled 0 (item i f) (ap (λ xs. slice_get xs 0) first),
       both.0,
       record {
-        takes = record { filling = f; takes = record { entered = both.1; slots = refl }; size = size ∙ ap (λ w. w.size) (sym word) };
+        takes = record { filling = f; takes = record { entered = both.1; slots = refl }; size = size ∙ size_after k.history me.0.number i event refl };
         earlier = removed_items k.history;
         removed = told.removes ∙ ap (λ x. removed_items k.history ++ x ∷ []) one;
       },

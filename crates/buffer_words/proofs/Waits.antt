@@ -12,10 +12,10 @@ use Rattle.buffer_words.proofs.Turns.{slot_some}
 use Rattle.buffer_words.proofs.Handling.{token}
 
 -- the hand, and the words of its places, after others' entries
-grown_hand : (v w : View) → (g : Grows v w) → hand_at (After w.seen) w.number ≡ hand_at (After v.seen) v.number
+pub grown_hand : (v w : View) → (g : Grows v w) → hand_at (After w.seen) w.number ≡ hand_at (After v.seen) v.number
 grown_hand v w g = ap (λ n. hand_at (After w.seen) n) g.number ∙ (ap (λ l. hand_at (After l) v.number) g.seen ∙ g.grew.hand)
 
-grown_word : (v w : View) (i : ℕ) → (g : Grows v w) → InHand (After v.seen) v.number i → word_at (After w.seen) i ≡ word_at (After v.seen) i
+pub grown_word : (v w : View) (i : ℕ) → (g : Grows v w) → InHand (After v.seen) v.number i → word_at (After w.seen) i ≡ word_at (After v.seen) i
 grown_word v w i g mine = ap (λ l. word_at (After l) i) g.seen ∙ g.grew.words i mine
 
 pub waits_pass : (order : List ℕ) (me after : Seated) → IsPass order me.0 me.1 → Waited me.0 after.0 → after.1 ≡ me.1 → IsPass order after.0 after.1

@@ -1,9 +1,10 @@
 -- The output's word, and what each kind of step on it tells.
-use Rattle.std.specs.Prelude.{◌≡◌, ◌≢◌, ℕ, ◌+◌, ◌-◌, ◌%◌, ◌^◌, ◌<◌, ◌≤◌, Bool, MatchBool, List, [], ◌∷◌, ◌++◌}
+use Rattle.std.specs.Prelude.{◌≡◌, ◌≢◌, Some, true, false, ℕ, ◌+◌, ◌-◌, ◌%◌, ◌^◌, ◌<◌, ◌≤◌, Bool, MatchBool, List, [], ◌∷◌, ◌++◌}
+use Rattle.gev_types.specs.Filling.{Filling}
 use Rattle.gev_types.specs.Limits.{place_count}
 use Rattle.atomic_table.specs.Table.{Step}
 use Rattle.board_machine.specs.declared.events.Entry.{Entry}
-use Rattle.board_machine.specs.declared.events.Event.TheVariants.{LookOut, Take, SweepOut, Close}
+use Rattle.board_machine.specs.declared.events.Event.TheVariants.{LookOut, Fill, Take, SweepOut, Close}
 use Rattle.board_machine.specs.declared.events.TakeEnd.TheVariants.{Taken, Empty, Closed}
 use Rattle.board_machine.specs.Places.{times}
 use Rattle.board_machine.specs.Machine.{Item, item, places}
@@ -11,7 +12,7 @@ use Rattle.board_machine.specs.Histories.{After}
 use Rattle.board_machine.specs.Handout.{removed_items}
 use Rattle.buffer_words.specs.Codes.{out_code, mark_code}
 use Rattle.buffer_words.specs.Rule.{Slot}
-use Rattle.buffer_words.specs.Plays.{Seated, ReadsQueue, LooksAt, TakesBuffer}
+use Rattle.buffer_words.specs.Plays.{Seated, IsFront, ReadsQueue, LooksAt, TakesBuffer, GivesBack}
 use Rattle.buffer_words.specs.Swept.{TakesAll}
 
 -- The fields of the number, four bits each, are these places plus 1, the first in the lowest; no place twice.
@@ -85,4 +86,37 @@ saw_first st before found after =
 abbrev pub took : Step Slot → Seated → ℕ → Seated → Type 0
 took st before found after =
     (found ≡ st.first → TakesOut before (first_in st.first) after)
+    × (found ≢ st.first → ReadsOut before found after)
+
+-- the lowest power of 16 above the number
+pub record IsUnit (n unit : ℕ) : Type 0 where
+  pub fields : ℕ
+  pub power : unit ≡ 16 ^ fields
+  pub above : n < unit
+  pub lowest : (k : ℕ) → n < 16 ^ k → fields ≤ k
+
+-- the number with one more field, for this place
+abbrev pub HasLast : ℕ → ℕ → ℕ → Type 0
+HasLast n i more = (is : List ℕ) → AreFields n is → more ≡ out_code (is ++ i ∷ [])
+
+-- The close mark stands: the buffer in the slot in front stays in hand.
+pub record RefusesFill (before : Seated) (place : ℕ) (after : Seated) : Type 0 where
+  pub filling : Filling
+  pub front : IsFront before place (Some filling)
+  pub looks : LooksAt before (Fill place filling false) after
+
+-- A fill: the slot in front is given back, and its buffer is the last one of the output.
+pub record FillsOut (before : Seated) (place : ℕ) (after : Seated) : Type 0 where
+  pub filling : Filling
+  pub front : IsFront before place (Some filling)
+  pub gives : GivesBack before (Fill place filling true) after
+
+-- A fill's load: the mark stands, or nothing was added.
+abbrev pub saw_mark : ℕ → Step Slot → Seated → ℕ → Seated → Type 0
+saw_mark place st before found after = (2 ^ 60 ≤ found → RefusesFill before place after) × (found < 2 ^ 60 → ReadsOut before found after)
+
+-- A fill's exchange: the word was the one that was read, or nothing was added.
+abbrev pub filled : ℕ → Step Slot → Seated → ℕ → Seated → Type 0
+filled place st before found after =
+    (found ≡ st.first → FillsOut before place after)
     × (found ≢ st.first → ReadsOut before found after)

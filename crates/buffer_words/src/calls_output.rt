@@ -2,19 +2,20 @@
 ghost use Rattle.std.specs.Prelude.{◌≡◌};
 ghost use Rattle.board_machine.specs.declared.events.Event.TheVariants as event;
 ghost use Rattle.buffer_words.specs.Boards.{board_id};
-ghost use Rattle.buffer_words.specs.Passes.{Enters, SameHands};
+ghost use Rattle.buffer_words.specs.Passes.{IsWhole, Enters, SameHands};
 ghost use Rattle.buffer_words.specs.Swept.{GetsAll};
 ghost use Rattle.buffer_words.specs.Tries.{IfDid, IfLost, LostTo};
 ghost use Rattle.buffer_words.specs.Output.{SeesOut};
-ghost use Rattle.buffer_words.specs.Handing.{HandsOne};
+ghost use Rattle.buffer_words.specs.Handing.{HandsOne, DidFill};
 
 use crate::calls_claim::take_on;
 use crate::output::{first_place, is_marked};
-use crate::pass::Pass;
+use crate::pass::{Pass, bring};
 use crate::tried::Tried;
 use crate::words::Board;
 use arrayvec::ArrayVec;
 use board_machine::TakeEnd;
+use std::marker::Brand;
 
 impl Board {
     /// The output's places, first in first, and whether the stream was closed.
@@ -70,5 +71,29 @@ impl Board {
         }
         pass.held.insert(0, place);
         Tried::Did(TakeEnd::Taken(place))
+    }
+
+    /// Puts the buffer of a place in hand at the end of the output, by one try: true, or false where the
+    /// close mark stood, and the buffer stays in hand.
+    pub fn try_fill(&self, pass: &mut Pass, place: u8) -> Tried<bool>
+        requires table { pass.old.table ≡ board_id self.now }
+        requires holds { IsWhole pass.old place }
+        ensures did { IfDid result (λ filled. DidFill place filled pass.old pass.new) }
+        ensures lost { IfLost result (λ loaded found. LostTo SeesOut pass.old loaded found pass.new) }
+    {
+        bring(&mut pass.seat, &mut pass.held, place);
+        let number = self.see_mark::<Brand>(&mut pass.seat, place);
+        if is_marked(number) {
+            return Tried::Did(false);
+        }
+        let found = self.put_last::<Brand>(&mut pass.seat, number, place);
+        if found != number {
+            return Tried::Lost {
+                loaded: number,
+                found,
+            };
+        }
+        pass.held.remove(0);
+        Tried::Did(true)
     }
 }

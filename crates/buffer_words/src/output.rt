@@ -3,12 +3,13 @@ ghost use Rattle.std.specs.Prelude.{◌≡◌, ◌≢◌, ◌<◌, ◌≤◌, �
 ghost use Rattle.board_machine.specs.declared.events.Event.TheVariants as event;
 ghost use Rattle.board_machine.specs.declared.events.TakeEnd.TheVariants as take_end;
 ghost use Rattle.buffer_words.specs.Boards.{board_id};
-ghost use Rattle.buffer_words.specs.Plays.{IsIdle, LooksAt};
+ghost use Rattle.buffer_words.specs.Plays.{IsIdle, HoldsBuffer, LooksAt};
 ghost use Rattle.buffer_words.specs.Swept.{TakesAll};
 ghost use Rattle.gev_types.specs.Limits.{place_count};
-ghost use Rattle.buffer_words.specs.Output.{AreFields, HasFields, IsMarked, ReadsOut, TakesOut, first_in};
+ghost use Rattle.buffer_words.specs.Output.{AreFields, HasFields, IsMarked, ReadsOut, TakesOut, first_in, IsUnit, HasLast, RefusesFill, FillsOut};
 
-use crate::output_plays::{CloseOut, LookOut, SeeFirst, SweepOut, TakeFirst};
+use crate::output_plays::{CloseOut, Fill, LookOut, SeeFirst, SeeMark, SweepOut, TakeFirst};
+use crate::plays::Asked;
 use crate::words::{Board, Seat};
 use arrayvec::ArrayVec;
 
@@ -40,6 +41,27 @@ pub(crate) fn first_place(number: u64) -> u8
     ensures first { result ≡ first_in number }
 {
     (number % 16 - 1) as u8
+}
+
+/// The unit of the lowest field that is free.
+fn unit_of(number: u64) -> u64
+    requires room { number < 2 ^ 56 }
+    ensures unit { IsUnit number result }
+{
+    let mut unit = 1;
+    while unit <= number {
+        unit *= 16;
+    }
+    unit
+}
+
+/// The number with a place in the lowest field that is free.
+fn with_last(number: u64, place: u8) -> u64
+    requires room { number < 2 ^ 56 }
+    requires in_range { place < place_count }
+    ensures last { HasLast number place result }
+{
+    number + (u64::from(place) + 1) * unit_of(number)
 }
 
 /// Whether the close mark stands in the output's word.
@@ -106,5 +128,35 @@ impl Board {
         self.table
             .shared
             .compare_exchange::<TakeFirst>(seat, OUT, number, number / 16)
+    }
+
+    /// A fill's load: the number of the output's word.
+    pub(crate) fn see_mark<J: Asked>(&self, seat: &mut Seat, place: u8) -> u64
+        requires table { seat.old.table_id ≡ board_id self.now }
+        requires idle { IsIdle seat.old.me }
+        requires holds { HoldsBuffer seat.old.me place }
+        requires asked { place ≡ J.number }
+        ensures table { seat.new.table_id ≡ seat.old.table_id }
+        ensures closed { 2 ^ 60 ≤ result → RefusesFill seat.old.me place seat.new.me }
+        ensures open { result < 2 ^ 60 → ReadsOut seat.old.me result seat.new.me }
+    {
+        self.table.shared.load::<SeeMark<J>>(seat, OUT)
+    }
+
+    /// A fill's exchange: the number found, which is the one that was read where the fill is done.
+    pub(crate) fn put_last<J: Asked>(&self, seat: &mut Seat, number: u64, place: u8) -> u64
+        requires table { seat.old.table_id ≡ board_id self.now }
+        requires idle { IsIdle seat.old.me }
+        requires in_range { place < place_count }
+        requires holds { HoldsBuffer seat.old.me place }
+        requires room { number < 2 ^ 56 }
+        requires asked { place ≡ J.number }
+        ensures table { seat.new.table_id ≡ seat.old.table_id }
+        ensures done { result ≡ number → FillsOut seat.old.me place seat.new.me }
+        ensures lost { result ≢ number → ReadsOut seat.old.me result seat.new.me }
+    {
+        self.table
+            .shared
+            .compare_exchange::<Fill<J>>(seat, OUT, number, with_last(number, place))
     }
 }

@@ -1,9 +1,11 @@
 //! The kinds of step on the output's word, each named for what it does.
-ghost use Rattle.buffer_words.specs.Output.{looked_out, closed_out, swept_out, saw_first, took};
+ghost use Rattle.buffer_words.specs.Output.{looked_out, closed_out, swept_out, saw_first, took, saw_mark, filled};
 
+use crate::plays::Asked;
 use crate::view::View;
 use atomic_table::Play;
 use gev_types::Buf;
+use std::marker::PhantomData;
 
 pub struct LookOut;
 
@@ -33,4 +35,16 @@ pub struct TakeFirst;
 
 impl Play<Option<Buf>, View> for TakeFirst {
     ghost then = { took };
+}
+
+pub struct SeeMark<J: Asked>(PhantomData<J>);
+
+impl<J: Asked> Play<Option<Buf>, View> for SeeMark<J> {
+    ghost then = { saw_mark J.number };
+}
+
+pub struct Fill<J: Asked>(PhantomData<J>);
+
+impl<J: Asked> Play<Option<Buf>, View> for Fill<J> {
+    ghost then = { filled J.number };
 }
