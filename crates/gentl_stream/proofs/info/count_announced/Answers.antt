@@ -1,4 +1,4 @@
-use Rattle.std.proofs.Common.{refl, ◌∙◌, arith}
+use Rattle.std.proofs.Common.{◌∙◌, arith}
 use Rattle.buffer_words.proofs.Hands.{hands_same, hands_then}
 use Rattle.gentl_stream.proofs.Informing.{counts_none, one_more_counted, used_le}
 use Rattle.gentl_stream.proofs.info.count_announced.Goals as goal
