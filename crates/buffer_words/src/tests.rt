@@ -1,6 +1,13 @@
+ghost use Rattle.std.specs.Prelude.{◌≡◌, ◌<◌};
+ghost use Rattle.gev_types.specs.Limits.{place_count};
+ghost use Rattle.buffer_words.specs.Boards.{board_id};
+ghost use Rattle.buffer_words.specs.Passes.{IsEmptyHanded};
+
 use super::*;
+use board_machine::TakeEnd;
 use gentl_types::{BufferId, GcError, State, Word};
 use gev_types::Buf;
+use std::alloc::Global;
 use std::test::Fail;
 
 const HELD: Word = Word {
@@ -102,5 +109,65 @@ fn passes_meet(rt: HostRuntime) -> Result<(), Fail> {
     board.join(&mut pass, other);
     pass.witness();
     assert_eq!(rt; board.load(&mut pass, 14), HELD);
+    Ok(())
+}
+
+/// Announces a buffer of three bytes at a place and fills it: whether it's in the output now.
+fn fill_new(alloc: Global, board: &Board, pass: &mut Pass, place: u8) -> Result<bool, Fail>
+    requires table { pass.old.table ≡ board_id board.now }
+    requires in_range { place < place_count }
+    requires empty { IsEmptyHanded pass.old }
+    ensures table { pass.new.table ≡ pass.old.table }
+    ensures empty { IsEmptyHanded pass.new }
+{
+    let buf = Buf::new(alloc, 3)?;
+    let Ok(_) = board.enrol(pass, place, buf) else {
+        return Err(Fail::new("not vacant"));
+    };
+    match board.try_fill(pass, place) {
+        Tried::Did(true) => Ok(true),
+        Tried::Did(false) => {
+            board.lay(pass, place);
+            Ok(false)
+        }
+        Tried::Lost { .. } => {
+            board.lay(pass, place);
+            Err(Fail::new("lost"))
+        }
+    }
+}
+
+// What is filled first is taken first, a sweep gives the others in the order of their fills, and after a
+// close nothing is filled or taken.
+#[test]
+fn the_output_is_first_in_first_out(rt: HostRuntime) -> Result<(), Fail> {
+    let (board, mut pass) = Board::new(rt.alloc())?;
+    let Tried::Did(TakeEnd::Empty) = board.try_take(&mut pass) else {
+        return Err(Fail::new("not empty"));
+    };
+    assert!(rt; fill_new(rt.alloc(), &board, &mut pass, 14)?);
+    assert!(rt; fill_new(rt.alloc(), &board, &mut pass, 3)?);
+    assert!(rt; fill_new(rt.alloc(), &board, &mut pass, 8)?);
+    let (places, closed) = board.look_out(&mut pass);
+    assert_eq!(rt; places.as_slice(), [14, 3, 8].as_slice());
+    assert!(rt; !closed);
+    let Tried::Did(TakeEnd::Taken(first)) = board.try_take(&mut pass) else {
+        return Err(Fail::new("nothing taken"));
+    };
+    assert_eq!(rt; first, 14);
+    board.lay(&mut pass, first);
+    board.close(&mut pass);
+    let Tried::Did(TakeEnd::Closed) = board.try_take(&mut pass) else {
+        return Err(Fail::new("taken after the close"));
+    };
+    assert!(rt; !fill_new(rt.alloc(), &board, &mut pass, 0)?);
+    let (places, closed) = board.look_out(&mut pass);
+    assert_eq!(rt; places.as_slice(), [3, 8].as_slice());
+    assert!(rt; closed);
+    let swept = board.sweep_out(&mut pass);
+    assert_eq!(rt; swept.as_slice(), [3, 8].as_slice());
+    let (places, closed) = board.look_out(&mut pass);
+    assert_eq!(rt; places.len(), 0);
+    assert!(rt; closed);
     Ok(())
 }
