@@ -99,15 +99,13 @@ fills_last i id old new me st holds less last s k at hit =
     (shelved_out b hands out s.homes i (opt.some (Some holds.filling)) away apart.pool (more_filled b s.homes i holds.filling below apart.out k.shelved) k.shelved)) in
     (idle me.0.number (k.history ++ entry me.0.number event ∷ []), gives, tt, both.0, record { filling = holds.filling; front = holds.front; gives = record { entered = both.1; slots = refl } })
 
-filled_hit : (i slots old new found : ℕ) (me after : Seated) → found ≡ old → FillsOut me i after → filled i (step slots 16 old new opt.none) me found after
-filled_hit i slots old new found me after hit told = ((λ _. told), λ miss. absurd (miss hit))
+filled_hit : (i slots id old new : ℕ) (me : Seated) (s : State Slot View) → get_or s.words 16 0 ≡ old → Makes s id 16 new me (FillsOut me i) → Makes s id 16 new me (filled i (step slots 16 old new opt.none) me (get_or s.words 16 0))
+filled_hit i slots id old new me s hit made = (made.0, made.1, made.2, made.3, ((λ _. made.4), λ miss. absurd (miss hit)))
 
 fills_hit : (i slots id old new : ℕ) (me : Seated) → me.0.stage ≡ Idle → HoldsBuffer me i → old < 1152921504606846976 → HasLast old i new
     → (s : State Slot View) (k : Kept s) → get_elem? s.views id ≡ opt.some me.0 → get_or s.words 16 0 ≡ old
     → Makes s id 16 new me (filled i (step slots 16 old new opt.none) me (get_or s.words 16 0))
-fills_hit i slots id old new me st holds less last s k at hit =
-    let made = fills_last i id old new me st holds less last s k at hit in
-    (made.0, made.1, made.2, made.3, filled_hit i slots old new (get_or s.words 16 0) me _ hit made.4)
+fills_hit i slots id old new me st holds less last s k at hit = filled_hit i slots id old new me s hit (fills_last i id old new me st holds less last s k at hit)
 
 fills_miss : (i slots id old new : ℕ) (me : Seated) → me.0.stage ≡ Idle → (s : State Slot View) (k : Kept s) → get_elem? s.views id ≡ opt.some me.0 → get_or s.words 16 0 ≢ old
     → Makes s id 16 (get_or s.words 16 0) me (filled i (step slots 16 old new opt.none) me (get_or s.words 16 0))

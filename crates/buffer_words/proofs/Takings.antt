@@ -15,7 +15,8 @@ use Rattle.board_machine.specs.declared.events.Event.TheVariants.{Take}
 use Rattle.board_machine.specs.declared.events.TakeEnd.TheVariants.{Taken, Empty, Closed}
 use Rattle.board_machine.specs.Places.{same, times, tail}
 use Rattle.board_machine.specs.Machine.{Board, Item, item, word_at, places, entry, next, picks}
-use Rattle.board_machine.specs.Histories.{After}
+use Rattle.board_machine.specs.Histories.{Run, After}
+use Rattle.board_machine.specs.Laws.{TakesFirst}
 use Rattle.board_machine.specs.Handout.{removed_items}
 use Rattle.board_machine.proofs.Places.{same_self}
 use Rattle.board_machine.proofs.Counts.{stands_away, in_places, due_le}
@@ -94,6 +95,16 @@ left_filled b homes i f rest first single sh n y e =
 size_after : (h : List Entry) (n i : ℕ) (event : Event) → word_at (next (After h) (entry n event)) i ≡ word_at (After h) i → (word_at (After h) i).size ≡ (word_at (After (h ++ entry n event ∷ [])) i).size
 size_after h n i event same_word = sym (ap (λ b. (word_at b i).size) (after-push h (entry n event)) ∙ ap (λ w. w.size) same_word)
 
+-- what was taken out ends with the first of the output
+removes_first : (h : List Entry) (e : Entry) (i : ℕ) (f : Filling) (rest : List Item) → Run (h ++ e ∷ []) → e.event ≡ Take (Taken i) → (After h).out ≡ item i f ∷ rest → removed_items (h ++ e ∷ []) ≡ removed_items h ++ item i f ∷ []
+removes_first h e i f rest run is first = told.removes ∙ ap (λ x. removed_items h ++ x ∷ []) (one (sym told.first ∙ first))
+  where
+    told : TakesFirst h i e
+    told = take_hands h e i run is
+
+    one : item i told.filling ∷ told.rest ≡ item i f ∷ rest → item i told.filling ≡ item i f
+    one both = cc
+
 -- the take of this place
 takes_first : (id old i : ℕ) (f : Filling) (rest : List Item) (me : Seated) → me.0.stage ≡ Idle → (s : State Slot View) (k : Kept s) → get_elem? s.views id ≡ opt.some me.0
     → get_or s.words 16 0 ≡ old → (After k.history).closed ≡ false → (After k.history).out ≡ item i f ∷ rest
@@ -114,9 +125,7 @@ takes_first id old i f rest me st s k at hit open_now first =
     let number : old / 16 ≡ out_code (places (tail b.out)) + mark_code b.closed = omega (arith, hit, k.shows.out, after, ap mark_code open_now, below) in
     let both = idle_adds s id 16 (old / 16) me.1 (takes i (Some f)) me.0 event k st at (open_now, (f, rest, first)) (λ j q. cc)
     (shows_out b hands (tail b.out) b.closed s.words (old / 16) number k.shows)
-    (shelved_out b hands (tail b.out) s.homes i opt.none away unpooled (left_filled b s.homes i f rest first (few.once i) k.shelved) k.shelved) in
-    let told = take_hands k.history (entry me.0.number event) i both.1.run refl in
-    let one : item i told.filling ≡ item i f = let both_first : item i told.filling ∷ told.rest ≡ item i f ∷ rest = sym told.first ∙ first in cc in (
+    (shelved_out b hands (tail b.out) s.homes i opt.none away unpooled (left_filled b s.homes i f rest first (few.once i) k.shelved) k.shelved) in (
       idle me.0.number (k.history ++ entry me.0.number event ∷ []),
       takes i (Some f),
       k.shelved.filled 0 (item i f) (ap (λ xs. slice_get xs 0) first),
@@ -124,12 +133,12 @@ takes_first id old i f rest me st s k at hit open_now first =
       record {
         takes = record { filling = f; takes = record { entered = both.1; slots = refl }; size = size ∙ size_after k.history me.0.number i event refl };
         earlier = removed_items k.history;
-        removed = told.removes ∙ ap (λ x. removed_items k.history ++ x ∷ []) one;
+        removed = removes_first k.history (entry me.0.number event) i f rest both.1.run refl first;
       },
     )
 
-took_hit : (slots old new found : ℕ) (me after : Seated) → found ≡ old → TakesOut me (first_in old) after → took (step slots 16 old new opt.none) me found after
-took_hit slots old new found me after hit told = ((λ _. told), λ miss. absurd (miss hit))
+took_hit : (slots id old new : ℕ) (me : Seated) (s : State Slot View) → get_or s.words 16 0 ≡ old → Makes s id 16 new me (TakesOut me (first_in old)) → Makes s id 16 new me (took (step slots 16 old new opt.none) me (get_or s.words 16 0))
+took_hit slots id old new me s hit made = (made.0, made.1, made.2, made.3, ((λ _. made.4), λ miss. absurd (miss hit)))
 
 takes_hit : (slots id old : ℕ) (me : Seated) → me.0.stage ≡ Idle → 0 < old → old < 1152921504606846976 → (s : State Slot View) (k : Kept s) → get_elem? s.views id ≡ opt.some me.0
     → get_or s.words 16 0 ≡ old
@@ -139,8 +148,7 @@ takes_hit slots id old me st some less s k at hit =
     let is : old ≡ out_code (places b.out) + mark_code b.closed = sym hit ∙ k.shows.out in
     let open_now = open_of old (out_code (places b.out)) b.closed is less in
     let first = first_item old b.closed b.out is open_now some (out_few b (run_owned k.history k.run)).below in
-    let made = takes_first id old (first_in old) first.filling first.rest me st s k at hit open_now first.is in
-    (made.0, made.1, made.2, made.3, took_hit slots old (old / 16) (get_or s.words 16 0) me _ hit made.4)
+    took_hit slots id old (old / 16) me s hit (takes_first id old (first_in old) first.filling first.rest me st s k at hit open_now first.is)
 
 takes_miss : (slots id old new : ℕ) (me : Seated) → me.0.stage ≡ Idle → (s : State Slot View) (k : Kept s) → get_elem? s.views id ≡ opt.some me.0 → get_or s.words 16 0 ≢ old
     → Makes s id 16 (get_or s.words 16 0) me (took (step slots 16 old new opt.none) me (get_or s.words 16 0))

@@ -1,7 +1,7 @@
-//! Flushes and the close of a stream.
+//! Flushes.
 
 ghost use Rattle.std.specs.Prelude.{◌≡◌};
-ghost use Rattle.board_calls.specs.Calls.{DiscardsOutput, DiscardsAll, FlushesToInput, Closes};
+ghost use Rattle.board_calls.specs.Calls.{DiscardsOutput, DiscardsAll, FlushesToInput};
 ghost use Rattle.buffer_words.specs.Boards.{board_id};
 ghost use Rattle.buffer_words.specs.Passes.{SameHands};
 ghost use Rattle.buffer_words.specs.Several.{EntersOf};
@@ -41,18 +41,4 @@ fn flush_to_input(board: &Board, pass: &mut Pass)
     let output = board.sweep_out(pass);
     pool_each(board, pass, output.as_slice());
     pool_held(board, pass);
-}
-
-/// DSClose: sets the close mark, and gives each buffer of output and pool to the application. The
-/// buffers stay announced.
-pub fn ds_close(board: &Board, pass: &mut Pass)
-    requires table { pass.old.table ≡ board_id board.now }
-    ensures entries { EntersOf pass.old Closes pass.new }
-    ensures hands { SameHands pass.old pass.new }
-{
-    board.close(pass);
-    let output = board.sweep_out(pass);
-    let pooled = sweep(board, pass);
-    lay_each(board, pass, output.as_slice());
-    lay_each(board, pass, pooled.as_slice());
 }

@@ -1,7 +1,7 @@
 use Rattle.gentl_stream.proofs.Sweeping.{closes}
 use Rattle.buffer_words.proofs.Retries.{hands_then}
 use Rattle.gentl_stream.proofs.Giving.{gave_both_back}
-use Rattle.gentl_stream.proofs.flush.ds_close.Goals as goal
+use Rattle.gentl_stream.proofs.close.ds_close.Goals as goal
 
 pub returns-clause-entries : goal.returns-clause-entries
 returns-clause-entries c =
