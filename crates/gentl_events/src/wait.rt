@@ -31,7 +31,8 @@ fn turn<R: Wait, G: Gate>(
     match take(rt, board, pass) {
         TakeEnd::Taken(place) => {
             gate.pass(AFTER_TAKE);
-            Some(Ok(board.lend(pass, place)))
+            let loan = board.lend(pass, place);
+            Some(Ok(loan))
         }
         TakeEnd::Closed => Some(Err(GcError::InvalidHandle(Shown::Closed))),
         TakeEnd::Empty => {

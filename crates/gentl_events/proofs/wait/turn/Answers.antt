@@ -6,8 +6,8 @@ use Rattle.gentl_events.proofs.wait.turn.Goals as goal
 
 pub returns-in-Taken-clause-turns : goal.returns-in-Taken-clause-turns
 returns-in-Taken-clause-turns g c =
-    lends_at _ _ _ _ c.lend.result c.lend.ensures.place c.in-Taken.ensures.entry c.in-Taken.ensures.hands
-    c.lend.ensures.grows c.lend.ensures.run c.lend.ensures.was c.lend.ensures.loan c.lend.ensures.hands
+    lends_at _ _ _ _ c.lend-loan.result c.lend-loan.ensures.place c.in-Taken.ensures.entry c.in-Taken.ensures.hands
+    c.lend-loan.ensures.grows c.lend-loan.ensures.run c.lend-loan.ensures.was c.lend-loan.ensures.loan c.lend-loan.ensures.hands
 
 pub returns-in-Closed-clause-turns : goal.returns-in-Closed-clause-turns
 returns-in-Closed-clause-turns g c = (tt, one_act _ _ (Take Closed) refl c.in-Closed.ensures.entry refl c.in-Closed.ensures.hands)
