@@ -8,7 +8,6 @@ ghost use Rattle.buffer_words.specs.Several.{EntersOf};
 
 use crate::places::lay_each;
 use buffer_words::{Board, Pass};
-use input_pool::sweep;
 
 /// DSClose: sets the close mark, and gives each buffer of output and pool to the application. The
 /// buffers stay announced.
@@ -17,9 +16,9 @@ pub fn ds_close(board: &Board, pass: &mut Pass)
     ensures entries { EntersOf pass.old Closes pass.new }
     ensures hands { SameHands pass.old pass.new }
 {
-    board.close(pass);
-    let output = board.sweep_out(pass);
-    let pooled = sweep(board, pass);
+    output_queue::close(board, pass);
+    let output = output_queue::sweep(board, pass);
+    let pooled = input_pool::sweep(board, pass);
     lay_each(board, pass, output.as_slice());
     lay_each(board, pass, pooled.as_slice());
 }

@@ -4,8 +4,11 @@
 #![tactic(auto)]
 
 mod announce;
+#[cfg(test)]
+mod buffer_tests;
 mod buffers;
 mod close;
+mod empty;
 mod flush;
 mod info;
 #[cfg(test)]
@@ -18,6 +21,6 @@ pub use announce::ds_announce;
 pub use buffer_words::Loan;
 pub use buffers::{ds_borrow, ds_queue, ds_return, ds_revoke};
 pub use close::ds_close;
-pub use flush::discard_output;
+pub use flush::{discard_output, ds_flush};
 pub use info::{ds_buffer_info, ds_info};
 pub use run::{ds_start, ds_stop};
