@@ -1,7 +1,7 @@
 -- The entries of an announce, from those of its parts.
-use Rattle.std.proofs.Common.{◌≡◌, ℕ, ◌+◌, false, List, [], ◌∷◌, ◌++◌, length, replicate, Some, None, Ok, Err, refl, ap, subst, ◌∙◌, append_assoc}
+use Rattle.std.proofs.Common.{◌≡◌, ℕ, ◌+◌, false, List, [], ◌∷◌, ◌++◌, length, Some, None, Ok, Err, refl, ap, subst, ◌∙◌, append_assoc}
 use Rattle.gev_types.specs.Limits.{place_count}
-use Rattle.gev_types.specs.Filling.{Filling, empty_record}
+use Rattle.gev_types.specs.Filling.{Filling}
 use Rattle.gentl_types.specs.declared.buffer_id.BufferId.{BufferId}
 use Rattle.gentl_types.specs.declared.word.Word.{Word}
 use Rattle.gentl_types.specs.declared.errors.GcError.TheVariants.{ResourceExhausted}
@@ -14,7 +14,6 @@ use Rattle.board_calls.proofs.Refused.{opens}
 use Rattle.buffer_words.specs.Passes.{Token, Enters}
 use Rattle.buffer_words.specs.Several.{EntersOf}
 use Rattle.buffer_words.proofs.Several.{of_push, of_then}
-use Rattle.gentl_stream.specs.Announced.{fresh}
 
 -- the size of a buffer that came back unchanged
 same_size : (f g : Filling) → f ≡ g → length f.bytes ≡ length g.bytes
@@ -49,9 +48,3 @@ announce_full s t u n size e fits look tried =
     of_then s t u (LooksOut false) (RefusedBelow place_count size) (Announces size (Err ResourceExhausted))
     (λ es fs first second. (fits, (second.words, second.all, subst (λ (gs : List Event). OpensWith gs (es ++ fs)) second.is (opens es fs first))))
     look (subst (λ (m : ℕ). EntersOf t (RefusedBelow place_count m) u) e tried)
-
--- a buffer with these bytes and this record is a new one
-pub is_fresh : (f : Filling) (n : ℕ) → f.bytes ≡ replicate n 0 → f.rec ≡ empty_record → f ≡ fresh n
-is_fresh f n bytes rec =
-    let first : f ≡ record { bytes = replicate n 0; rec = f.rec } = ap (λ (bs : List ℕ). record { bytes = bs; rec = f.rec }) bytes in
-    first ∙ ap (λ r. record { bytes = replicate n 0; rec = r }) rec

@@ -3,5 +3,6 @@ pub mod Rounds
 pub mod Grabbing
 pub mod Sweeping
 pub mod Announcing
+pub mod Emptying
 pub mod Running
 pub mod Informing

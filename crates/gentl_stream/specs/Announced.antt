@@ -17,6 +17,5 @@ pub record Brings (place : ℕ) (f : Filling) (s t : Token) : Type 0 where
 -- A new buffer of this size was set down at the place, and laid.
 pub record LaysNew (id : BufferId) (size : ℕ) (s t : Token) : Type 0 where
   pub middle : Token
-  pub new : slot_at s id.place ≡ gone
   pub fresh_there : IsDown middle id.place (fresh size)
   pub lays : Enters middle (Lay id.place) t

@@ -1,3 +1,4 @@
 pub mod Several
 pub mod Announced
 pub mod Revoked
+pub mod Emptied

@@ -1,9 +1,14 @@
 //! The calls on a data stream of the board that threads share, as EMVA GenTL has them: buffers are
-//! queued, revoked, borrowed and returned, and queues are flushed.
+//! announced, queued, revoked, borrowed and returned, queues are flushed, the acquisition is started and
+//! stopped, and the stream and its buffers tell of themselves.
 #![tactic(auto)]
 
 mod announce;
+#[cfg(test)]
+mod buffer_tests;
 mod buffers;
+mod close;
+mod empty;
 mod flush;
 mod info;
 #[cfg(test)]
@@ -15,6 +20,7 @@ mod run;
 pub use announce::ds_announce;
 pub use buffer_words::Loan;
 pub use buffers::{ds_borrow, ds_queue, ds_return, ds_revoke};
-pub use flush::ds_close;
+pub use close::ds_close;
+pub use flush::{discard_output, ds_flush};
 pub use info::{ds_buffer_info, ds_info};
 pub use run::{ds_start, ds_stop};

@@ -5,9 +5,9 @@ use Rattle.gentl_stream.proofs.flush.flush_to_input.Goals as goal
 
 pub returns-clause-entries : goal.returns-clause-entries
 returns-clause-entries c =
-    flushes_to_input _ _ _ _ _ _ c.as_slice.ensures.value c.sweep_out-output.ensures.entry
+    flushes_to_input _ _ _ _ _ _ c.as_slice.ensures.value c.sweep-output.ensures.entry
     c.pool_each.ensures.entries c.pool_held.ensures.entries
 
 pub returns-clause-hands : goal.returns-clause-hands
 returns-clause-hands c =
-    hands_then _ _ _ (gave_back _ _ _ _ _ c.as_slice.ensures.value c.sweep_out-output.ensures.hands c.pool_each.ensures.hands) c.pool_held.ensures.hands
+    hands_then _ _ _ (gave_back _ _ _ _ _ c.as_slice.ensures.value c.sweep-output.ensures.hands c.pool_each.ensures.hands) c.pool_held.ensures.hands
