@@ -19,3 +19,4 @@ mod tests;
 pub use lossy_queue::Rates;
 pub use make_end::MakeEnd;
 pub use making::make;
+pub use stop::Stop;

@@ -5,7 +5,8 @@ use Rattle.gev_script.specs.Words.{Read}
 use Rattle.gev_script.specs.Numbers.{number_in}
 use Rattle.lossy_queue.specs.declared.rates.Rates.{Rates}
 use Rattle.gev_top.specs.declared.command.Command.{Command}
-use Rattle.gev_top.specs.declared.command.Command.TheVariants.{Replay, Camera, Make}
+use Rattle.gev_top.specs.declared.command.Command.TheVariants.{Replay, Camera, Make, Soak}
+use Rattle.gev_top.specs.declared.numbers.Numbers.{Numbers}
 
 -- What words say, or the place of the first word with which no command line goes on, from 0. Where more
 -- words are wanted it is their number.
@@ -58,14 +59,26 @@ camera_of words = do
   done ← none_at 1 words
   Ok Camera
 
--- `make <seed> <frames> <loss> <repeat> <swap>`
-abbrev pub make_of : List (List ℕ) → Said Command
-make_of words = do
+-- `<seed> <frames> <loss> <repeat> <swap>`, behind the command's name
+abbrev pub numbers_of : List (List ℕ) → Said Numbers
+numbers_of words = do
   seed ← number_at 0 (2 ^ 64 - 1) 1 words
   frames ← number_at 0 100000 2 words
   rates ← rates_of words
   done ← none_at 6 words
-  Ok (Make seed frames rates)
+  Ok (record { seed = seed; frames = frames; rates = rates })
+
+-- `make` with these numbers
+abbrev pub make_of : List (List ℕ) → Said Command
+make_of words = do
+  n ← numbers_of words
+  Ok (Make n.seed n.frames n.rates)
+
+-- `soak` with these numbers
+abbrev pub soak_of : List (List ℕ) → Said Command
+soak_of words = do
+  n ← numbers_of words
+  Ok (Soak n.seed n.frames n.rates)
 
 -- the words of which the first is this name
 abbrev pub named : List ℕ → List (List ℕ) → Said Command
@@ -73,6 +86,7 @@ named name words =
     if bytes_eq name (codes "replay") then replay_of words
     else if bytes_eq name (codes "camera") then camera_of words
     else if bytes_eq name (codes "make") then make_of words
+    else if bytes_eq name (codes "soak") then soak_of words
     else Err 0
 
 abbrev pub command_of : List (List ℕ) → Said Command

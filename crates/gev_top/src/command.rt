@@ -16,4 +16,13 @@ pub enum Command {
         /// How often the network loses, repeats and swaps datagrams, each from 0 to 1,000 in thousandths.
         rates: Rates,
     },
+    /// Run camera, network and host as one machine, and write what the host takes.
+    Soak {
+        /// The seed of the images and of the network.
+        seed: u64,
+        /// How many frames the camera sends, from 0 to 100,000.
+        frames: u32,
+        /// How often the network loses, repeats and swaps datagrams, each from 0 to 1,000 in thousandths.
+        rates: Rates,
+    },
 }

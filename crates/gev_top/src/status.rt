@@ -28,6 +28,16 @@ pub enum Status {
     WriteFault,
     /// Memory ran out.
     NoMemory,
+    /// A command that was sent three times had no answer.
+    NoAnswer {
+        /// The command's request number.
+        req: u16,
+    },
+    /// The camera refused a command.
+    Refused {
+        /// The status of its acknowledge.
+        status: u16,
+    },
 }
 
 impl Status {
@@ -42,6 +52,8 @@ impl Status {
             Status::ReadFault => 4,
             Status::WriteFault => 5,
             Status::NoMemory => 7,
+            Status::NoAnswer { .. } => 9,
+            Status::Refused { .. } => 10,
         }
     }
 }
@@ -59,6 +71,8 @@ impl fmt::Display for Status {
             Status::ReadFault => write!(f, "reading failed"),
             Status::WriteFault => write!(f, "writing failed"),
             Status::NoMemory => write!(f, "out of memory"),
+            Status::NoAnswer { req } => write!(f, "no answer to request {req}"),
+            Status::Refused { status } => write!(f, "refused with status 0x{status:04x}"),
         }
     }
 }

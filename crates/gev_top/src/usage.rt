@@ -1,9 +1,10 @@
 ghost use Rattle.std.specs.Prelude.{◌≡◌, ◌≤◌, map, IfOk};
 ghost use Rattle.std.specs.String.{string_bytes};
 ghost use Rattle.std.specs.Str.{bytes_eq};
-ghost use Rattle.gev_top.specs.Usage.{number_at, none_at, rates_of, replay_of, camera_of, make_of, named, command_of};
+ghost use Rattle.gev_top.specs.Usage.{number_at, none_at, rates_of, replay_of, camera_of, make_of, soak_of, numbers_of, named, command_of};
 
 use crate::command::Command;
+use crate::numbers::Numbers;
 use gev_script::number_in;
 use lossy_queue::Rates;
 
@@ -31,6 +32,9 @@ fn read_named(name: &[u8], words: &[String]) -> Result<Command, u32>
     if is(name, b"make") {
         return read_make(words);
     }
+    if is(name, b"soak") {
+        return read_soak(words);
+    }
     Err(0)
 }
 
@@ -54,11 +58,43 @@ fn read_camera(words: &[String]) -> Result<Command, u32>
 fn read_make(words: &[String]) -> Result<Command, u32>
     ensures { result ≡ make_of (map (λ word. string_bytes word) words.now) }
 {
+    let Numbers {
+        seed,
+        frames,
+        rates,
+    } = read_numbers(words)?;
+    Ok(Command::Make {
+        seed,
+        frames,
+        rates,
+    })
+}
+
+/// The same numbers follow `soak`.
+fn read_soak(words: &[String]) -> Result<Command, u32>
+    ensures { result ≡ soak_of (map (λ word. string_bytes word) words.now) }
+{
+    let Numbers {
+        seed,
+        frames,
+        rates,
+    } = read_numbers(words)?;
+    Ok(Command::Soak {
+        seed,
+        frames,
+        rates,
+    })
+}
+
+/// The numbers behind `make` and `soak`, and no word more.
+fn read_numbers(words: &[String]) -> Result<Numbers, u32>
+    ensures { result ≡ numbers_of (map (λ word. string_bytes word) words.now) }
+{
     let seed = number_at(0, 18_446_744_073_709_551_615, 1, words)?;
     let frames = number_at(0, 100_000, 2, words)? as u32;
     let rates = read_rates(words)?;
     none_at(6, words)?;
-    Ok(Command::Make {
+    Ok(Numbers {
         seed,
         frames,
         rates,

@@ -103,12 +103,12 @@ take_leaves s new place h called same left =
     left
 
 -- what a take found
-taken_first : (b new : Board) (place : ℕ) → AddsOf b 0 (TakesOne place) new → (f : Filling) × (rest : List Item) × (b.out ≡ item place f ∷ rest)
+pub taken_first : (b new : Board) (place : ℕ) → AddsOf b 0 (TakesOne place) new → (f : Filling) × (rest : List Item) × (b.out ≡ item place f ∷ rest)
 taken_first b new place called =
     let runs : RunsFrom b (entries_of 0 (Take (Taken place) ∷ Lay place ∷ [])) = subst (λ (es : List Event). RunsFrom b (entries_of 0 es)) called.kind called.adds.runs in
     runs.0.meets.1
 
-first_lies : (s : PlainState) (place : ℕ) (f : Filling) (rest : List Item) → AreKept s → s.board.out ≡ item place f ∷ rest → content_at s place ≡ Some f
+pub first_lies : (s : PlainState) (place : ℕ) (f : Filling) (rest : List Item) → AreKept s → s.board.out ≡ item place f ∷ rest → content_at s place ≡ Some f
 first_lies s place f rest kept is = kept.output 0 (item place f) (ap (λ o. slice_get o 0) is)
 
 same_filling : (x : Option Filling) (f g : Filling) → x ≡ Some f → x ≡ Some g → f ≡ g

@@ -112,7 +112,7 @@ fn settle(board: &mut PlainBoard, acq: &mut Acq, counts: &mut FillCounts, bytes:
 }
 
 /// Tells a datagram. Where it wants a buffer, one is claimed, and the datagram is told again.
-fn hear(board: &mut PlainBoard, acq: &mut Acq, counts: &mut FillCounts, bytes: &[u8])
+pub fn hear(board: &mut PlainBoard, acq: &mut Acq, counts: &mut FillCounts, bytes: &[u8])
     requires rest { IsAtRest board.old acq.old }
     ensures drives { Drives (λ t. Hears (config_of acq.old) t bytes.now (asked_by (turn (config_of acq.old) t.inputs (came bytes.now)).need)) 0 board.old acq.old counts.old [] board.new acq.new counts.new }
     ensures rest { IsAtRest board.new acq.new }

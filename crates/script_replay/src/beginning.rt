@@ -19,7 +19,7 @@ use std::alloc::Global;
 
 /// What stands behind a header with this configuration. All memory that the script will use is taken here,
 /// but for announced buffers.
-fn begin(alloc: Global, config: AcqConfig) -> Result<Running, NoMemory>
+pub fn begin(alloc: Global, config: AcqConfig) -> Result<Running, NoMemory>
     requires { IsConfig config }
     ensures stands { IfOk result (λ r. StandsAt r opening) }
     ensures config { IfOk result (λ r. config_of r.acq ≡ config) }

@@ -12,7 +12,7 @@ use gev_types::NoMemory;
 use std::alloc::Global;
 
 /// Who makes the calls of the lines.
-pub(crate) const CALLER: u8 = 0;
+pub const CALLER: u8 = 0;
 
 /// Puts a held buffer into the input pool.
 pub fn queue(

@@ -22,4 +22,10 @@ mod steps;
 #[cfg(test)]
 mod tests;
 
+pub use acquisition_lines::{hear, start};
+pub use beginning::begin;
+pub use board_lines::{CALLER, announce, queue};
+pub use fill_counts::FillCounts;
 pub use replay::Replay;
+pub use retired::fill_retired;
+pub use running::Running;

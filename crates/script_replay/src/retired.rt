@@ -49,7 +49,7 @@ fn fill_one(board: &mut PlainBoard, counts: &mut FillCounts, fill: Retired)
 }
 
 /// Fills each buffer that waits in the receiver, first in first, and counts those that came into the output.
-pub(crate) fn fill_retired(board: &mut PlainBoard, acq: &mut Acq, counts: &mut FillCounts)
+pub fn fill_retired(board: &mut PlainBoard, acq: &mut Acq, counts: &mut FillCounts)
     requires actor { IsActor board.old.board acquirer }
     requires away { AreAway board.old (map given_of (waiting_fills acq.old) ++ buffers acq.old) }
     ensures fills { FillsAll (waiting_fills acq.old) board.old counts.old board.new counts.new }

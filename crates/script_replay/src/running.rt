@@ -8,17 +8,17 @@ use gentl_handles::{Handle, Tree};
 #[derive(Drop)]
 pub struct Running {
     /// The board of the stream that is open from the start.
-    pub(crate) board: PlainBoard,
+    pub board: PlainBoard,
     /// The receiver of that stream.
-    pub(crate) acq: Acq,
+    pub acq: Acq,
     /// The open handles.
-    pub(crate) tree: Tree,
+    pub tree: Tree,
     /// That stream's handle.
-    pub(crate) stream: Handle,
+    pub stream: Handle,
     /// What the receiver filled into the output.
-    pub(crate) counts: FillCounts,
+    pub counts: FillCounts,
     /// Buffers that were handed out.
-    pub(crate) taken: u64,
+    pub taken: u64,
     /// Datagrams that came while the stream was stopped.
-    pub(crate) idle: u64,
+    pub idle: u64,
 }

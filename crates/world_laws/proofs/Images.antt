@@ -1,55 +1,40 @@
 -- What was handed out holds what came of frames that stand behind the packets.
-use Rattle.std.proofs.Common.{◌≡◌, inl, inr, ℕ, List, [], ◌∷◌, ◌++◌, Option, Ok, sym, ap, ◌∙◌, subst, append_assoc}
-use Rattle.std.specs.Prelude.{IfSome}
+use Rattle.std.proofs.Common.{◌≡◌, inl, inr, false, ℕ, List, [], ◌∷◌, ◌++◌, length, take, drop, Option, sym, ap, ◌∙◌, subst, append_assoc}
 use Rattle.std.specs.List.{AllByRecursion}
+use Rattle.std.proofs.lemmas.List.{take-append-drop}
 use Rattle.std.proofs.lemmas.List.Elements.{All-from_recursion, All-contains}
-use Rattle.hex.specs.Hex.{decode_of}
-use Rattle.hex.proofs.HexLemmas.{decode_of-same, decode_of-encode_lower}
+use Rattle.gev_types.specs.declared.block_record.Record.{Record}
 use Rattle.gev_types.specs.declared.frame.Frame.{Frame}
 use Rattle.gev_types.specs.declared.frame.Shape.{Shape}
 use Rattle.gev_types.specs.declared.peer.Peer.{Peer}
 use Rattle.stream_packets.specs.Packets.{StreamPacket}
 use Rattle.stream_packets.specs.Sent.{IsSent}
-use Rattle.gvsp_wire.specs.Plain.{plain}
-use Rattle.gvsp_wire.specs.Reading.{packet_of}
-use Rattle.gev_script.specs.Lines as line
-use Rattle.gev_script.specs.Lines.{ScriptLine}
 use Rattle.block_image.specs.OneBlock.{AreSent}
 use Rattle.board_machine.specs.Machine.{Item}
-use Rattle.board_machine.specs.Handout.{handed_items}
+use Rattle.board_machine.specs.Handout.{filled, removed, handed_items}
+use Rattle.board_machine.proofs.Handouts.{run_out}
 use Rattle.acquisition_machine.specs.declared.config.AcqConfig.{AcqConfig}
 use Rattle.acquisition_machine.specs.Machine.{Input}
 use Rattle.acquisition_machine.specs.Runs.{packets_in}
 use Rattle.acquisition_machine.proofs.Joining.{packets_in-append}
 use Rattle.acquisition_machine.proofs.Order.{all_front, all_back, all_weaker}
 use Rattle.script_trace.specs.Opening.{opening}
-use Rattle.script_trace.specs.Fills.{tried_blocks, IsRetired, IsHandedSo}
+use Rattle.script_trace.specs.Trace.{Trace, board}
+use Rattle.script_trace.specs.Fills.{tried_blocks, IsRetired}
 use Rattle.script_trace.specs.Laws.{KeepsPromises}
+use Rattle.script_trace.proofs.Handing.{leads_empty, opening_empty, filled_all, handed_all}
+use Rattle.camera_machine.specs.Sending.{AreGenerated}
 use Rattle.control_session.specs.Schedule.{new_line}
 use Rattle.world_machine.specs.HostActs.{given_in}
 use Rattle.world_laws.specs.Schedule.{WorldEvent, session_acts, host_lines}
-use Rattle.world_laws.specs.Images.{AreOfFrames, HoldsBlock, IsTrueImage, made_in}
-use Rattle.world_laws.specs.Laws.{ImagesAreTrue, ImagesAreOfMadeFrames}
-use Rattle.world_laws.proofs.Worlds.{Spells, datagrams_are_given, trace_keeps}
+use Rattle.world_laws.specs.Images.{IsReadAsSent, HearsFrames, HoldsBlock, IsTrueImage, HasTrueImages, made_in, AreOfMade, IsGenerated, HasGeneratedImages}
+use Rattle.world_laws.specs.Laws.{HeardImagesAreTrue, GivenPacketsAreHeard, ImagesAreTrue, ImagesAreOfMadeFrames}
+use Rattle.world_laws.proofs.Worlds.{heard_is_given, lines_tell, trace_keeps}
 use Rattle.world_laws.proofs.Inputs.{Tells, leads_tell}
-use Rattle.world_laws.proofs.Reading.{sent_is_read, sent_is_bytes}
-use Rattle.world_laws.proofs.Made.{made_behind}
+use Rattle.world_laws.proofs.Reading.{sent_is_read}
+use Rattle.world_laws.proofs.Made.{of_made_frames}
 
 -- ---- what the acquisition was told
-
--- a datagram that is the spelling of a given packet is read as a sent packet
-given_read : (frames : ℕ → Option Frame) (p : ℕ) (packets : List StreamPacket) → AreOfFrames frames p packets → (digits bytes : List ℕ)
-    → Spells packets (line.datagram digits) → decode_of digits ≡ Ok bytes → IfSome (packet_of bytes) (IsSent frames p)
-given_read frames p packets are digits bytes (x, among, is) decoded =
-    let sent : IsSent frames p x = All-contains (IsSent frames p) packets x are.sent.sent among in
-    let same : bytes ≡ plain x
-    = decode_of-same digits bytes (plain x) decoded (ap decode_of is ∙ decode_of-encode_lower (plain x) (sent_is_bytes frames p packets are x sent)) in
-    subst (λ (b : List ℕ). IfSome (packet_of b) (IsSent frames p)) (sym same) (sent_is_read frames p packets are x sent)
-
-given_tells : (frames : ℕ → Option Frame) (p : ℕ) (packets : List StreamPacket) → AreOfFrames frames p packets → (l : ScriptLine) → Spells packets l
-    → Tells (IsSent frames p) l
-given_tells frames p packets are (line.datagram digits) s = λ bytes decoded. given_read frames p packets are digits bytes s decoded
-given_tells frames p packets are _ s = tt
 
 -- the packets of one acquisition, up to one of its inputs
 part_sent : (P : StreamPacket → Type 0) (inputs before since : List Input) (last : Input) (rest : List Input) → inputs ≡ before ++ since ++ last ∷ rest
@@ -65,17 +50,17 @@ part_sent P inputs before since last rest parts all =
 
 -- ---- what was handed out
 
-retired_holds : (frames : ℕ → Option Frame) (c : AcqConfig) (packets : List StreamPacket) (inputs : List Input) → AreOfFrames frames c.p packets
+retired_holds : (frames : ℕ → Option Frame) (c : AcqConfig) (es : List WorldEvent) (inputs : List Input) → HearsFrames frames c.p es
     → AllByRecursion (IsSent frames c.p) (packets_in inputs) → (x : Item) → IsRetired c inputs x → HoldsBlock frames c inputs x
-retired_holds frames c packets inputs are all x r =
+retired_holds frames c es inputs hear all x r =
     let P : StreamPacket → Type 0 = IsSent frames c.p in
     let here : List StreamPacket = packets_in (r.since ++ r.last ∷ []) in
     let sent : AreSent frames c.p here
     = record {
-        are_frames = are.sent.are_frames;
-        payload_size = are.sent.payload_size;
-        sent = All-from_recursion P here (part_sent P inputs r.before r.since r.last r.rest r.parts all);
-      } in
+      are_frames = hear.are_frames;
+      payload_size = hear.payload_size;
+      sent = All-from_recursion P here (part_sent P inputs r.before r.since r.last r.rest r.parts all);
+    } in
     record {
       front = (r.before ++ r.since) ++ r.last ∷ [];
       rest = r.rest;
@@ -88,24 +73,69 @@ retired_holds frames c packets inputs are all x r =
       holds = r.holds frames sent;
     }
 
-handed_true : (frames : ℕ → Option Frame) (c : AcqConfig) (packets : List StreamPacket) (inputs : List Input) → AreOfFrames frames c.p packets
-    → AllByRecursion (IsSent frames c.p) (packets_in inputs) → (x : Item) → IsHandedSo c inputs x → IsTrueImage frames c inputs x
-handed_true frames c packets inputs are all x (inl r) = inl (retired_holds frames c packets inputs are all x r)
-handed_true frames c packets inputs are all x (inr none) = inr none
+-- what is left of a list without its first members
+all_left : (P : Item → Type 0) (n : ℕ) (xs : List Item) → AllByRecursion P xs → AllByRecursion P (drop n xs)
+all_left P n xs all = all_back P (take n xs) (drop n xs) (subst (AllByRecursion P) (sym (take-append-drop n xs)) all)
+
+pub heard_images : (seed : ℕ) (shape : Shape) (room : ℕ) (peer : Peer) (es : List WorldEvent) → HeardImagesAreTrue seed shape room peer es
+heard_images seed shape room peer es frames c t w hear is =
+    let told : AllByRecursion (Tells (IsSent frames c.p)) (host_lines es) = lines_tell (IsSent frames c.p) peer (new_line seed shape room) es w hear.heard in
+    let heard : AllByRecursion (IsSent frames c.p) (packets_in t.inputs) = leads_tell (IsSent frames c.p) c opening (host_lines es) t told is.leads tt in
+    let keeps : KeepsPromises c t = trace_keeps seed shape room peer es c t w is in
+    let P : Item → Type 0 = IsTrueImage frames c t.inputs in
+    let blocks : AllByRecursion (HoldsBlock frames c t.inputs) (tried_blocks t)
+    = all_weaker (IsRetired c t.inputs) (HoldsBlock frames c t.inputs) (retired_holds frames c es t.inputs hear heard) (tried_blocks t) keeps.blocks in
+    let all : AllByRecursion P (filled t.entries)
+    = filled_all (HoldsBlock frames c t.inputs) t.entries (leads_empty c opening (host_lines es) t is.leads opening_empty) blocks in
+    record {
+      blocks = blocks;
+      handed = handed_all P t.entries all;
+      waiting = subst (AllByRecursion P) (sym (run_out t.entries keeps.run)) (all_left P (length (removed t.entries)) (filled t.entries) all);
+    }
+
+-- ---- what the camera gave
+
+pub given_heard : (seed : ℕ) (shape : Shape) (room : ℕ) (peer : Peer) (es : List WorldEvent) → GivenPacketsAreHeard seed shape room peer es
+given_heard seed shape room peer es frames p w are =
+    let packets : List StreamPacket = given_in (new_line seed shape room) (session_acts es) in
+    record {
+      are_frames = are.sent.are_frames;
+      payload_size = are.sent.payload_size;
+      heard = λ bytes among. let given = heard_is_given peer (new_line seed shape room) es w bytes among in
+          subst (IsReadAsSent frames p) (sym given.spelled)
+          (sent_is_read frames p packets are given.packet (All-contains (IsSent frames p) packets given.packet are.sent.sent given.among));
+    }
 
 pub images_true : (seed : ℕ) (shape : Shape) (room : ℕ) (peer : Peer) (es : List WorldEvent) → ImagesAreTrue seed shape room peer es
 images_true seed shape room peer es frames c t w are is =
-    let packets : List StreamPacket = given_in (new_line seed shape room) (session_acts es) in
-    let told : AllByRecursion (Tells (IsSent frames c.p)) (host_lines es)
-    = all_weaker (Spells packets) (Tells (IsSent frames c.p)) (given_tells frames c.p packets are) (host_lines es)
-    (datagrams_are_given peer (new_line seed shape room) es w) in
-    let heard : AllByRecursion (IsSent frames c.p) (packets_in t.inputs) = leads_tell (IsSent frames c.p) c opening (host_lines es) t told is.leads tt in
-    let keeps : KeepsPromises c t = trace_keeps seed shape room peer es c t w is in
+    heard_images seed shape room peer es frames c t w (given_heard seed shape room peer es frames c.p w are) is
+
+-- ---- what the generator made
+
+block_generated : (seed : ℕ) (shape : Shape) (frames : ℕ → Option Frame) (c : AcqConfig) (inputs : List Input) (x : Item) → AreGenerated seed shape frames
+    → HoldsBlock frames c inputs x → IsGenerated seed shape x
+block_generated seed shape frames c inputs x made h =
+    subst (IsGenerated seed shape) (sym h.is)
+    (λ complete. let holds = h.holds.complete complete in holds.pixels ∙ ap (λ (f : Frame). f.pixels) (made.same h.block.block holds.frame holds.of_block))
+
+image_generated : (seed : ℕ) (shape : Shape) (frames : ℕ → Option Frame) (c : AcqConfig) (inputs : List Input) → AreGenerated seed shape frames → (x : Item)
+    → IsTrueImage frames c inputs x → IsGenerated seed shape x
+image_generated seed shape frames c inputs made x (inl h) = block_generated seed shape frames c inputs x made h
+image_generated seed shape frames c inputs made x (inr none) =
+    λ complete. let apart : x.filling.rec.complete ≡ false = ap (λ (r : Record). r.complete) none in absurd cc
+
+pub images_generated : (seed : ℕ) (shape : Shape) (frames : ℕ → Option Frame) (c : AcqConfig) (t : Trace) → AreGenerated seed shape frames
+    → HasTrueImages frames c t → HasGeneratedImages seed shape frames c t
+images_generated seed shape frames c t made images =
+    let one : (x : Item) → IsTrueImage frames c t.inputs x → IsGenerated seed shape x = image_generated seed shape frames c t.inputs made in
     record {
-      blocks = all_weaker (IsRetired c t.inputs) (HoldsBlock frames c t.inputs) (retired_holds frames c packets t.inputs are heard) (tried_blocks t) keeps.blocks;
-      handed = all_weaker (IsHandedSo c t.inputs) (IsTrueImage frames c t.inputs) (handed_true frames c packets t.inputs are heard) (handed_items t.entries) keeps.handed;
+      images = images;
+      handed = all_weaker (IsTrueImage frames c t.inputs) (IsGenerated seed shape) one (handed_items t.entries) images.handed;
+      waiting = all_weaker (IsTrueImage frames c t.inputs) (IsGenerated seed shape) one (board t).out images.waiting;
     }
 
 pub images_of_made : (seed : ℕ) (shape : Shape) (room : ℕ) (peer : Peer) (es : List WorldEvent) → ImagesAreOfMadeFrames seed shape room peer es
 images_of_made seed shape room peer es c t w sends is =
-    images_true seed shape room peer es (made_in seed shape room es) c t w (made_behind seed shape room es c.p sends).frames is
+    let frames : ℕ → Option Frame = made_in seed shape room es in
+    let of_made : AreOfMade seed shape room c.p es (given_in (new_line seed shape room) (session_acts es)) = of_made_frames seed shape room es c.p sends in
+    images_generated seed shape frames c t of_made.generated (images_true seed shape room peer es frames c t w of_made.frames is)

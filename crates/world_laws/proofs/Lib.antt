@@ -1,6 +1,11 @@
-pub mod Worlds
+pub mod Digits
 pub mod Inputs
+pub mod Worlds
 pub mod Reading
 pub mod Made
 pub mod Images
 pub mod Fronts
+pub mod Runs
+pub mod RunTexts
+pub mod Receiving
+pub mod TakeTexts

@@ -19,7 +19,7 @@ use Rattle.control_session.proofs.Apart.{apart}
 use Rattle.world_machine.specs.HostActs.{given_by, given_in}
 use Rattle.world_laws.specs.Schedule.{WorldEvent, session_acts}
 use Rattle.world_laws.specs.Images.{FitsPackets, ShapeFits}
-use Rattle.world_laws.specs.Laws.{MadeFramesAreBehind}
+use Rattle.world_laws.specs.Laws.{PacketsAreOfMadeFrames}
 
 -- ---- packets
 
@@ -85,8 +85,8 @@ generated_fits seed b shape small fits = record {
   pixels = noise_small (shape_size shape) ((seed + b) % 2 ^ 64);
 }
 
-pub made_behind : (seed : ℕ) (shape : Shape) (room : ℕ) (es : List WorldEvent) → MadeFramesAreBehind seed shape room es
-made_behind seed shape room es p sends =
+pub of_made_frames : (seed : ℕ) (shape : Shape) (room : ℕ) (es : List WorldEvent) → PacketsAreOfMadeFrames seed shape room es
+of_made_frames seed shape room es p sends =
     let generated = frames_are seed shape room (camera_events (session_acts es)) in
     record {
       generated = generated;

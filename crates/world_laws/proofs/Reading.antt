@@ -231,15 +231,3 @@ sent_is_read frames p packets are (trailer h y) c =
     read_low frames p (trailer h y) (trailer_spelled frames p h y c (is_of frames p packets h c.frame are c.of_block))
     (record { frame = c.frame; of_block = c.of_block; packet = c.packet; status = c.status })
 sent_is_read frames p packets are (notice h) c = notice_read frames p h
-
--- its spelling is of bytes
-pub sent_is_bytes : (frames : ℕ → Option Frame) (p : ℕ) (packets : List StreamPacket) → AreOfFrames frames p packets → (x : StreamPacket) → IsSent frames p x
-    → AreBytes (plain x)
-sent_is_bytes frames p packets are (leader h i) c k =
-    bytes_append (plain_header h 1) (spelled (leader_fields 0 0 1 i)) (header_small h 1) (spelled_small (leader_fields 0 0 1 i)) k
-sent_is_bytes frames p packets are (payload h d) c k =
-    bytes_append (plain_header h 3) d (header_small h 3)
-    (payload_spelled frames p h d c (is_of frames p packets h c.frame are c.of_block)).fields_fit.1 k
-sent_is_bytes frames p packets are (trailer h y) c k =
-    bytes_append (plain_header h 2) (spelled (trailer_fields 0 1 y)) (header_small h 2) (spelled_small (trailer_fields 0 1 y)) k
-sent_is_bytes frames p packets are (notice h) c k = header_small h 3 k

@@ -1,23 +1,24 @@
 -- What a world's schedule says of its control session, of its lines and of its datagrams.
-use Rattle.std.proofs.Common.{◌≡◌, ℕ, List, [], ◌∷◌, Option, ap}
-use Rattle.std.specs.Prelude.{⊤}
+use Rattle.std.proofs.Common.{◌≡◌, ◌⊎◌, inl, inr, ℕ, List, [], ◌∷◌, sym, subst}
+use Rattle.std.specs.Prelude.{IfSome}
 use Rattle.std.specs.List.{AllByRecursion, Contains}
-use Rattle.hex.specs.Hex.{encode_lower}
 use Rattle.gev_types.specs.declared.frame.Shape.{Shape}
 use Rattle.gev_types.specs.declared.peer.Peer.{Peer}
 use Rattle.stream_packets.specs.Packets.{StreamPacket}
-use Rattle.gvsp_wire.specs.Plain.{plain}
+use Rattle.gvsp_wire.specs.Reading.{packet_of}
 use Rattle.gev_script.specs.Lines as line
 use Rattle.gev_script.specs.Lines.{ScriptLine}
-use Rattle.acquisition_machine.proofs.Order.{all_append, all_weaker}
+use Rattle.acquisition_machine.proofs.Order.{all_append}
 use Rattle.script_trace.proofs.BlockFills.{IsByOther}
 use Rattle.script_trace.proofs.Promises.{traces_keep_by}
-use Rattle.control_session.specs.Schedule.{Line, new_line, after, with_last, IsSchedule}
+use Rattle.control_session.specs.Schedule.{Line, new_line, after, IsSchedule}
 use Rattle.control_session.proofs.Lines.{acts_once}
 use Rattle.world_machine.specs.HostActs.{given_at, given_in, IsGiven}
-use Rattle.world_machine.proofs.Fits.{kept_in}
+use Rattle.world_machine.proofs.Fits.{none_in, head_in, tail_in, cons_in, kept_in}
 use Rattle.world_laws.specs.Schedule.{WorldEvent, at_session, hears, passes, applies, session_acts, lines_of, host_lines, IsApplied, MayCome, IsWorld}
 use Rattle.world_laws.specs.Laws.{CommandsActOnce, TraceKeepsPromises}
+use Rattle.world_laws.proofs.Digits.{read_back}
+use Rattle.world_laws.proofs.Inputs.{Tells}
 
 -- ---- the control session
 
@@ -56,37 +57,59 @@ trace_keeps seed shape room peer es c t w is =
 
 -- ---- the datagrams
 
--- where the line is a datagram, it's the plain spelling of one of the packets
-abbrev pub Spells : List StreamPacket → ScriptLine → Type 0
-Spells packets (line.datagram digits) = (x : StreamPacket) × Contains packets x × (digits ≡ encode_lower (plain x))
-Spells packets _ = ⊤
+-- what was given by now stays so
+given_later : (start : Line) (e : WorldEvent) (es : List WorldEvent) (bytes : List ℕ) → IsGiven (given_in start (session_acts es)) bytes
+    → IsGiven (given_in start (session_acts (e ∷ es))) bytes
+given_later start (at_session a) es bytes given = record {
+  packet = given.packet;
+  among = kept_in (given_in start (session_acts es)) (given_at (after start (session_acts es)) a) given.packet given.among;
+  spelled = given.spelled;
+}
+given_later start (hears other) es bytes given = given
+given_later start (passes moment) es bytes given = given
+given_later start (applies l) es bytes given = given
 
-spells_more : (packets : List StreamPacket) (o : Option StreamPacket) (l : ScriptLine) → Spells packets l → Spells (with_last packets o) l
-spells_more packets o (line.datagram digits) (x, among, is) = (x, kept_in packets o x among, is)
-spells_more packets o _ s = tt
+given_here : (peer : Peer) (start : Line) (e : WorldEvent) (es : List WorldEvent) (bytes : List ℕ) → MayCome peer start es e → e ≡ hears bytes
+    → IsGiven (given_in start (session_acts es)) bytes
+given_here peer start (at_session a) es bytes may same = absurd cc
+given_here peer start (hears other) es bytes may same =
+    let equal : other ≡ bytes = cc in subst (IsGiven (given_in start (session_acts es))) equal may
+given_here peer start (passes moment) es bytes may same = absurd cc
+given_here peer start (applies l) es bytes may same = absurd cc
 
-applied_spells : (packets : List StreamPacket) (l : ScriptLine) → IsApplied l → Spells packets l
-applied_spells packets (line.datagram digits) is = absurd is
-applied_spells packets _ is = tt
+pub heard_is_given : (peer : Peer) (start : Line) (es : List WorldEvent) → IsWorld peer start es → (bytes : List ℕ) → Contains es (hears bytes)
+    → IsGiven (given_in start (session_acts es)) bytes
+heard_is_given peer start [] w bytes among = absurd (none_in (hears bytes) among)
+heard_is_given peer start (e ∷ es) w bytes among =
+    given_later start e es bytes (go (cons_in e (hears bytes) es among.0 among.1 among.2) (λ earlier. heard_is_given peer start es w.1 bytes earlier))
+  where
+    go : (e ≡ hears bytes) ⊎ Contains es (hears bytes) → (Contains es (hears bytes) → IsGiven (given_in start (session_acts es)) bytes)
+        → IsGiven (given_in start (session_acts es)) bytes
+    go (inl same) rest = given_here peer start e es bytes w.0 same
+    go (inr earlier) rest = rest earlier
 
-given_spells : (packets : List StreamPacket) (bytes : List ℕ) → IsGiven packets bytes → Spells packets (line.datagram (encode_lower bytes))
-given_spells packets bytes given = (given.packet, given.among, ap encode_lower given.spelled)
+-- what each datagram that is heard is read as
+abbrev ReadAs : (StreamPacket → Type 0) → List WorldEvent → Type 0
+ReadAs P es = (bytes : List ℕ) → Contains es (hears bytes) → IfSome (packet_of bytes) P
 
-pub datagrams_are_given : (peer : Peer) (start : Line) (es : List WorldEvent) → IsWorld peer start es
-    → AllByRecursion (Spells (given_in start (session_acts es))) (host_lines es)
-datagrams_are_given peer start [] w = tt
-datagrams_are_given peer start (at_session a ∷ es) w =
-    let packets : List StreamPacket = given_in start (session_acts es) in
-    let o : Option StreamPacket = given_at (after start (session_acts es)) a in
-    all_append (Spells (with_last packets o)) (host_lines es) []
-    (all_weaker (Spells packets) (Spells (with_last packets o)) (spells_more packets o) (host_lines es) (datagrams_are_given peer start es w.1)) tt
-datagrams_are_given peer start (hears bytes ∷ es) w =
-    let packets : List StreamPacket = given_in start (session_acts es) in
-    all_append (Spells packets) (host_lines es) (line.datagram (encode_lower bytes) ∷ []) (datagrams_are_given peer start es w.1)
-    (given_spells packets bytes w.0, tt)
-datagrams_are_given peer start (passes moment ∷ es) w =
-    let packets : List StreamPacket = given_in start (session_acts es) in
-    all_append (Spells packets) (host_lines es) (line.tick moment ∷ []) (datagrams_are_given peer start es w.1) (tt, tt)
-datagrams_are_given peer start (applies l ∷ es) w =
-    let packets : List StreamPacket = given_in start (session_acts es) in
-    all_append (Spells packets) (host_lines es) (l ∷ []) (datagrams_are_given peer start es w.1) (applied_spells packets l w.0, tt)
+applied_tells : (P : StreamPacket → Type 0) (l : ScriptLine) → IsApplied l → Tells P l
+applied_tells P (line.datagram digits) is = absurd is
+applied_tells P _ is = tt
+
+event_tells : (P : StreamPacket → Type 0) (peer : Peer) (start : Line) (e : WorldEvent) (es : List WorldEvent) → MayCome peer start es e → ReadAs P (e ∷ es)
+    → AllByRecursion (Tells P) (lines_of e)
+event_tells P peer start (at_session a) es may read = tt
+event_tells P peer start (hears bytes) es may read = (
+  λ others decoded. subst (λ (l : List ℕ). IfSome (packet_of l) P) (sym (read_back bytes others decoded)) (read bytes (head_in (hears bytes) es)),
+  tt,
+)
+event_tells P peer start (passes moment) es may read = (tt, tt)
+event_tells P peer start (applies l) es may read = (applied_tells P l may, tt)
+
+-- the lines of a world tell what it hears
+pub lines_tell : (P : StreamPacket → Type 0) (peer : Peer) (start : Line) (es : List WorldEvent) → IsWorld peer start es → ReadAs P es
+    → AllByRecursion (Tells P) (host_lines es)
+lines_tell P peer start [] w read = tt
+lines_tell P peer start (e ∷ es) w read =
+    all_append (Tells P) (host_lines es) (lines_of e) (lines_tell P peer start es w.1 (λ bytes among. read bytes (tail_in e (hears bytes) es among)))
+    (event_tells P peer start e es w.0 read)

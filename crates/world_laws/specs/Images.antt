@@ -1,14 +1,16 @@
 -- Which frames stand behind the packets that a camera gave, and what a buffer holds of them.
-use Rattle.std.specs.Prelude.{◌≡◌, ◌⊎◌, ℕ, ◌<◌, ◌^◌, List, ◌++◌, Option, Some}
-use Rattle.std.specs.List.{AllByRecursion}
+use Rattle.std.specs.Prelude.{◌≡◌, ◌⊎◌, ℕ, ◌<◌, ◌^◌, true, List, ◌++◌, take, Option, Some, IfSome}
+use Rattle.std.specs.List.{AllByRecursion, Contains}
 use Rattle.gev_types.specs.declared.frame.Frame.{Frame}
 use Rattle.gev_types.specs.declared.frame.Shape.{Shape}
 use Rattle.gev_types.specs.FrameSize.{IsImageSize}
 use Rattle.gev_types.specs.Filling.{empty_record}
-use Rattle.gev_frames.specs.Frames.{shape_size}
+use Rattle.gev_frames.specs.Frames.{shape_size, frame_of}
 use Rattle.stream_packets.specs.Packets.{StreamPacket}
 use Rattle.stream_packets.specs.FramePackets.{leader_info}
+use Rattle.stream_packets.specs.Sent.{AreFrames, IsSent}
 use Rattle.gvsp_wire.specs.Plain.{AreBytes, InfoFits}
+use Rattle.gvsp_wire.specs.Reading.{packet_of}
 use Rattle.block_image.specs.Sizes.{IsPayloadSize}
 use Rattle.block_image.specs.OneBlock.{AreSent}
 use Rattle.board_machine.specs.Machine.{Item, item}
@@ -17,13 +19,13 @@ use Rattle.acquisition_machine.specs.declared.config.AcqConfig.{AcqConfig}
 use Rattle.acquisition_machine.specs.Blocks.{Given, Open, filling_in}
 use Rattle.acquisition_machine.specs.Machine.{Input}
 use Rattle.acquisition_machine.specs.FrameLaws.{IsSince, HoldsOfFrame}
-use Rattle.script_trace.specs.Trace.{Trace}
+use Rattle.script_trace.specs.Trace.{Trace, board}
 use Rattle.script_trace.specs.Fills.{tried_blocks}
 use Rattle.camera_machine.specs.Camera.{new_camera}
 use Rattle.camera_machine.specs.Events.{past, frames_made}
 use Rattle.camera_machine.specs.Sending.{AreGenerated, AskFromOne, HaveSize}
 use Rattle.control_session.specs.Schedule.{camera_events}
-use Rattle.world_laws.specs.Schedule.{WorldEvent, session_acts}
+use Rattle.world_laws.specs.Schedule.{WorldEvent, hears, session_acts}
 
 -- ---- frames
 
@@ -37,6 +39,16 @@ pub record FitsPackets (frame : Frame) : Type 0 where
 pub record AreOfFrames (frames : ℕ → Option Frame) (p : ℕ) (packets : List StreamPacket) : Type 0 where
   pub sent : AreSent frames p packets
   pub fit : (b : ℕ) (f : Frame) → frames b ≡ Some f → FitsPackets f
+
+-- what the bytes are read as, if as a packet, is a sent one of these frames
+abbrev pub IsReadAsSent : (ℕ → Option Frame) → ℕ → List ℕ → Type 0
+IsReadAsSent frames p bytes = IfSome (packet_of bytes) (IsSent frames p)
+
+-- Each datagram that the receiver hears is so.
+pub record HearsFrames (frames : ℕ → Option Frame) (p : ℕ) (es : List WorldEvent) : Type 0 where
+  pub are_frames : AreFrames frames
+  pub payload_size : IsPayloadSize p
+  pub heard : (bytes : List ℕ) → Contains es (hears bytes) → IsReadAsSent frames p bytes
 
 -- ---- buffers
 
@@ -60,10 +72,11 @@ abbrev pub IsTrueImage : (ℕ → Option Frame) → AcqConfig → List Input →
 IsTrueImage frames c inputs x = HoldsBlock frames c inputs x ⊎ (x.filling.rec ≡ empty_record)
 
 -- Each block that the acquisition filled, or tried to fill where the stream was closed, is so; and so is each
--- buffer that was handed out, but for those with the empty record.
+-- buffer that was handed out or waits in the output, but for those with the empty record.
 pub record HasTrueImages (frames : ℕ → Option Frame) (c : AcqConfig) (t : Trace) : Type 0 where
   pub blocks : AllByRecursion (HoldsBlock frames c t.inputs) (tried_blocks t)
   pub handed : AllByRecursion (IsTrueImage frames c t.inputs) (handed_items t.entries)
+  pub waiting : AllByRecursion (IsTrueImage frames c t.inputs) (board t).out
 
 -- ---- a camera that sends such frames
 
@@ -91,3 +104,16 @@ pub record SendsFrames (seed : ℕ) (shape : Shape) (room p : ℕ) (es : List Wo
 pub record AreOfMade (seed : ℕ) (shape : Shape) (room p : ℕ) (es : List WorldEvent) (packets : List StreamPacket) : Type 0 where
   pub generated : AreGenerated seed shape (made_in seed shape room es)
   pub frames : AreOfFrames (made_in seed shape room es) p packets
+
+-- Where the buffer is marked complete, its first bytes, as many as its record says, are the image that the
+-- generator makes under the block's id.
+abbrev pub IsGenerated : ℕ → Shape → Item → Type 0
+IsGenerated seed shape x =
+    x.filling.rec.complete ≡ true → take x.filling.rec.data_len x.filling.bytes ≡ (frame_of seed x.filling.rec.block shape).pixels
+
+-- The buffers hold what came of these frames; and where one that was handed out or waits in the output is
+-- marked complete, it's the generator's image.
+pub record HasGeneratedImages (seed : ℕ) (shape : Shape) (frames : ℕ → Option Frame) (c : AcqConfig) (t : Trace) : Type 0 where
+  pub images : HasTrueImages frames c t
+  pub handed : AllByRecursion (IsGenerated seed shape) (handed_items t.entries)
+  pub waiting : AllByRecursion (IsGenerated seed shape) (board t).out

@@ -13,7 +13,7 @@ use Rattle.control_session.specs.Schedule.{new_line, after}
 use Rattle.control_session.specs.Laws.{ActOnce}
 use Rattle.world_machine.specs.HostActs.{given_in}
 use Rattle.world_laws.specs.Schedule.{WorldEvent, session_acts, host_lines, IsWorld}
-use Rattle.world_laws.specs.Images.{AreOfFrames, HasTrueImages, SendsFrames, AreOfMade, made_in}
+use Rattle.world_laws.specs.Images.{AreOfFrames, HearsFrames, HasTrueImages, made_in, SendsFrames, AreOfMade, HasGeneratedImages}
 
 -- The commands of each session act once, while the client submitted fewer than 32,767.
 abbrev pub CommandsActOnce : ℕ → Shape → ℕ → Peer → List WorldEvent → Type 0
@@ -33,23 +33,33 @@ abbrev pub TraceKeepsPromises : ℕ → Shape → ℕ → Peer → List WorldEve
 TraceKeepsPromises seed shape room peer es =
     (c : AcqConfig) (t : Trace) → IsWorld peer (new_line seed shape room) es → IsTraceOf c es t → KeepsPromises c t
 
--- Where one map of frames stands behind the packets that the camera gave, each buffer that was filled or
--- handed out holds what came of its block's frame, or has the empty record.
+-- Where what the receiver hears is of one map of frames, each buffer that was filled holds what came of its
+-- block's frame, or has the empty record.
+abbrev pub HeardImagesAreTrue : ℕ → Shape → ℕ → Peer → List WorldEvent → Type 0
+HeardImagesAreTrue seed shape room peer es =
+    (frames : ℕ → Option Frame) (c : AcqConfig) (t : Trace) → IsWorld peer (new_line seed shape room) es
+    → HearsFrames frames c.p es → IsTraceOf c es t → HasTrueImages frames c t
+
+-- What the receiver hears is of a map of frames where the packets that the camera gave are.
+abbrev pub GivenPacketsAreHeard : ℕ → Shape → ℕ → Peer → List WorldEvent → Type 0
+GivenPacketsAreHeard seed shape room peer es =
+    (frames : ℕ → Option Frame) (p : ℕ) → IsWorld peer (new_line seed shape room) es
+    → AreOfFrames frames p (given_in (new_line seed shape room) (session_acts es)) → HearsFrames frames p es
+
+-- So the buffers hold what came of those.
 abbrev pub ImagesAreTrue : ℕ → Shape → ℕ → Peer → List WorldEvent → Type 0
 ImagesAreTrue seed shape room peer es =
     (frames : ℕ → Option Frame) (c : AcqConfig) (t : Trace) → IsWorld peer (new_line seed shape room) es
-    → AreOfFrames frames c.p (given_in (new_line seed shape room) (session_acts es)) → IsTraceOf c es t
-    → HasTrueImages frames c t
+    → AreOfFrames frames c.p (given_in (new_line seed shape room) (session_acts es)) → IsTraceOf c es t → HasTrueImages frames c t
 
--- The frames that the camera made are such a map.
-abbrev pub MadeFramesAreBehind : ℕ → Shape → ℕ → List WorldEvent → Type 0
-MadeFramesAreBehind seed shape room es =
+-- The packets that the camera gave are of the frames that it made.
+abbrev pub PacketsAreOfMadeFrames : ℕ → Shape → ℕ → List WorldEvent → Type 0
+PacketsAreOfMadeFrames seed shape room es =
     (p : ℕ) → SendsFrames seed shape room p es
     → AreOfMade seed shape room p es (given_in (new_line seed shape room) (session_acts es))
 
--- So each buffer that was filled or handed out holds what came of the frame that the camera made under its
--- block's id, or has the empty record.
+-- So the buffers hold what came of the frames that the camera made.
 abbrev pub ImagesAreOfMadeFrames : ℕ → Shape → ℕ → Peer → List WorldEvent → Type 0
 ImagesAreOfMadeFrames seed shape room peer es =
     (c : AcqConfig) (t : Trace) → IsWorld peer (new_line seed shape room) es → SendsFrames seed shape room c.p es → IsTraceOf c es t
-    → HasTrueImages (made_in seed shape room es) c t
+    → HasGeneratedImages seed shape (made_in seed shape room es) c t

@@ -4,3 +4,4 @@ pub mod Laws
 pub mod RunEvents
 pub mod SoakApplication
 pub mod RunLaws
+pub mod TakeLines

@@ -24,7 +24,7 @@ sent_leaves : {A : Type 0} (run : Run) (w : World A) (o : Option (List ℕ)) →
 sent_leaves run w None = refl
 sent_leaves run w (Some bytes) = refl
 
-asked_leaves : {A : Type 0} (run : Run) (w : World A) (asked : List (List ℕ)) → (all_to_camera run w asked).host ≡ w.host
+pub asked_leaves : {A : Type 0} (run : Run) (w : World A) (asked : List (List ℕ)) → (all_to_camera run w asked).host ≡ w.host
 asked_leaves run w [] = refl
 asked_leaves run w (bytes ∷ rest) = asked_leaves run (to_camera run w bytes) rest
 
@@ -43,7 +43,7 @@ obeyed_leaves : {A : Type 0} (run : Run) (w : World A) (ds : List Datagram) → 
 obeyed_leaves run w [] = refl
 obeyed_leaves run w (d ∷ rest) = obeyed_leaves run (obeys run w d) rest ∙ turned_leaves run w (command_turn w.camera client_peer d.bytes w.moment)
 
-camera_leaves : {A : Type 0} (run : Run) (w : World A) → (camera_turn run w).host ≡ w.host
+pub camera_leaves : {A : Type 0} (run : Run) (w : World A) → (camera_turn run w).host ≡ w.host
 camera_leaves {A} run w = obeyed_leaves run (looks run v) w.to_camera ∙ turned_leaves run v (tick_turn w.camera w.moment)
   where
     v : World A
@@ -53,7 +53,7 @@ either_leaves : {A : Type 0} (w : World A) (b : Bool) (x y : World A) → x.host
 either_leaves w true x y p q = p
 either_leaves w false x y p q = q
 
-frame_leaves : {A : Type 0} (run : Run) (w : World A) → (makes run w).host ≡ w.host
+pub frame_leaves : {A : Type 0} (run : Run) (w : World A) → (makes run w).host ≡ w.host
 frame_leaves {A} run w =
     either_leaves w (is_due run w) (sends_frame run w) w
     (either_leaves w (is_open w.camera) (turned run v (frame_turn w.camera)) (record w { is_over = true }) (turned_leaves run v (frame_turn w.camera)) refl) refl
@@ -66,7 +66,7 @@ submits_leaves None None w = refl
 submits_leaves None (Some c) w = refl
 submits_leaves (Some asked) next w = refl
 
-client_leaves : {A : Type 0} (run : Run) (w : World A) → (client_turn run w).world.host ≡ w.host
+pub client_leaves : {A : Type 0} (run : Run) (w : World A) → (client_turn run w).world.host ≡ w.host
 client_leaves {A} run w =
     sent_leaves run v (to_send (ticked (begins w).client w.moment).client.asked)
     ∙ submits_leaves w.client.asked (slice_get (setup_commands stream_peer) w.begun) w
@@ -81,7 +81,7 @@ arrival_is : {A : Type 0} (host : Host A) (start : A) (w : World A) (hs : List H
 arrival_is host start w hs Control bytes is = is
 arrival_is {A} host start w hs Stream bytes is = ap (λ (a : A). host.hears a bytes) is
 
-arrivals_are : {A : Type 0} (host : Host A) (start : A) (ds : List Datagram) (w : World A) (hs : List HostAct) → host_after host start hs ≡ w.host
+pub arrivals_are : {A : Type 0} (host : Host A) (start : A) (ds : List Datagram) (w : World A) (hs : List HostAct) → host_after host start hs ≡ w.host
     → host_after host start (with_hearings host w ds hs) ≡ (arrive_all host w ds).world.host
 arrivals_are host start [] w hs is = is
 arrivals_are {A} host start (d ∷ rest) w hs is =

@@ -1,0 +1,8 @@
+use lossy_queue::Rates;
+
+/// The numbers of the commands that make frames.
+pub struct Numbers {
+    pub seed: u64,
+    pub frames: u32,
+    pub rates: Rates,
+}

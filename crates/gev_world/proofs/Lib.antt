@@ -1,0 +1,10 @@
+pub mod FrameCounts
+pub mod Composing
+pub mod Steps
+pub mod Between
+pub mod Arrivals
+pub mod Asking
+pub mod Coming
+pub mod Closing
+pub mod Taking
+pub mod Rounding

@@ -1,0 +1,9 @@
+use Rattle.std.proofs.Common.{arith}
+use Rattle.soak_receiver.proofs.Listening.{heard_moves, heard_hosting}
+use Rattle.soak_receiver.proofs.hearing.hear_datagram.Goals as goal
+
+pub returns : goal.returns
+returns c = record {
+  moves = heard_moves c.args.running.now c.args.bytes.now c.hear.new.board c.hear.new.acq c.hear.new.counts c.requires (λ i. let fits = c.type_inv.bytes i in omega arith) c.hear.ensures.drives c.hear.ensures.rest c.hear.ensures.config;
+  hosting = heard_hosting c.args.running.now c.args.bytes.now c.hear.new.board c.hear.new.acq c.hear.new.counts c.requires (λ i. let fits = c.type_inv.bytes i in omega arith) c.hear.ensures.drives c.hear.ensures.rest c.hear.ensures.config;
+}

@@ -1,0 +1,4 @@
+pub mod Moves
+pub mod Taking
+pub mod Stocking
+pub mod Standing
