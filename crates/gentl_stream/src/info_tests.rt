@@ -4,7 +4,7 @@ ghost use Rattle.buffer_words.specs.Boards.{board_id};
 ghost use Rattle.buffer_words.specs.Passes.{IsEmptyHanded};
 
 use super::*;
-use buffer_words::{Board, Pass};
+use buffer_words::{Board, Pass, Tried};
 use gentl_types::{BufferId, GcError, Shown, State, Word};
 use gev_types::{Buf, PLACES};
 use std::alloc::Global;
@@ -16,6 +16,14 @@ const VACANT: Word = Word {
     size: 3,
     generation: 1,
 };
+
+/// The first buffer of this place.
+fn id(place: u8) -> BufferId {
+    BufferId {
+        place,
+        generation: 1,
+    }
+}
 
 fn announce(alloc: Global, board: &Board, pass: &mut Pass, place: u8) -> Result<(), Fail>
     requires table { pass.old.table ≡ board_id board.now }
@@ -45,29 +53,44 @@ fn announce_all(alloc: Global, board: &Board, pass: &mut Pass) -> Result<(), Fai
     Ok(())
 }
 
-/// Announces fifteen buffers, and puts the first one into the pool.
+/// Puts the buffer of this place into the output.
+fn fill(board: &Board, pass: &mut Pass, place: u8) -> Result<(), Fail>
+    requires table { pass.old.table ≡ board_id board.now }
+    requires in_range { place < place_count }
+    ensures table { pass.new.table ≡ pass.old.table }
+{
+    let Ok(()) = board.grab(pass, place, 1) else {
+        return Err(Fail::new("not held"));
+    };
+    let Tried::Did(true) = board.try_fill(pass, place) else {
+        return Err(Fail::new("not filled"));
+    };
+    Ok(())
+}
+
+/// Announces fifteen buffers, puts the first one into the pool, and the next two into the output.
 fn prepare(alloc: Global, board: &Board, pass: &mut Pass) -> Result<(), Fail>
     requires table { pass.old.table ≡ board_id board.now }
     requires empty { IsEmptyHanded pass.old }
     ensures table { pass.new.table ≡ pass.old.table }
 {
     announce_all(alloc, board, pass)?;
-    let Ok(()) = board.grab(pass, 0, 1) else {
-        return Err(Fail::new("not held"));
+    let Ok(()) = ds_queue(board, pass, id(0)) else {
+        return Err(Fail::new("not queued"));
     };
-    board.pool(pass, 0);
-    Ok(())
+    fill(board, pass, 1)?;
+    fill(board, pass, 2)
 }
 
 #[test]
 fn the_stream_tells_of_its_buffers(rt: HostRuntime) -> Result<(), Fail> {
     let (board, mut pass) = Board::new(rt.alloc())?;
     prepare(rt.alloc(), &board, &mut pass)?;
-    let _ = board.start(&mut pass);
+    let _ = ds_start(&board, &mut pass);
     let table = [
         (1, Err(GcError::NotAvailable(1))),
         (3, Ok(15)),
-        (5, Ok(0)),
+        (5, Ok(2)),
         (8, Ok(1)),
         (1000, Ok(1)),
     ];
@@ -77,32 +100,31 @@ fn the_stream_tells_of_its_buffers(rt: HostRuntime) -> Result<(), Fail> {
     Ok(())
 }
 
-// The second buffer is taken away; of the other places the first alone is in a queue.
+// The last buffer is taken away. The places 0 to 2 alone stand in a queue.
 #[test]
 fn a_buffer_tells_of_itself(rt: HostRuntime) -> Result<(), Fail> {
     let (board, mut pass) = Board::new(rt.alloc())?;
     prepare(rt.alloc(), &board, &mut pass)?;
-    let Ok(()) = board.grab(&mut pass, 1, 1) else {
-        return Err(Fail::new("not held"));
+    let Ok(_taken) = ds_revoke(&board, &mut pass, id(14)) else {
+        return Err(Fail::new("not revoked"));
     };
-    let _taken = board.vacate(&mut pass, 1);
     let gone = Err(GcError::InvalidHandle(Shown::Word(VACANT)));
     let outside = Err(GcError::InvalidHandle(Shown::NoHandle(15)));
     let table = [
         (0, 1, Ok(3)),
         (0, 1000, Ok(1)),
         (0, 4, Err(GcError::NotAvailable(4))),
-        (1, 1, gone),
-        (1, 4, gone),
-        (2, 1000, Ok(0)),
+        (2, 1000, Ok(1)),
+        (3, 1000, Ok(0)),
+        (14, 1, gone),
+        (14, 4, gone),
         (15, 1, outside),
     ];
     for (place, which, expected) in table {
-        let id = BufferId {
-            place,
-            generation: 1,
-        };
-        assert_eq!(rt; ds_buffer_info(&board, &mut pass, id, which), expected);
+        assert_eq!(rt;
+            ds_buffer_info(&board, &mut pass, id(place), which),
+            expected
+        );
     }
     Ok(())
 }
