@@ -3,16 +3,14 @@ use Rattle.std.proofs.Common.{◌≡◌, List, [], ◌∷◌, Option, Some, None
 use Rattle.lossy_queue.specs.declared.datagram.Datagram.{Datagram}
 use Rattle.soak_host.specs.Receiver.{Receiver, soak_host}
 use Rattle.soak_receiver.specs.Standing.{Hosting}
-use Rattle.world_machine.specs.State.{Run, World}
+use Rattle.world_machine.specs.State.{World}
 use Rattle.world_machine.specs.ClientTurn.{End, Passed}
 use Rattle.world_machine.specs.HostTurn.{arrives, unless_ended, arrive_all}
 use Rattle.world_machine.specs.HostActs.{HostAct, with_hearing, with_hearings}
 use Rattle.gev_world.specs.declared.stage.Stage.{Stage}
 use Rattle.gev_world.specs.declared.run_end.RunEnd.{RunEnd}
-use Rattle.gev_world.specs.Seen.{run_of, world_of}
 use Rattle.gev_world.specs.Ends.{meant_if}
-use Rattle.gev_world.specs.Hosts.{Stands, PassedTo, Arrives, ArriveAll, LeadsOn, StandsOn, Arriving, HostTurns}
-
+use Rattle.gev_world.specs.Hosts.{PassedTo, Arrives, ArriveAll, StandsOn, Arriving, HostTurns}
 
 -- it ends the run, or the run goes on with the others
 passes_as : (v : World Receiver) (d : Datagram) (rest : List Datagram) (o : Option End) → o ≡ (arrives soak_host v d.channel d.bytes).end

@@ -4,19 +4,17 @@ use Rattle.std.specs.Prelude.{if◌then◌else◌, slice_get}
 use Rattle.gvcp_wire.specs.Messages.{PlainCommand}
 use Rattle.stream_packets.specs.Packets.{StreamPacket}
 use Rattle.gvsp_wire.specs.Plain.{plain}
-use Rattle.lossy_queue.specs.declared.datagram.Channel.TheVariants.{Control, Stream}
+use Rattle.lossy_queue.specs.declared.datagram.Channel.TheVariants.{Stream}
 use Rattle.lossy_queue.specs.declared.datagram.Datagram.{Datagram}
 use Rattle.client_machine.specs.Machine.{Asked, Told, to_send, taken, ticked}
-use Rattle.camera_machine.specs.Camera.{Camera, is_open, looked}
+use Rattle.camera_machine.specs.Camera.{Camera, is_open}
 use Rattle.camera_machine.specs.Stream.{framed, with_frame, next_frame}
-use Rattle.camera_machine.specs.Commands.{commanded}
 use Rattle.camera_machine.specs.Events.{Turn, command_turn, tick_turn, frame_turn}
 use Rattle.soak_host.specs.Receiver.{Receiver}
 use Rattle.world_machine.specs.State.{Run, World}
 use Rattle.world_machine.specs.Queues.{to_host, sent_to_camera, ack_to_host, packets_to_host}
 use Rattle.world_machine.specs.ClientTurn.{client_peer, submits, begins, setup_commands, stream_peer, client_turn}
-use Rattle.world_machine.specs.CameraTurn.{turned, obeys, obeys_all, looks, camera_turn, is_due, makes, sends_frame}
-use Rattle.world_machine.specs.Rounds.{rises}
+use Rattle.world_machine.specs.CameraTurn.{turned, obeys, obeys_all, looks, camera_turn, is_due, makes}
 use Rattle.gev_world.proofs.FrameCounts.{Counts, counts_looked, counts_commanded}
 
 -- ---- what goes into the queues changes nothing else

@@ -1,6 +1,6 @@
 -- Whether a run is done, and the line that it ends with.
 use Rattle.std.proofs.Common.{◌≡◌, ℕ, Bool, true, false, List, [], ◌++◌, Option, Some, None, Result, Ok, Err, refl, sym, ap, subst, ◌∙◌, append-nil}
-use Rattle.std.specs.Prelude.{◌&&◌, ◌||◌, ◌==◌, not, nat_lt, if◌then◌else◌, IfOk}
+use Rattle.std.specs.Prelude.{◌&&◌, if◌then◌else◌, IfOk}
 use Rattle.gev_make.specs.declared.stop.Stop.{Stop}
 use Rattle.gev_make.specs.declared.stop.Stop.TheVariants.{NoMemory}
 use Rattle.gev_make.specs.Writing.{Writes}
@@ -17,9 +17,9 @@ use Rattle.world_machine.specs.HostActs.{HostAct}
 use Rattle.gev_world.specs.declared.stage.Stage.{Stage}
 use Rattle.gev_world.specs.declared.run_end.RunEnd.{RunEnd}
 use Rattle.gev_world.specs.declared.run_end.RunEnd.TheVariants as ends
-use Rattle.gev_world.specs.Seen.{run_of, world_of}
+use Rattle.gev_world.specs.Seen.{run_of}
 use Rattle.gev_world.specs.Hosts.{Stands}
-use Rattle.gev_world.specs.Rounds.{is_sent_out, outcome_of, Wrote, RoundPassed, EndsRound}
+use Rattle.gev_world.specs.Rounds.{is_sent_out, outcome_of, RoundPassed, EndsRound}
 
 -- ---- whether it is done
 

@@ -1,9 +1,9 @@
 -- The turns before the host's.
-use Rattle.std.proofs.Common.{◌≡◌, ℕ, ◌+◌, ◌≤◌, List, [], Option, Some, None, refl, sym, ap, subst, ◌∙◌}
+use Rattle.std.proofs.Common.{◌≡◌, ℕ, ◌+◌, ◌≤◌, [], Option, Some, None, refl, sym, ap, subst, ◌∙◌}
 use Rattle.client_machine.specs.declared.outcome.Outcome.{Outcome}
 use Rattle.client_machine.specs.declared.outcome.Outcome.TheVariants as outcomes
 use Rattle.soak_host.specs.Receiver.{Receiver, start}
-use Rattle.world_machine.specs.State.{Run, World}
+use Rattle.world_machine.specs.State.{World}
 use Rattle.world_machine.specs.ClientTurn.{SETUP_SIZE, end_of, client_turn}
 use Rattle.world_machine.specs.CameraTurn.{camera_turn, makes}
 use Rattle.world_machine.specs.Rounds.{rises}
@@ -12,9 +12,9 @@ use Rattle.gev_world.specs.declared.run_end.RunEnd.{RunEnd}
 use Rattle.gev_world.specs.Seen.{run_of, world_of, Does, IsBetween}
 use Rattle.gev_world.specs.Ends.{meant_if, told_end}
 use Rattle.gev_world.specs.Turns.{ClientDoes}
-use Rattle.gev_world.specs.Rounds.{before_host, ComesToHost}
+use Rattle.gev_world.specs.Rounds.{ComesToHost}
 use Rattle.gev_world.proofs.Composing.{does_then}
-use Rattle.gev_world.proofs.Between.{RestsAfter, rests_before_host, rests_after_camera}
+use Rattle.gev_world.proofs.Between.{rests_before_host, rests_after_camera}
 
 -- the code's end is the one that the client was told
 meant_told : (o : Outcome) → meant_if (told_end o) ≡ end_of o

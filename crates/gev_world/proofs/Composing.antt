@@ -10,7 +10,7 @@ use Rattle.camera_machine.specs.Stream.{all_waiting, emptied}
 use Rattle.soak_host.specs.Receiver.{Receiver}
 use Rattle.world_machine.specs.State.{Run, World}
 use Rattle.world_machine.specs.Queues.{ack_to_host, packets_to_host}
-use Rattle.world_machine.specs.ClientTurn.{client_peer, end_of, submits, begins, setup_commands, stream_peer, client_turn}
+use Rattle.world_machine.specs.ClientTurn.{client_peer, end_of, submits, begins}
 use Rattle.world_machine.specs.CameraTurn.{obeys, obeys_all}
 use Rattle.gev_world.specs.declared.stage.Stage.{Stage}
 use Rattle.gev_world.specs.Seen.{run_of, world_of, Does}
@@ -63,7 +63,7 @@ obeyed old heard new d bytes same h k =
     let all = does_then old heard new (λ run w. commanded_by run bytes w) drains h k in
     record {
       run = all.run;
-      world = λ host. all.world host ∙ ap (λ (b : List ℕ). drains (run_of old) (commanded_by (run_of old) b (world_of old host))) same 
+      world = λ host. all.world host ∙ ap (λ (b : List ℕ). drains (run_of old) (commanded_by (run_of old) b (world_of old host))) same
           ∙ drained (run_of old) (world_of old host) (commanded old.camera client_peer d.bytes old.moment).camera (commanded old.camera client_peer d.bytes old.moment).ack;
     }
 

@@ -1,5 +1,5 @@
 -- No command makes a camera count more frames.
-use Rattle.std.proofs.Common.{◌≡◌, ℕ, ◌≤◌, ◌+◌, Bool, true, false, List, [], ◌∷◌, length, Option, Some, None, Result, Ok, Err, arith}
+use Rattle.std.proofs.Common.{ℕ, ◌≤◌, Bool, true, false, List, [], ◌∷◌, length, Option, Some, None, Result, Ok, Err, arith}
 use Rattle.std.specs.Prelude.{◌/◌, ◌%◌, ◌==◌, ◌&&◌, ◌||◌, if◌then◌else◌}
 use Rattle.wire_fields.specs.Fields.{spelled}
 use Rattle.gev_types.specs.declared.peer.Peer.{Peer}
@@ -15,7 +15,7 @@ use Rattle.gvcp_wire.specs.declared.status.Status.TheVariants.{InvalidParameter,
 use Rattle.gvcp_wire.specs.Messages.{PlainCommand, read_reg, write_reg, read_mem, write_mem, other}
 use Rattle.gvcp_wire.specs.Reading.{command_reading}
 use Rattle.gvcp_aux.specs.declared.resend.Resend.{Resend}
-use Rattle.resend_store.specs.Shelf.{Shelf, empty_shelf}
+use Rattle.resend_store.specs.Shelf.{empty_shelf}
 use Rattle.camera_machine.specs.Words.{addresses_from}
 use Rattle.camera_machine.specs.Camera.{Kept, Camera, is_open, has_lost, released, looked}
 use Rattle.camera_machine.specs.Access.{Write, refusal_of, with_port, written, write_all, ended_by, after_one, read_all, addresses_in, pairs_in, words_in}

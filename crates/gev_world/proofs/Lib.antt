@@ -8,3 +8,6 @@ pub mod Coming
 pub mod Closing
 pub mod Taking
 pub mod Rounding
+pub mod Beginning
+pub mod Holding
+pub mod Looping

@@ -10,15 +10,15 @@ use Rattle.world_machine.specs.State.{Run, World}
 use Rattle.world_machine.specs.ClientTurn.{End, client_turn}
 use Rattle.world_machine.specs.CameraTurn.{camera_turn, makes}
 use Rattle.world_machine.specs.HostTurn.{host_turn, asks, takes}
-use Rattle.world_machine.specs.Rounds.{Round, rises, closes, from_host, from_camera, round}
+use Rattle.world_machine.specs.Rounds.{rises, closes, from_host, from_camera, round}
 use Rattle.world_machine.specs.HostActs.{HostAct, host_ticks, host_takes, host_after, with_hearings, with_host_turn, with_host_rest, with_host_round}
 use Rattle.world_laws.specs.SoakApplication.{soak_takes}
 use Rattle.gev_world.specs.declared.stage.Stage.{Stage}
 use Rattle.gev_world.specs.declared.run_end.RunEnd.{RunEnd}
 use Rattle.gev_world.specs.Seen.{run_of, world_of}
-use Rattle.gev_world.specs.Ends.{meant, meant_if}
+use Rattle.gev_world.specs.Ends.{meant_if}
 use Rattle.gev_world.specs.Hosts.{Stands, PassedTo, HostTurns, Asks, lines_by}
-use Rattle.gev_world.specs.Rounds.{before_host, ComesToHost, hosted_round, hosted_acts, RoundPassed, EndsRound}
+use Rattle.gev_world.specs.Rounds.{before_host, ComesToHost, hosted_round, hosted_acts, EndsRound}
 use Rattle.gev_world.proofs.Asking.{lines_then}
 use Rattle.gev_world.proofs.Closing.{closes_behind, takes_failed}
 

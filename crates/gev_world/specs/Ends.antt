@@ -1,5 +1,5 @@
 -- How a run ends, in the code's words.
-use Rattle.std.specs.Prelude.{ℕ, Option, Some, None, option_map}
+use Rattle.std.specs.Prelude.{Option, Some, None}
 use Rattle.client_machine.specs.declared.outcome.Outcome.{Outcome}
 use Rattle.client_machine.specs.declared.outcome.Outcome.TheVariants as outcomes
 use Rattle.world_machine.specs.ClientTurn.{End, done, no_answer, refused}

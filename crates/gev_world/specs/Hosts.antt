@@ -1,10 +1,10 @@
 -- What the code of a world with its host stands for, and what the parts of a round do to it.
-use Rattle.std.specs.Prelude.{◌≡◌, List, [], ◌∷◌, ◌++◌, Option, None}
+use Rattle.std.specs.Prelude.{◌≡◌, List, [], ◌∷◌, ◌++◌, Option}
 use Rattle.gev_script.specs.Lines.{ScriptLine}
 use Rattle.lossy_queue.specs.declared.datagram.Datagram.{Datagram}
 use Rattle.soak_host.specs.Receiver.{Receiver, soak_host, start}
 use Rattle.soak_receiver.specs.Standing.{Hosting, HostStands}
-use Rattle.world_machine.specs.State.{Run, World}
+use Rattle.world_machine.specs.State.{World}
 use Rattle.world_machine.specs.ClientTurn.{Passed}
 use Rattle.world_machine.specs.HostTurn.{arrives, arrive_all, host_turn, asks}
 use Rattle.world_machine.specs.HostActs.{HostAct, host_ticks, host_after, with_hearing, with_hearings}

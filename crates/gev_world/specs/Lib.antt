@@ -4,3 +4,4 @@ pub mod Ends
 pub mod Hosts
 pub mod Rounds
 pub mod Takes
+pub mod Runs

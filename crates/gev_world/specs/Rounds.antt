@@ -1,5 +1,5 @@
 -- What a round of the code does, writes, and how it ends.
-use Rattle.std.specs.Prelude.{◌≡◌, ◌≤◌, ◌==◌, ◌&&◌, ◌||◌, not, nat_lt, Bool, ℕ, List, [], Option, Some, None, Result, Ok, Err, IfOk}
+use Rattle.std.specs.Prelude.{◌≡◌, ◌==◌, ◌&&◌, ◌||◌, not, nat_lt, Bool, ℕ, List, [], Option, Some, None, Result, Ok, Err, IfOk}
 use Rattle.gev_make.specs.declared.stop.Stop.{Stop}
 use Rattle.gev_make.specs.Writing.{Writes}
 use Rattle.soak_host.specs.Receiver.{Receiver, soak_host}

@@ -83,11 +83,7 @@ fn obey(stage: &mut Stage, rooms: &mut Rooms, datagram: &Datagram) -> Result<(),
 }
 
 /// What is on its way to the camera reaches it, in order.
-fn obey_all(
-    stage: &mut Stage,
-    rooms: &mut Rooms,
-    arriving: &mut LossyQueue,
-) -> Result<(), NoMemory>
+fn obey_all(stage: &mut Stage, rooms: &mut Rooms, arriving: &mut LossyQueue) -> Result<(), NoMemory>
     ensures does { OnOk result (Does stage.old (λ run w. obeys_all run w arriving.old) stage.new) }
     ensures emptied { OnOk result (arriving.new ≡ []) }
 {

@@ -75,12 +75,9 @@ fn send(stage: &mut Stage) -> Result<(), NoMemory>
     ensures begun { stage.new.begun ≡ stage.old.begun }
 {
     if let Some(bytes) = stage.client.to_send() {
-        stage.to_camera.put(
-            stage.rates,
-            &mut stage.generator,
-            Channel::Control,
-            bytes,
-        )?;
+        stage
+            .to_camera
+            .put(stage.rates, &mut stage.generator, Channel::Control, bytes)?;
     }
     Ok(())
 }

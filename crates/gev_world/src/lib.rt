@@ -10,6 +10,11 @@ mod host_turn;
 mod network;
 mod rounds;
 mod run_end;
+mod soak_end;
 mod stage;
 mod takes;
 mod tools;
+mod world;
+
+pub use soak_end::SoakEnd;
+pub use world::World;

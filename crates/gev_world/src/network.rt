@@ -13,34 +13,25 @@ use lossy_queue::Channel;
 pub fn put_to_camera(stage: &mut Stage, bytes: &[u8]) -> Result<(), NoMemory>
     ensures { OnOk result (Does stage.old (λ run w. to_camera run w bytes.now) stage.new) }
 {
-    stage.to_camera.put(
-        stage.rates,
-        &mut stage.generator,
-        Channel::Control,
-        bytes,
-    )
+    stage
+        .to_camera
+        .put(stage.rates, &mut stage.generator, Channel::Control, bytes)
 }
 
 /// Puts an acknowledge into the host's queue.
 pub fn put_ack(stage: &mut Stage, bytes: &[u8]) -> Result<(), NoMemory>
     ensures { OnOk result (Does stage.old (λ run w. to_host run w (record { channel = Control; bytes = bytes.now })) stage.new) }
 {
-    stage.to_host.put(
-        stage.rates,
-        &mut stage.generator,
-        Channel::Control,
-        bytes,
-    )
+    stage
+        .to_host
+        .put(stage.rates, &mut stage.generator, Channel::Control, bytes)
 }
 
 /// Puts a packet into the host's queue.
 pub fn put_packet(stage: &mut Stage, bytes: &[u8]) -> Result<(), NoMemory>
     ensures { OnOk result (Does stage.old (λ run w. to_host run w (record { channel = Stream; bytes = bytes.now })) stage.new) }
 {
-    stage.to_host.put(
-        stage.rates,
-        &mut stage.generator,
-        Channel::Stream,
-        bytes,
-    )
+    stage
+        .to_host
+        .put(stage.rates, &mut stage.generator, Channel::Stream, bytes)
 }

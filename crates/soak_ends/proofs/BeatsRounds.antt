@@ -203,7 +203,7 @@ pace_is_carried {A} beats begun moment host v d all e p = go d.channel d.bytes
 -- ---- rounds
 
 -- What holds after n rounds, none of which ended the run.
-record IsBeating {A : Type 0} (run : Run) (acts : List Act) (w : World A) (n : ℕ) : Type 0 where
+pub record IsBeating {A : Type 0} (run : Run) (acts : List Act) (w : World A) (n : ℕ) : Type 0 where
   pub beats : ℕ
   pub counted : length (submitted_by run acts) ≡ w.begun + beats
   pub most : w.begun ≤ SETUP_SIZE
@@ -264,7 +264,7 @@ same_client : {A : Type 0} (run : Run) (host : Host A) (start : A) (n : ℕ) →
     → (line_of run (acts_after run host start n)).client ≡ (world_after run host start n).client
 same_client run host start n none = (rounds_are_acts run host start n none).client
 
-beating : {A : Type 0} (run : Run) (host : Host A) (start : A) (n : ℕ) → AsksNoAccess host → GoesOn run host start n
+pub beating : {A : Type 0} (run : Run) (host : Host A) (start : A) (n : ℕ) → AsksNoAccess host → GoesOn run host start n
     → IsBeating run (acts_after run host start n) (world_after run host start n) n
 beating run host start zero none h = record { beats = 0; counted = refl; most = omega arith; moment_is = refl; paced = refl }
 beating run host start (suc n) none h =

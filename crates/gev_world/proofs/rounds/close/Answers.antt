@@ -1,4 +1,4 @@
-use Rattle.std.proofs.Common.{sym, ◌∙◌, subst}
+use Rattle.std.proofs.Common.{sym, ◌∙◌}
 use Rattle.std.proofs.lemmas.Result.{err_from_is_err_and}
 use Rattle.gev_make.specs.declared.stop.Stop.TheVariants.{WriteFault}
 use Rattle.gev_world.proofs.Closing.{said_last, closes_not, closes_done, closes_failed, stops_unwritten}

@@ -1,4 +1,3 @@
-use Rattle.std.proofs.Common.{ap, ◌∙◌}
 use Rattle.gev_world.proofs.Closing.{numbers_are}
 use Rattle.gev_world.proofs.rounds.last_numbers.Goals as goal
 

@@ -1,4 +1,4 @@
-use Rattle.std.proofs.Common.{None, Option, Some, subst}
+use Rattle.std.proofs.Common.{Option, subst}
 use Rattle.gev_world.specs.declared.run_end.RunEnd.{RunEnd}
 use Rattle.gev_world.specs.Rounds.{ComesToHost}
 use Rattle.gev_world.proofs.Closing.{stops_unwritten}
