@@ -9,10 +9,11 @@ use Rattle.camera_trace.specs.Standing as camera
 use Rattle.camera_trace.specs.Laws.{IsTold}
 use Rattle.gev_make.specs.MakeText.{make_text}
 use Rattle.gev_top.specs.declared.status.Status.{Status}
-use Rattle.gev_top.specs.declared.status.Status.TheVariants.{Done, Usage, BadScript, ReadFault, WriteFault, NoMemory}
+use Rattle.gev_top.specs.declared.status.Status.TheVariants.{Done, Usage, BadScript, ReadFault, WriteFault, NoMemory, NoAnswer, Refused}
 use Rattle.gev_top.specs.declared.command.Command.{Command}
-use Rattle.gev_top.specs.declared.command.Command.TheVariants.{Replay, Camera, Make}
+use Rattle.gev_top.specs.declared.command.Command.TheVariants.{Replay, Camera, Make, Soak}
 use Rattle.gev_top.specs.Scripts.{Ends, IfEnded, AnswersContent}
+use Rattle.gev_top.specs.Soaking.{Soaks}
 
 -- A replay: behind each line its trace keeps its promises. It is a run of the board machine, each buffer
 -- has one owner at each step, buffers are handed out once and in the order of their fills, the
@@ -45,6 +46,8 @@ Writes text NoMemory written written_after writes writes_after = WritesFront wri
 Writes text ReadFault written written_after writes writes_after = ⊥
 Writes text (BadScript line kind) written written_after writes writes_after = ⊥
 Writes text (Usage place) written written_after writes writes_after = ⊥
+Writes text (NoAnswer req) written written_after writes writes_after = ⊥
+Writes text (Refused status) written written_after writes writes_after = ⊥
 
 -- A text is made, and nothing is read.
 pub record Makes (text : List ℕ) (status : Status) (left left_after : Option (List ℕ)) (reads reads_after : ℕ) (written written_after : Option (List ℕ)) (writes writes_after : ℕ) : Type 0 where
@@ -58,9 +61,11 @@ abbrev pub Answers : Command → Status → Option (List ℕ) → Option (List �
 Answers Replay = Replays
 Answers Camera = Serves
 Answers (Make seed frames rates) = Makes (make_text seed frames rates)
+Answers (Soak seed frames rates) = Soaks (record { seed = seed; frames = frames; rates = rates })
 
 -- the answer where a source holds these bytes, but for faults and want of memory
 abbrev pub IsDecided : Command → Status → List ℕ → Type 0
 IsDecided Replay status content = AnswersContent status (outcome replay.replay_verdict content)
 IsDecided Camera status content = AnswersContent status (outcome camera.camera_verdict content)
 IsDecided (Make seed frames rates) status content = ⊤
+IsDecided (Soak seed frames rates) status content = ⊤

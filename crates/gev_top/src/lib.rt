@@ -1,12 +1,15 @@
 //! The program's top call: what `gevacq` does with its words, its input and its output.
 //!
 //! `specs/Usage.antt` says which words are which command, and `specs/Answers.antt` what a command has read
-//! and written by its answer. They stand on the definitions of `script_runs`, `script_trace` and `gev_make`.
+//! and written by its answer. They stand on the definitions of `script_runs`, `script_trace`, `gev_make`
+//! and `gev_world`.
 #![tactic(auto)]
 
 mod command;
 mod making;
+mod numbers;
 mod scripts;
+mod soaking;
 mod status;
 #[cfg(test)]
 mod tests;

@@ -8,6 +8,7 @@ ghost use Rattle.gev_top.specs.Usage.{command_of, usage_fault};
 use crate::command::Command;
 use crate::making::make_script;
 use crate::scripts::{camera, replay};
+use crate::soaking::soak;
 use crate::status::Status;
 use crate::usage::read_words;
 use gev_links::{Sink, Source};
@@ -24,6 +25,10 @@ use std::alloc::Global;
 ///
 /// `make` with a seed, a number of frames and the rates of loss, repeats and swaps writes a replay script
 /// to the sink.
+///
+/// `soak` with the same numbers runs a camera, a network and a host as one machine, and writes a line for
+/// each buffer that the host takes, and what it counted. Memory grows with the rates, not with the number of
+/// frames.
 pub fn gevacq_top<S: Source, K: Sink>(
     alloc: Global,
     words: &[String],
@@ -40,7 +45,9 @@ pub fn gevacq_top<S: Source, K: Sink>(
     // of faults rose. The bytes that a replay writes are the report of one trace, which keeps its promises:
     // under each map of frames from which the datagrams were sent, an image that is marked complete is its
     // block's frame. Those that a camera script writes are what events of one camera print. Of a script that
-    // is made: it was written whole, or a front of it.
+    // is made: it was written whole, or a front of it. Of a soak run: its text was written, or a front of it,
+    // the answer is the run's end, its receiver's history keeps the promises of a trace, each image that is
+    // marked complete is the generator's, and its commands act once.
     ensures cause { (command : Command) → command_of (map (λ word. string_bytes word) words.now) ≡ Ok command
         → Answers command result (S.left source.old) (S.left source.new) (S.faults source.old) (S.faults source.new)
         (K.written sink.old) (K.written sink.new) (K.faults sink.old) (K.faults sink.new) }
@@ -81,5 +88,10 @@ fn run_command<S: Source, K: Sink>(
             frames,
             rates,
         } => make_script(alloc, seed, frames, rates, sink),
+        Command::Soak {
+            seed,
+            frames,
+            rates,
+        } => soak(alloc, seed, frames, rates, sink),
     }
 }

@@ -4,7 +4,7 @@ use Rattle.std.proofs.lemmas.Bool.{cases_order}
 use Rattle.gev_make.specs.declared.stop.Stop.{Stop}
 use Rattle.gev_make.specs.declared.stop.Stop.TheVariants as stops
 use Rattle.gev_make.specs.Writing.{Writes}
-use Rattle.gev_make.proofs.Texts.{Leads, leads_start, leads_on, leads_stops}
+use Rattle.gev_make.proofs.Texts.{Leads, leads_start, leads_on, leads_stops, writes_none}
 use Rattle.soak_host.specs.Receiver.{Receiver, soak_config, soak_host, start}
 use Rattle.soak_receiver.specs.Standing.{Hosting}
 use Rattle.soak_ends.specs.Setup.{GoesOn}
@@ -28,6 +28,7 @@ use Rattle.gev_world.specs.declared.run_end.RunEnd.{RunEnd}
 use Rattle.gev_world.specs.declared.run_end.RunEnd.TheVariants as run_ends_as
 use Rattle.gev_world.specs.declared.stage.Stage.{Stage}
 use Rattle.gev_world.specs.declared.world.World.{World as Code}
+use Rattle.gev_world.specs.declared.soak_end.SoakEnd.TheVariants as ends
 use Rattle.gev_world.specs.Seen.{run_of, IsBetween}
 use Rattle.gev_world.specs.Ends.{meant}
 use Rattle.gev_world.specs.Hosts.{Stands}
@@ -280,3 +281,22 @@ run_stopped run w v u f g h x y stop k did = record {
   where
     last : (n : ℕ) × EndsAfter run soak_host start k.text k.end n
     last = ends_in_a_round run soak_host start k.text k.end k.soak
+
+-- nothing was run, for want of memory
+pub unrun : (run : Run) (w : Option (List ℕ)) (f : ℕ) → run.frames < 2 ^ 32 → RunsSoak ends.NoMemory run w w f f
+unrun run w f few = record {
+  text = t.0;
+  end = t.1;
+  soak = t.2;
+  is_end = tt;
+  wrote = writes_none w f t.0;
+  last = last.0;
+  holds = soak_holds run t.0 t.1 last.0 (omega (arith, few)) last.1;
+  traced = tt;
+}
+  where
+    t : (text : List ℕ) × (e : End) × Soak run soak_host start text e
+    t = has_text run
+
+    last : (n : ℕ) × EndsAfter run soak_host start t.0 t.1 n
+    last = ends_in_a_round run soak_host start t.0 t.1 t.2
