@@ -1,11 +1,11 @@
 //! The single steps on the output's word.
 ghost use Rattle.std.specs.Prelude.{◌≡◌, ◌≢◌, ◌<◌, ◌≤◌, ◌^◌};
+ghost use Rattle.gev_types.specs.Limits.{place_count};
 ghost use Rattle.board_machine.specs.declared.events.Event.TheVariants as event;
 ghost use Rattle.board_machine.specs.declared.events.TakeEnd.TheVariants as take_end;
 ghost use Rattle.buffer_words.specs.Boards.{board_id};
 ghost use Rattle.buffer_words.specs.Plays.{IsIdle, HoldsBuffer, LooksAt};
 ghost use Rattle.buffer_words.specs.Swept.{TakesAll};
-ghost use Rattle.gev_types.specs.Limits.{place_count};
 ghost use Rattle.buffer_words.specs.Output.{AreFields, HasFields, IsMarked, ReadsOut, TakesOut, first_in, IsUnit, HasLast, RefusesFill, FillsOut};
 
 use crate::output_plays::{CloseOut, Fill, LookOut, SeeFirst, SeeMark, SweepOut, TakeFirst};
