@@ -47,7 +47,8 @@ fn turn<R: Wait, G: Gate>(
 /// EventGetData: waits for a filled buffer, for `timeout` milliseconds by this clock, and takes the first
 /// one as a loan, which `ds_return` ends. `InvalidHandle` where the stream was closed, `Abort` where the
 /// output was empty and a kill was posted, and `Timeout` with the first and the last moment where it was
-/// empty, no kill was posted, and the last moment is at least `timeout` after the first.
+/// empty, no kill was posted, and the last moment is at least `timeout` after the first. A moment below the
+/// first counts as the first, so with `timeout` 0 there is one turn.
 ///
 /// It passes point 2 of the gate after each buffer that it took.
 pub fn event_get<R: Wait, C: Clock, G: Gate>(

@@ -1,5 +1,5 @@
 -- What a preparation adds: nobody is split off, and where the pass was alone nothing else was added.
-use Rattle.std.proofs.Common.{◌≡◌, ℕ, zero, suc, ◌+◌, List, [], ◌∷◌, ◌++◌, Ok, Err, refl, sym, ap, subst, ◌∙◌, inl, inr}
+use Rattle.std.proofs.Common.{◌≡◌, ℕ, zero, suc, ◌+◌, List, [], ◌∷◌, ◌++◌, Ok, Err, refl, sym, ap, subst, ◌∙◌, inr}
 use Rattle.gentl_types.specs.declared.buffer_id.BufferId.{BufferId}
 use Rattle.gentl_types.specs.declared.errors.GcError.{GcError}
 use Rattle.gentl_types.specs.declared.word.Word.{Word}
@@ -14,14 +14,11 @@ use Rattle.board_calls.specs.Rounds.{refused_from}
 use Rattle.board_calls.specs.Calls.{OpensWith, Announces, Queues}
 use Rattle.buffer_words.specs.Passes.{Token, own}
 use Rattle.buffer_words.specs.Several.{EntersOf, BearNone}
-use Rattle.buffer_words.proofs.Several.{of_as, of_then}
+use Rattle.buffer_words.proofs.Several.{of_then}
 use Rattle.buffer_words.proofs.Working.{born_none}
 use Rattle.shared_calls.specs.Shares.{Prepares, Divides, Shares}
 
 -- the entries of both calls
-pub announce_refused : (s t : Token) (size : ℕ) (error : GcError) → EntersOf s (Announces size (Err error)) t → EntersOf s (Prepares size (Err error)) t
-announce_refused s t size error first = of_as s t (Announces size (Err error)) (Prepares size (Err error)) (λ es kind. inl kind) first
-
 pub queue_refused : (s t u : Token) (size : ℕ) (id : BufferId) (error : GcError) → EntersOf s (Announces size (Ok id)) t → EntersOf t (Queues id (Err error)) u → EntersOf s (Prepares size (Err error)) u
 queue_refused s t u size id error first second =
     of_then s t u (Announces size (Ok id)) (Queues id (Err error)) (Prepares size (Err error))
@@ -44,7 +41,7 @@ bear_refused i size (w ∷ words) = (refl, bear_refused (i + 1) size words)
 bear_opens : (rest es : List Event) → BearNone rest → OpensWith rest es → BearNone es
 bear_opens rest es none opens = subst (λ (fs : List Event). BearNone fs) (sym opens.is) (refl, none)
 
-pub bear_none : (size : ℕ) (id : BufferId) (es : List Event) → Prepares size (Ok id) es → BearNone es
+bear_none : (size : ℕ) (id : BufferId) (es : List Event) → Prepares size (Ok id) es → BearNone es
 bear_none size id es prepares = subst (λ (fs : List Event). BearNone fs) (sym prepares.is) (bear_both prepares.announced prepares.queued announced queued)
   where
     announced : BearNone prepares.announced
@@ -72,7 +69,7 @@ all_seen : (s t : Token) (K : List Event → Type 0) → s.number ≡ 0 → s.se
 all_seen s t K number unseen of =
     of.enters.seen ∙ (ap (λ l. l ++ of.enters.between) unseen ∙ ((of.enters.alone (begins_alone s number unseen)).only ∙ ap (λ n. entries_of n of.events) number))
 
-pub first_number : (s t : Token) (K : List Event → Type 0) → s.number ≡ 0 → EntersOf s K t → t.number ≡ 0
+first_number : (s t : Token) (K : List Event → Type 0) → s.number ≡ 0 → EntersOf s K t → t.number ≡ 0
 first_number s t K number of = of.enters.number ∙ number
 
 pub none_born : (s t : Token) (size : ℕ) (id : BufferId) → s.number ≡ 0 → s.seen ≡ [] → EntersOf s (Prepares size (Ok id)) t → born (own t) ≡ []

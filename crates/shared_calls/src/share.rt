@@ -1,6 +1,6 @@
 //! A buffer that is announced and queued by one thread, filled by a second one and taken by a third.
 
-ghost use Rattle.std.specs.Prelude.{◌≡◌, [], IfOk};
+ghost use Rattle.std.specs.Prelude.{◌≡◌, [], IfOk, IfErr, Err};
 ghost use Rattle.board_machine.specs.Histories.{Run, After};
 ghost use Rattle.board_machine.specs.Owners.{IsOwned};
 ghost use Rattle.board_machine.specs.Handout.{IsLegal};
@@ -81,6 +81,7 @@ pub fn share_board<R: Threads + Wait + Sync, C: Clock + Send + Drop>(
     ensures owned { IsOwned (After pass.new.seen) }
     ensures legal { IsLegal pass.new.seen }
     ensures alone { IsAlone (After pass.new.seen) 0 }
+    ensures refused { IfErr result (λ error. EntersOf pass.old (Prepares size (Err error)) pass.new) }
     ensures shares { IfOk result (λ id. Shares size id pass.new.seen) }
     ensures empty { IsEmptyHanded pass.new }
 {
