@@ -13,6 +13,8 @@ mod run_end;
 mod soak_end;
 mod stage;
 mod takes;
+#[cfg(test)]
+mod tests;
 mod tools;
 mod world;
 
