@@ -7,7 +7,7 @@ use std::test::Fail;
 /// The words of a command line, and the place of the first that isn't understood.
 type Refused = (&'static [&'static str], u32);
 
-const OTHER_WORDS: [Refused; 20] = [
+const OTHER_WORDS: [Refused; 26] = [
     (&[], 0),
     (&["reply"], 0),
     (&["Replay"], 0),
@@ -28,6 +28,12 @@ const OTHER_WORDS: [Refused; 20] = [
     (&["make", "1", "0", "0", "0"], 5),
     (&["make", "1", "1", "1", "1", "1001"], 5),
     (&["make", "1", "0", "0", "0", "0", "0"], 6),
+    (&["soak"], 1),
+    (&["soak", "-1", "0", "0", "0", "0"], 1),
+    (&["soak", "1", "100001", "0", "0", "0"], 2),
+    (&["soak", "1", "2"], 3),
+    (&["soak", "1", "0", "0", "0", "01"], 5),
+    (&["soak", "1", "0", "0", "0", "0", "make"], 6),
 ];
 
 #[test]
@@ -58,6 +64,17 @@ fn numbers_and_texts(rt: HostRuntime) -> Result<(), Fail> {
         (Status::ReadFault, 4, "reading failed"),
         (Status::WriteFault, 5, "writing failed"),
         (Status::NoMemory, 7, "out of memory"),
+        (Status::NoAnswer { req: 1 }, 9, "no answer to request 1"),
+        (
+            Status::Refused { status: 0x8006 },
+            10,
+            "refused with status 0x8006",
+        ),
+        (
+            Status::Refused { status: 0x2a },
+            10,
+            "refused with status 0x002a",
+        ),
     ];
     assert_eq!(rt; Status::Done.number(), 0);
     for (status, number, text) in cases {
