@@ -10,6 +10,7 @@ mod faults;
 mod handles;
 mod making;
 mod refusals;
+mod second_reading;
 mod waiting;
 mod words;
 
