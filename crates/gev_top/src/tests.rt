@@ -10,6 +10,7 @@ mod faults;
 mod handles;
 mod making;
 mod refusals;
+mod second_reading;
 mod soaking;
 mod waiting;
 mod words;

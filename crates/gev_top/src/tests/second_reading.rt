@@ -1,0 +1,255 @@
+//! Command lines are read by the crate, and a second time by `clap`.
+
+use super::word_list;
+use crate::Command;
+use crate::numbers::Numbers;
+use crate::usage::read_words;
+use clap::builder::ValueParser;
+use clap::error::ErrorKind;
+use clap::{Arg, ArgMatches, Error};
+use lossy_queue::Rates;
+use std::alloc::{AllocError, Global};
+use std::test::Fail;
+
+/// The words of a command line.
+type Words = &'static [&'static str];
+
+/// Command lines of one word.
+const WORDS_ALONE: [(Words, Command); 2] = [
+    (&["replay"], Command::Replay),
+    (&["camera"], Command::Camera),
+];
+
+/// Refused words: the place of the first that isn't understood, and what `clap` finds wrong.
+const REFUSED: [(Words, u32, ErrorKind); 12] = [
+    (&[], 0, ErrorKind::MissingSubcommand),
+    (&["reply"], 0, ErrorKind::InvalidSubcommand),
+    (&["Replay"], 0, ErrorKind::InvalidSubcommand),
+    (&["replay", "replay"], 1, ErrorKind::UnknownArgument),
+    (&["camera", "replay"], 1, ErrorKind::UnknownArgument),
+    (&["make"], 1, ErrorKind::MissingRequiredArgument),
+    (
+        &["make", "x", "0", "0", "0", "0"],
+        1,
+        ErrorKind::ValueValidation,
+    ),
+    (
+        &["soak", "18446744073709551616", "0", "0", "0", "0"],
+        1,
+        ErrorKind::ValueValidation,
+    ),
+    (
+        &["make", "1", "100001", "0", "0", "0"],
+        2,
+        ErrorKind::ValueValidation,
+    ),
+    (
+        &["soak", "1", "0", "1001", "0", "0"],
+        3,
+        ErrorKind::ValueValidation,
+    ),
+    (
+        &["soak", "1", "0", "0", "0"],
+        5,
+        ErrorKind::MissingRequiredArgument,
+    ),
+    (
+        &["make", "1", "0", "0", "0", "0", "0"],
+        6,
+        ErrorKind::UnknownArgument,
+    ),
+];
+
+/// The command of these numbers after `make`.
+fn make(seed: u64, frames: u32, loss: u16, repeat: u16, swap: u16) -> Command {
+    let rates = Rates { loss, repeat, swap };
+    Command::Make {
+        seed,
+        frames,
+        rates,
+    }
+}
+
+/// The command of these numbers after `soak`.
+fn soak(seed: u64, frames: u32, loss: u16, repeat: u16, swap: u16) -> Command {
+    let rates = Rates { loss, repeat, swap };
+    Command::Soak {
+        seed,
+        frames,
+        rates,
+    }
+}
+
+/// One number from 0 to this one.
+fn number(alloc: Global, name: &'static str, most: u64) -> Arg<'static> {
+    Arg::new(alloc, name)
+        .required(true)
+        .value_parser(ValueParser::Unsigned(0, most))
+}
+
+/// A command that wants five numbers.
+fn with_numbers(alloc: Global, name: &'static str) -> Result<clap::Command<'static>, AllocError> {
+    clap::Command::new(alloc, name)
+        .arg(number(alloc, "seed", u64::MAX))?
+        .arg(number(alloc, "frames", 100_000))?
+        .arg(number(alloc, "loss", 1000))?
+        .arg(number(alloc, "repeat", 1000))?
+        .arg(number(alloc, "swap", 1000))
+}
+
+/// What `clap` finds in the words.
+fn matches_of(alloc: Global, words: Words) -> Result<ArgMatches<'static>, Error> {
+    let program = clap::Command::new(alloc, "gevacq")
+        .no_binary_name(true)
+        .subcommand_required(true)
+        .subcommand(clap::Command::new(alloc, "replay"))?
+        .subcommand(clap::Command::new(alloc, "camera"))?
+        .subcommand(with_numbers(alloc, "make")?)?
+        .subcommand(with_numbers(alloc, "soak")?)?;
+    program.try_get_matches_from(words)
+}
+
+/// The five numbers that were found.
+fn found_numbers(found: &ArgMatches<'static>) -> Option<Numbers> {
+    let rates = Rates {
+        loss: found.get_one::<u16>("loss")?,
+        repeat: found.get_one::<u16>("repeat")?,
+        swap: found.get_one::<u16>("swap")?,
+    };
+    Some(Numbers {
+        seed: found.get_one::<u64>("seed")?,
+        frames: found.get_one::<u32>("frames")?,
+        rates,
+    })
+}
+
+/// The command that was found.
+fn found_command(found: &ArgMatches<'static>) -> Option<Command> {
+    let (name, inner) = found.subcommand()?;
+    if name == "replay" {
+        return Some(Command::Replay);
+    }
+    if name == "camera" {
+        return Some(Command::Camera);
+    }
+    let Numbers {
+        seed,
+        frames,
+        rates,
+    } = found_numbers(inner)?;
+    if name == "make" {
+        return Some(Command::Make {
+            seed,
+            frames,
+            rates,
+        });
+    }
+    if name == "soak" {
+        return Some(Command::Soak {
+            seed,
+            frames,
+            rates,
+        });
+    }
+    None
+}
+
+/// Lines of `make`, and the command that each is.
+fn made() -> [(Words, Command); 6] {
+    [
+        (&["make", "0", "0", "0", "0", "0"], make(0, 0, 0, 0, 0)),
+        (&["make", "1", "2", "3", "4", "5"], make(1, 2, 3, 4, 5)),
+        (
+            &["make", "7", "100000", "1000", "1000", "1000"],
+            make(7, 100_000, 1000, 1000, 1000),
+        ),
+        (
+            &["make", "18446744073709551615", "99999", "999", "10", "0"],
+            make(18_446_744_073_709_551_615, 99_999, 999, 10, 0),
+        ),
+        (
+            &["make", "9223372036854775808", "50", "0", "0", "1000"],
+            make(9_223_372_036_854_775_808, 50, 0, 0, 1000),
+        ),
+        (
+            &["make", "4294967296", "65536", "256", "255", "500"],
+            make(4_294_967_296, 65_536, 256, 255, 500),
+        ),
+    ]
+}
+
+/// Lines of `soak`, and the command that each is.
+fn soaked() -> [(Words, Command); 6] {
+    [
+        (&["soak", "0", "0", "0", "0", "0"], soak(0, 0, 0, 0, 0)),
+        (&["soak", "6", "7", "8", "9", "10"], soak(6, 7, 8, 9, 10)),
+        (
+            &[
+                "soak",
+                "18446744073709551615",
+                "100000",
+                "1000",
+                "1000",
+                "1000",
+            ],
+            soak(18_446_744_073_709_551_615, 100_000, 1000, 1000, 1000),
+        ),
+        (
+            &["soak", "18446744073709551614", "1", "0", "1000", "0"],
+            soak(18_446_744_073_709_551_614, 1, 0, 1000, 0),
+        ),
+        (
+            &["soak", "42", "12345", "100", "20", "3"],
+            soak(42, 12_345, 100, 20, 3),
+        ),
+        (
+            &["soak", "10000000000000000000", "10", "1", "999", "998"],
+            soak(10_000_000_000_000_000_000, 10, 1, 999, 998),
+        ),
+    ]
+}
+
+/// What the crate reads in the words, and what `clap` does.
+fn readings(alloc: Global, words: Words) -> Result<[Option<Command>; 2], Fail> {
+    let first = read_words(&word_list(alloc, words)?).ok();
+    let second = found_command(&matches_of(alloc, words)?);
+    Ok([first, second])
+}
+
+#[test]
+fn both_read_words_alone(rt: HostRuntime) -> Result<(), Fail> {
+    for (words, command) in WORDS_ALONE {
+        assert_eq!(rt;
+            readings(rt.alloc(), words)?,
+            [Some(command); 2],
+            "{words:?}"
+        );
+    }
+    Ok(())
+}
+
+#[test]
+fn both_read_words_and_numbers(rt: HostRuntime) -> Result<(), Fail> {
+    for table in [made(), soaked()] {
+        for (words, command) in table {
+            assert_eq!(rt;
+                readings(rt.alloc(), words)?,
+                [Some(command); 2],
+                "{words:?}"
+            );
+        }
+    }
+    Ok(())
+}
+
+#[test]
+fn both_refuse(rt: HostRuntime) -> Result<(), Fail> {
+    let alloc = rt.alloc();
+    for (words, place, kind) in REFUSED {
+        let first = read_words(&word_list(alloc, words)?);
+        let second = matches_of(alloc, words).err().map(|error| error.kind());
+        assert_eq!(rt; first, Err(place), "{words:?}");
+        assert_eq!(rt; second, Some(kind), "{words:?}");
+    }
+    Ok(())
+}
