@@ -6,7 +6,7 @@ use buffer_words::{Board, Pass};
 use gentl_types::{BufferId, GcError, Shown, State, Word};
 use gev_types::{Buf, Record};
 use input_pool::claim;
-use output_queue::{FillEnd, TakeEnd, fill, take};
+use output_queue::{FillEnd, TakeEnd, close, fill, take};
 use std::alloc::Global;
 use std::process::Abort;
 use std::sync::Wait;
@@ -429,6 +429,71 @@ fn buffers_in_other_hands_stay_there(rt: HostRuntime) -> Result<(), Fail> {
             (Call::Revoke(id(0, 1)), revoked),
         ];
         run_calls(&rt, rt.alloc(), &board, &mut pass, &rows);
+    }
+    Ok(())
+}
+
+/// Another pass closes the stream where the only buffer is at this spot, and then this pass goes on: whether
+/// it sees the close.
+fn close_at<R: Wait>(
+    rt: &R,
+    board: &Board,
+    host: &mut Pass,
+    pass: &mut Pass,
+    spot: Spot,
+) -> Result<bool, Fail>
+    requires host { host.old.table ≡ board_id board.now }
+    requires table { pass.old.table ≡ board_id board.now }
+{
+    if spot == Spot::Pool {
+        close(board, host);
+        return Ok(claim(rt, board, pass) != Some(0));
+    }
+    let Some(place) = claim(rt, board, pass) else {
+        return Err(Fail::new("nothing claimed"));
+    };
+    let buf = board.lift(pass, place);
+    if spot == Spot::Claimed {
+        close(board, host);
+        return match fill(rt, board, pass, place, buf) {
+            FillEnd::Filled => Ok(false),
+            FillEnd::Closed(_back) => Ok(true),
+        };
+    }
+    let FillEnd::Filled = fill(rt, board, pass, place, buf) else {
+        return Err(Fail::new("closed"));
+    };
+    if spot == Spot::Output {
+        close(board, host);
+        return match take(rt, board, pass) {
+            TakeEnd::Closed => Ok(true),
+            _ => Ok(false),
+        };
+    }
+    let TakeEnd::Taken(taken) = take(rt, board, pass) else {
+        return Err(Fail::new("nothing taken"));
+    };
+    close(board, host);
+    board.lay(pass, taken);
+    Ok(false)
+}
+
+// A close by another pass stops a fill and a take. A claim and the end of a take go on.
+#[test]
+fn a_close_stops_fills_and_takes(rt: HostRuntime) -> Result<(), Fail> {
+    for (spot, stops) in [
+        (Spot::Pool, false),
+        (Spot::Claimed, true),
+        (Spot::Output, true),
+        (Spot::Taken, false),
+    ] {
+        let (board, mut pass) = Board::new(rt.alloc())?;
+        announce_each(&rt, rt.alloc(), &board, &mut pass, 1);
+        let queued = (Call::Queue(id(0, 1)), Ok(Answer::Done));
+        run_calls(&rt, rt.alloc(), &board, &mut pass, &[queued]);
+        let mut other = board.split(&mut pass);
+        let stopped = close_at(&rt, &board, &mut pass, &mut other, spot)?;
+        assert_eq!(rt; stopped, stops, "{spot:?}");
     }
     Ok(())
 }
