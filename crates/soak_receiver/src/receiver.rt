@@ -1,6 +1,6 @@
 //! The host of a soak run.
 
-ghost use Rattle.std.specs.Prelude.{◌≡◌, ◌∷◌, [], ◌++◌, List, IfOk, OnOk};
+ghost use Rattle.std.specs.Prelude.{◌≡◌, ◌∷◌, [], ◌++◌, List, IfOk, OnOk, OnErr};
 ghost use Rattle.gev_script.specs.Lines as script_line;
 ghost use Rattle.gev_script.specs.Lines.{ScriptLine};
 ghost use Rattle.soak_host.specs.Receiver.{Receiver, start, soak_host, waiting};
@@ -74,9 +74,10 @@ impl SoakReceiver {
     }
 
     /// Takes the output's first buffer: adds its take line, returns it and queues it. The answer is false
-    /// where there is nothing to take.
+    /// where there is nothing to take. With NoMemory no line is added.
     pub fn take(&mut self, alloc: Global, out: &mut Vec<u8>) -> Result<bool, NoMemory>
-        ensures { (lines : List ScriptLine) (r : Receiver) → HostStands self.old lines r → IfOk result (λ took. HostTakes (waiting r.board) took lines r out.old.items out.new.items self.new) }
+        ensures takes { (lines : List ScriptLine) (r : Receiver) → HostStands self.old lines r → IfOk result (λ took. HostTakes (waiting r.board) took lines r out.old.items out.new.items self.new) }
+        ensures untold { OnErr result (out.new.items ≡ out.old.items) }
     {
         match take_and_queue(alloc, &mut self.running, out)? {
             None => Ok(false),

@@ -1,6 +1,6 @@
 //! What the application does: it takes a buffer, tells it, returns it and queues it.
 
-ghost use Rattle.std.specs.Prelude.{◌≡◌, ◌<◌, ◌∷◌, [], MatchOption, IfOk};
+ghost use Rattle.std.specs.Prelude.{◌≡◌, ◌<◌, ◌∷◌, [], MatchOption, IfOk, OnErr};
 ghost use Rattle.gev_types.specs.Limits.{place_count};
 ghost use Rattle.gev_script.specs.Lines as script_line;
 ghost use Rattle.board_machine.specs.Machine.{InHand, word_at, IsHeldAs};
@@ -62,6 +62,7 @@ pub fn take_and_queue(
 ) -> Result<Option<bool>, NoMemory>
     requires { IsHosting running.old }
     ensures takes { IfOk result (λ took. TakesFirst took running.old out.old.items out.new.items running.new) }
+    ensures untold { OnErr result (out.new.items ≡ out.old.items) }
     ensures hosting { IsHosting running.new }
 {
     let Some(id) = take_buffer(running) else {
