@@ -1,5 +1,5 @@
 -- What an object of the outside tells of its bytes. None means that it tells nothing, then or later.
-use Rattle.std.specs.Prelude.{◌≡◌, ⊤, ℕ, List, [], ◌++◌, Option, Some, None}
+use Rattle.std.specs.Prelude.{◌≡◌, ◌≢◌, ⊤, ℕ, List, [], ◌++◌, Option, Some, None}
 
 -- These bytes came from the front of what was left.
 abbrev pub Gives : Option (List ℕ) → Option (List ℕ) → List ℕ → Type 0
@@ -22,4 +22,12 @@ pub record WritesFront (written written_after : Option (List ℕ)) (text : List 
   pub front : List ℕ
   pub rest : List ℕ
   pub parts : text ≡ front ++ rest
+  pub appended : Appends written written_after front
+
+-- A front of this text was written, and something of the text wasn't.
+pub record WritesPart (written written_after : Option (List ℕ)) (text : List ℕ) : Type 0 where
+  pub front : List ℕ
+  pub rest : List ℕ
+  pub parts : text ≡ front ++ rest
+  pub some_left : rest ≢ []
   pub appended : Appends written written_after front
