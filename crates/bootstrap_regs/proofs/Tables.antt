@@ -5,7 +5,7 @@ use Rattle.std.proofs.lemmas.Bool.{cond_both, cases_lt, cases_eq, lt-leb, le-ltb
 use Rattle.gvcp_wire.specs.declared.status.Status.TheVariants.{WriteProtect}
 use Rattle.bootstrap_regs.specs.declared.table.Writable.TheVariants.{No, Between, PacketSize}
 use Rattle.bootstrap_regs.specs.declared.table.Register.{Register}
-use Rattle.bootstrap_regs.specs.declared.table.TheConstants.{REGISTERS}
+use Rattle.bootstrap_regs.specs.Table.{TABLE}
 use Rattle.bootstrap_regs.specs.Registers.{covers, register_at, refused_by, refused_in, value_refusal}
 
 -- ---- registers that can't be written
@@ -55,7 +55,7 @@ pub record IsElsewhere (a : ℕ) : Type 0 where
   pub delay : a ≢ 3336
   pub destination : a ≢ 3352
 
-other_registers : (a : ℕ) → IsElsewhere a → AllKeepOut a REGISTERS
+other_registers : (a : ℕ) → IsElsewhere a → AllKeepOut a TABLE
 other_registers a e = (
   inl refl,
   (
@@ -138,7 +138,7 @@ other_registers a e = (
 
 pub protected_there : (a v : ℕ) → IsElsewhere a → value_refusal a v ≡ Some WriteProtect
 unfolding register_at
-protected_there a v e = kept_out a v REGISTERS (other_registers a e)
+protected_there a v e = kept_out a v TABLE (other_registers a e)
 
 -- ---- addresses of writable registers
 

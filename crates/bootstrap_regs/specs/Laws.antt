@@ -8,6 +8,7 @@ use Rattle.bootstrap_regs.specs.declared.table.Initial.TheVariants.{Number, Text
 use Rattle.bootstrap_regs.specs.declared.table.Register.{Register}
 use Rattle.bootstrap_regs.specs.declared.table.TheConstants.{REGISTERS}
 use Rattle.bootstrap_regs.specs.Addresses.{HEARTBEAT_TIMEOUT, CCP, SCP0, SCPS0, SCPD0, SCDA0, END, WORDS, DISCOVERY_WORDS}
+use Rattle.bootstrap_regs.specs.Table.{TABLE}
 use Rattle.bootstrap_regs.specs.Registers.{address_refusal}
 use Rattle.bootstrap_regs.specs.Words.{word_at, answer, write_refusal}
 use Rattle.bootstrap_regs.specs.Writables.{CauseOf}
@@ -26,6 +27,10 @@ pub record AddressesAreStandard : Type 0 where
 
 -- ---- the table
 
+-- The registers of `src/table.rt` are those of `Table`.
+abbrev pub TableIsDefined : Type 0
+TableIsDefined = REGISTERS ≡ TABLE
+
 -- Registers by rising address without overlap, from this address on and within the register space.
 abbrev pub are_in_order : ℕ → List Register → Bool
 are_in_order from [] = nat_le from END
@@ -33,7 +38,7 @@ are_in_order from (r ∷ rs) =
     nat_le from r.address && (r.address % 4 == 0) && nat_le 1 r.words && are_in_order (r.address + 4 * r.words) rs
 
 abbrev pub TableIsInOrder : Type 0
-TableIsInOrder = IsTrue (are_in_order 0 REGISTERS)
+TableIsInOrder = IsTrue (are_in_order 0 TABLE)
 
 -- printable ASCII characters, and then zero bytes alone
 abbrev pub is_filled_text : List ℕ → Bool
@@ -47,7 +52,7 @@ has_filled_text (Number number) words = true
 has_filled_text (Text text) words = is_filled_text text && nat_le (length text) (4 * words)
 
 abbrev pub TextsAreFilled : Type 0
-TextsAreFilled = IsTrue (list_all (λ r. has_filled_text r.initial r.words) REGISTERS)
+TextsAreFilled = IsTrue (list_all (λ r. has_filled_text r.initial r.words) TABLE)
 
 -- ---- calls
 

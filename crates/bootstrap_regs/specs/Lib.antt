@@ -1,4 +1,5 @@
 pub mod Addresses
+pub mod Table
 pub mod Registers
 pub mod Words
 pub mod Changes

@@ -1,4 +1,4 @@
--- The bootstrap registers (GigE Vision 2.0), read from the table in `src/table.rt`.
+-- What the table of the bootstrap registers (GigE Vision 2.0) says of each address.
 use Rattle.std.specs.Prelude.{ℕ, ◌-◌, ◌*◌, ◌/◌, ◌%◌, ◌^◌, Bool, true, false, ◌&&◌, ◌==◌, nat_le, nat_lt, find, Option, Some, None, if◌then◌else◌}
 use Rattle.wire_fields.specs.Fields.{number_at}
 use Rattle.gvcp_wire.specs.declared.status.Status.{Status}
@@ -8,8 +8,8 @@ use Rattle.bootstrap_regs.specs.declared.table.Initial.TheVariants.{Number, Text
 use Rattle.bootstrap_regs.specs.declared.table.Writable.{Writable}
 use Rattle.bootstrap_regs.specs.declared.table.Writable.TheVariants.{No, Any, Between, PacketSize}
 use Rattle.bootstrap_regs.specs.declared.table.Register.{Register}
-use Rattle.bootstrap_regs.specs.declared.table.TheConstants.{REGISTERS}
 use Rattle.bootstrap_regs.specs.Addresses.{END}
+use Rattle.bootstrap_regs.specs.Table.{TABLE}
 
 -- whether a byte of the register has this address
 abbrev pub covers : Register → ℕ → Bool
@@ -17,7 +17,7 @@ covers r address = nat_le r.address address && nat_lt ((address - r.address) / 4
 
 -- the register to which the byte with this address belongs
 unfoldable pub register_at : ℕ → Option Register
-register_at address = find (λ r. covers r address) REGISTERS
+register_at address = find (λ r. covers r address) TABLE
 
 -- ---- what the words hold at first
 

@@ -1,10 +1,10 @@
 //! The bootstrap registers of the camera (GigE Vision 2.0, bootstrap registers): 848 words of 4
 //! bytes.
 //!
-//! `table` has the registers as data: where each lies, what it holds at first, and what may be
-//! written to it. `specs/Registers.antt` reads the table, `specs/Changes.antt` says what the words
-//! hold after writes and releases, and the functions of `laws` say in the standard's words what the
-//! table and the refusals come to. No call takes memory.
+//! `specs/Table.antt` defines the registers: where each lies, what it holds at first, and what may be
+//! written to it. `table` has them as data, `specs/Registers.antt` says what the table comes to at each
+//! address, `specs/Changes.antt` what the words hold after writes and releases, and the functions of
+//! `laws` say in the standard's words what the table and the refusals come to. No call takes memory.
 #![tactic(auto)]
 
 pub mod addresses;

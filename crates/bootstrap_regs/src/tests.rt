@@ -164,6 +164,7 @@ fn discovery_and_release(rt: HostRuntime) {
 #[test]
 fn laws_can_be_called() {
     laws::addresses_are_the_standards();
+    laws::table_is_the_defined_one();
     laws::table_is_in_order();
     laws::texts_are_filled();
     laws::each_word_is_readable();
