@@ -8,7 +8,7 @@ use Rattle.gvcp_wire.specs.Reading.{ack_reading}
 use Rattle.gvcp_aux.specs.Reading.{pending_reading}
 use Rattle.client_machine.specs.declared.outcome.Outcome.{Outcome}
 use Rattle.client_machine.specs.declared.outcome.Outcome.TheVariants.{Acked, Refused, NoAnswer}
-use Rattle.client_machine.specs.declared.numbers.TheConstants.{SENDS}
+use Rattle.client_machine.specs.Times.{SENDS}
 use Rattle.client_machine.specs.Commands.{is_match, heartbeat}
 use Rattle.client_machine.specs.Machine.{Asked, Client, goes_on, outcome_after, ack_outcome, with_command, is_heartbeat_due, is_late, sent_again, ticked_with, ticked, pended, ended_by, received_ack, received_as, received}
 use Rattle.client_machine.specs.Laws.{IsAnswered, EndsAreExact}

@@ -1,3 +1,4 @@
 pub mod Sends
 pub mod Ends
+pub mod Submitting
 pub mod Unused

@@ -7,7 +7,7 @@ use Rattle.gvcp_wire.specs.Messages.{PlainCommand, PlainAck}
 use Rattle.gvcp_wire.specs.Reading.{ack_reading}
 use Rattle.gvcp_aux.specs.Reading.{pending_reading}
 use Rattle.client_machine.specs.declared.outcome.Outcome.TheVariants.{NoAnswer}
-use Rattle.client_machine.specs.declared.numbers.TheConstants.{SENDS}
+use Rattle.client_machine.specs.Times.{SENDS}
 use Rattle.client_machine.specs.Commands.{is_match, heartbeat}
 use Rattle.client_machine.specs.Machine.{Asked, goes_on, with_command, submitted_with, is_heartbeat_due, is_late, sent_again, ticked_with, not_waiting, outcome_after, pended, ended_by, received_ack, received_as}
 use Rattle.client_machine.specs.Events.{Event, submits, ticks, takes, receives, after, request_of}

@@ -6,7 +6,7 @@ use Rattle.gvcp_wire.specs.Messages.{PlainCommand, PlainAck}
 use Rattle.gvcp_wire.specs.Reading.{ack_reading}
 use Rattle.gvcp_aux.specs.Reading.{pending_reading}
 use Rattle.client_machine.specs.declared.outcome.Outcome.TheVariants.{NoAnswer}
-use Rattle.client_machine.specs.declared.numbers.TheConstants.{SENDS}
+use Rattle.client_machine.specs.Times.{SENDS}
 use Rattle.client_machine.specs.Commands.{next_req, heartbeat, is_match}
 use Rattle.client_machine.specs.Machine.{Asked, Client, new_client, goes_on, with_command, submitted_with, is_heartbeat_due, is_late, sent_again, ticked_with, pended, ended_by, received_ack, received_as}
 use Rattle.client_machine.specs.Events.{Event, submits, ticks, takes, receives, step, after, NoneSubmit}

@@ -5,7 +5,7 @@ use Rattle.gvcp_wire.specs.Codes.{MAX_BODY_SIZE, READREG_CMD, WRITEREG_CMD, READ
 use Rattle.gvcp_wire.specs.declared.message.CommandHead.{CommandHead}
 use Rattle.gvcp_wire.specs.Messages.{PlainCommand, read_reg, write_reg, read_mem, write_mem, other, PlainAck}
 use Rattle.gvcp_wire.specs.Control.{IsCommand}
-use Rattle.client_machine.specs.declared.numbers.TheConstants.{CONTROL_CHANNEL_PRIVILEGE}
+use Rattle.bootstrap_regs.specs.Addresses.{CCP}
 
 -- the flag that asks for an acknowledge
 abbrev pub acknowledge_flag : ℕ
@@ -38,9 +38,9 @@ pub record MaySubmit (c : PlainCommand) : Type 0 where
 abbrev pub next_req : ℕ → ℕ
 next_req req = if req == 65535 then 1 else req + 1
 
--- the command that keeps the control: it reads the privilege register
+-- the command that keeps the control: it reads the control channel privilege
 abbrev pub heartbeat : PlainCommand
-heartbeat = read_reg (big_bytes 4 CONTROL_CHANNEL_PRIVILEGE)
+heartbeat = read_reg (big_bytes 4 CCP)
 
 -- whether an acknowledge answers the command with this code and request number
 abbrev pub is_match : ℕ → ℕ → PlainAck → Bool

@@ -4,7 +4,7 @@ use Rattle.gvcp_wire.specs.declared.message.ControlError.{ControlError}
 use Rattle.gvcp_wire.specs.Messages.{PlainCommand, PlainAck}
 use Rattle.gvcp_wire.specs.Control.{plain}
 use Rattle.gvcp_wire.specs.Reading.{ack_reading}
-use Rattle.client_machine.specs.declared.numbers.TheConstants.{SENDS}
+use Rattle.client_machine.specs.Times.{SENDS}
 use Rattle.client_machine.specs.Commands.{code_of, head_for, next_req, heartbeat, is_match}
 use Rattle.client_machine.specs.Machine.{Asked, Client, new_client, submitted, is_heartbeat_due, is_late, ticked, taken, received}
 

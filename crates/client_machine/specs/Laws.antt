@@ -4,10 +4,22 @@ use Rattle.gvcp_wire.specs.declared.status.Status.TheVariants as statuses
 use Rattle.gvcp_wire.specs.Status.{status_code}
 use Rattle.gvcp_wire.specs.Messages.{PlainAck}
 use Rattle.gvcp_wire.specs.Reading.{ack_reading}
+use Rattle.client_machine.specs.declared.numbers.TheConstants as code
 use Rattle.client_machine.specs.declared.outcome.Outcome.TheVariants.{Acked, Refused, NoAnswer}
+use Rattle.client_machine.specs.Times.{SENDS, SEND_LIMIT, HEARTBEAT_TIME}
+use Rattle.client_machine.specs.Setup.{CONTROL_ACCESS, SETUP_PACKET_SIZE, SETUP_SIZE}
 use Rattle.client_machine.specs.Commands.{is_match}
 use Rattle.client_machine.specs.Machine.{Asked, Client, HasSubmittedNone, ticked, received}
 use Rattle.client_machine.specs.Events.{Event, after, NoneSubmit, Request, sends_of, answers}
+
+-- The constants of `src/numbers.rt` are the numbers of `Times` and `Setup`.
+pub record NumbersAreDefined : Type 0 where
+  pub sends : code.SENDS ≡ SENDS
+  pub send_limit : code.SEND_LIMIT ≡ SEND_LIMIT
+  pub heartbeat_time : code.HEARTBEAT_TIME ≡ HEARTBEAT_TIME
+  pub control_access : code.CONTROL_ACCESS ≡ CONTROL_ACCESS
+  pub setup_packet_size : code.SETUP_PACKET_SIZE ≡ SETUP_PACKET_SIZE
+  pub setup_size : code.SETUP_SIZE ≡ SETUP_SIZE
 
 -- A client is as new exactly as long as nothing was submitted to it.
 abbrev pub IsNewUntilSubmitted : List Event → Type 0
@@ -24,7 +36,7 @@ pub data HasWaited (r : Request) : ℕ → List Event → Type 0 where
 pub record HadNoAnswer (es : List Event) (req : ℕ) : Type 0 where
   pub request : Request
   pub req_is : request.req ≡ req
-  pub waited : HasWaited request 3 es
+  pub waited : HasWaited request SENDS es
 
 -- what a tick that tells that a command had no answer comes after
 abbrev pub NoAnswerComesLast : List Event → ℕ → ℕ → Type 0

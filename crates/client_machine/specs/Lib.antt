@@ -1,4 +1,6 @@
+pub mod Times
 pub mod Commands
+pub mod Setup
 pub mod Machine
 pub mod Events
 pub mod Laws

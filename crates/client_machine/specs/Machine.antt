@@ -10,7 +10,7 @@ use Rattle.gvcp_wire.specs.Reading.{ack_reading}
 use Rattle.gvcp_aux.specs.Reading.{pending_reading}
 use Rattle.client_machine.specs.declared.outcome.Outcome.{Outcome}
 use Rattle.client_machine.specs.declared.outcome.Outcome.TheVariants.{Waiting, Idle, Acked, Refused, NoAnswer}
-use Rattle.client_machine.specs.declared.numbers.TheConstants.{SENDS, SEND_LIMIT, HEARTBEAT_TIME}
+use Rattle.client_machine.specs.Times.{SENDS, SEND_LIMIT, HEARTBEAT_TIME}
 use Rattle.client_machine.specs.Commands.{code_of, head_for, next_req, heartbeat, is_match}
 
 -- the outstanding command

@@ -4,7 +4,19 @@
 ghost use Rattle.std.specs.Prelude.{ℕ, List};
 ghost use Rattle.client_machine.specs.Machine.{Client};
 ghost use Rattle.client_machine.specs.Events.{Event};
-ghost use Rattle.client_machine.specs.Laws.{IsNewUntilSubmitted, NoAnswerComesLast, EndsAreExact};
+ghost use Rattle.gev_types.specs.declared.peer.Peer.{Peer};
+ghost use Rattle.client_machine.specs.Laws.{NumbersAreDefined, IsNewUntilSubmitted, NoAnswerComesLast, EndsAreExact};
+ghost use Rattle.client_machine.specs.Setup.{SetupIsSubmitted};
+
+/// The constants of `numbers` are the defined numbers.
+pub fn numbers_are_the_defined_ones()
+    ensures { NumbersAreDefined }
+{}
+
+/// Each command of the setup may be submitted.
+pub fn the_setup_may_be_submitted()
+    ensures { (peer : Peer) → SetupIsSubmitted peer }
+{}
 
 /// A client is as new exactly as long as nothing was submitted to it.
 pub fn a_client_is_new_until_a_submission()

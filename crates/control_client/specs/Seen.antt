@@ -1,7 +1,7 @@
 -- How the client's fields stand for the machine's state.
 use Rattle.std.specs.Prelude.{◌≡◌, ℕ, ◌+◌, ◌^◌, ◌≤◌, List, length, take, Option, Some, None, IfSome}
 use Rattle.gvcp_wire.specs.declared.codes.TheConstants.{HEADER_SIZE, MAX_BODY_SIZE}
-use Rattle.client_machine.specs.declared.numbers.TheConstants.{SENDS}
+use Rattle.client_machine.specs.Times.{SENDS}
 use Rattle.client_machine.specs.Machine.{Asked}
 use Rattle.control_client.specs.declared.sending.Sending.{Sending}
 

@@ -1,8 +1,9 @@
 use crate::sending::Sending;
 use crate::steps;
 use bitflags::Flags;
+use bootstrap_regs::addresses::CCP;
 use client_machine::Outcome;
-use client_machine::numbers::{CONTROL_CHANNEL_PRIVILEGE, SEND_LIMIT, SENDS};
+use client_machine::numbers::{SEND_LIMIT, SENDS};
 use gvcp_aux::read_pending;
 use gvcp_wire::codes::{HEADER_SIZE, MAX_BODY_SIZE};
 use gvcp_wire::{Ack, Command, CommandFlags, CommandHead, parse_ack, write_command};
@@ -124,7 +125,7 @@ impl Client {
         if !steps::is_heartbeat_due(self.ended, moment) {
             return Outcome::Idle;
         }
-        let address = CONTROL_CHANNEL_PRIVILEGE.to_be_bytes();
+        let address = CCP.to_be_bytes();
         Outcome::Waiting(self.ask(&Command::ReadReg(&address), moment))
     }
 

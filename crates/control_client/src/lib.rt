@@ -1,14 +1,18 @@
 //! The host's control side: one command outstanding, sent at most three times, with one outcome, and a
 //! heartbeat that keeps the control (GigE Vision 2.0, GVCP).
 //!
-//! The definition is the machine of the crate `client_machine`; each call here is one of its events.
+//! The definition is the machine of the crate `client_machine`; each call of a client is one of its
+//! events. `setup_write` gives the commands that make a camera send its stream.
 #![tactic(auto)]
 
 mod client;
 mod sending;
+mod setup;
 mod steps;
 #[cfg(test)]
 mod tests;
 
 pub use client::Client;
 pub use client_machine::Outcome;
+pub use client_machine::numbers::SETUP_SIZE;
+pub use setup::setup_write;

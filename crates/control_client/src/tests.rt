@@ -1,4 +1,5 @@
 use super::*;
+use gev_types::Peer;
 use gvcp_wire::Command;
 use std::test::*;
 
@@ -107,4 +108,26 @@ fn heartbeat(rt: HostRuntime) {
     assert_eq!(rt; client.tick(1004), Outcome::Idle);
     assert_eq!(rt; client.tick(1005), Outcome::Waiting(2));
     assert!(rt; is_sent(&mut client, &[0x42, 1, 0, 0x80, 0, 4, 0, 2, 0, 0, 0x0a, 0]));
+}
+
+// The setup of a stream to port 49,152 of 127.0.0.1, as the commands that the client sends.
+#[test]
+fn setup(rt: HostRuntime) {
+    let stream = Peer {
+        address: 0x7F00_0001,
+        port: 49_152,
+    };
+    let rows: [[u8; 8]; 4] = [
+        [0, 0, 0x0a, 0, 0, 0, 0, 2],
+        [0, 0, 0x0d, 0x04, 0, 0, 0x05, 0xdc],
+        [0, 0, 0x0d, 0x18, 0x7f, 0, 0, 1],
+        [0, 0, 0x0d, 0, 0, 0, 0xc0, 0],
+    ];
+    for place in 0..SETUP_SIZE {
+        let write = setup_write(stream, place);
+        assert_eq!(rt; write, rows[usize::from(place)]);
+        let mut client = Client::new();
+        assert_eq!(rt; client.submit(&Command::WriteReg(&write), 0), Ok(1));
+        assert_eq!(rt; client.tick(0), Outcome::Waiting(1));
+    }
 }

@@ -11,7 +11,7 @@ use Rattle.gvcp_wire.proofs.Commands.{reads_command}
 use Rattle.gvcp_wire.proofs.Written.{is_written_command}
 use Rattle.gvcp_aux.specs.Reading.{pending_reading}
 use Rattle.client_machine.specs.declared.outcome.Outcome.TheVariants.{NoAnswer}
-use Rattle.client_machine.specs.declared.numbers.TheConstants.{SENDS}
+use Rattle.client_machine.specs.Times.{SENDS}
 use Rattle.client_machine.specs.Commands.{code_of, head_for, IsAccess, next_req, heartbeat, is_match}
 use Rattle.client_machine.specs.Machine.{Asked, Client, goes_on, with_command, submitted_with, is_heartbeat_due, is_late, sent_again, ticked_with, not_waiting, to_send, pended, ended_by, received_ack, received_as}
 use Rattle.client_machine.specs.Events.{new_request, submitted_at}

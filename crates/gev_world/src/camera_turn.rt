@@ -7,10 +7,10 @@ ghost use Rattle.world_machine.specs.CameraTurn.{obeys, obeys_all, looks, camera
 ghost use Rattle.gev_world.specs.Seen.{Does};
 ghost use Rattle.gev_world.specs.Turns.{drains, commanded_by, Fetches, Carries};
 
-use crate::client_turn::SETUP_SIZE;
 use crate::network::{put_ack, put_packet};
 use crate::stage::Stage;
 use camera_sim::{Camera, MESSAGE_SIZE, PACKET_ROOM};
+use control_client::SETUP_SIZE;
 use gev_types::{NoMemory, Peer};
 use lossy_queue::{Datagram, LossyQueue};
 use std::alloc::Global;

@@ -11,12 +11,13 @@ ghost use Rattle.gev_world.specs.Hosts.{Stands, HasWorld};
 ghost use Rattle.gev_world.specs.Rounds.{is_sent_out, ComesToHost, EndsRound, hosted_round, hosted_acts};
 
 use crate::camera_turn::{camera_turn, make};
-use crate::client_turn::{SETUP_SIZE, client_turn};
+use crate::client_turn::client_turn;
 use crate::host_turn::{ask, host_turn};
 use crate::run_end::{RunEnd, end_of};
 use crate::stage::Stage;
 use crate::takes::write_takes;
 use crate::tools::Tools;
+use control_client::SETUP_SIZE;
 use gev_links::{Sink, write_all};
 use gev_make::Stop;
 use gev_report::{SoakNumbers, line_soak};

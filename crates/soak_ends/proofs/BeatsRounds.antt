@@ -9,7 +9,7 @@ use Rattle.gvcp_wire.specs.Reading.{ack_reading}
 use Rattle.gvcp_aux.specs.Reading.{pending_reading}
 use Rattle.lossy_queue.specs.declared.datagram.Channel.{Channel}
 use Rattle.lossy_queue.specs.declared.datagram.Channel.TheVariants.{Control, Stream}
-use Rattle.client_machine.specs.declared.numbers.TheConstants.{SENDS}
+use Rattle.client_machine.specs.Times.{SENDS}
 use Rattle.client_machine.specs.declared.outcome.Outcome.TheVariants.{NoAnswer}
 use Rattle.client_machine.specs.Commands.{next_req, heartbeat, is_match}
 use Rattle.client_machine.specs.Machine.{Asked, Client, Told, goes_on, with_command, submitted, is_heartbeat_due, is_late, sent_again, ticked_with, ticked, not_waiting, to_send, taken, ended_by, pended, received_as}

@@ -12,7 +12,7 @@ use Rattle.gvcp_aux.specs.Reading.{pending_reading}
 use Rattle.lossy_queue.specs.declared.datagram.Channel.{Channel}
 use Rattle.lossy_queue.specs.declared.datagram.Channel.TheVariants.{Control, Stream}
 use Rattle.lossy_queue.specs.declared.datagram.Datagram.{Datagram}
-use Rattle.client_machine.specs.declared.numbers.TheConstants.{SENDS, SEND_LIMIT}
+use Rattle.client_machine.specs.Times.{SENDS, SEND_LIMIT}
 use Rattle.client_machine.specs.declared.outcome.Outcome.TheVariants.{Acked, Refused, NoAnswer}
 use Rattle.client_machine.specs.Commands.{code_of, head_for, next_req, is_match}
 use Rattle.client_machine.specs.Machine.{Asked, Client, goes_on, with_command, is_late, sent_again, ticked_with, ticked, not_waiting, to_send, taken, ended_by, pended, received_as}

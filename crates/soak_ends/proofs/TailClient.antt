@@ -8,7 +8,7 @@ use Rattle.gvcp_wire.specs.Reading.{ack_reading}
 use Rattle.gvcp_aux.specs.Reading.{pending_reading}
 use Rattle.bootstrap_regs.specs.Addresses.{CCP, SCP0, SCPS0, SCDA0}
 use Rattle.client_machine.specs.declared.outcome.Outcome.TheVariants.{NoAnswer}
-use Rattle.client_machine.specs.declared.numbers.TheConstants.{SENDS}
+use Rattle.client_machine.specs.Times.{SENDS}
 use Rattle.client_machine.specs.Commands.{head_for, next_req, heartbeat, is_match}
 use Rattle.client_machine.specs.Machine.{Asked, Client, goes_on, with_command, is_heartbeat_due, is_late, sent_again, ticked_with, not_waiting, to_send, pended, ended_by, received_ack, received_as, received}
 use Rattle.world_machine.specs.State.{World}

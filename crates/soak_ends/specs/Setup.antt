@@ -7,7 +7,7 @@ use Rattle.gvcp_aux.specs.Reading.{pending_reading}
 use Rattle.lossy_queue.specs.declared.datagram.Channel.{Channel}
 use Rattle.lossy_queue.specs.declared.datagram.Channel.TheVariants.{Control, Stream}
 use Rattle.lossy_queue.specs.declared.datagram.Datagram.{Datagram}
-use Rattle.client_machine.specs.declared.numbers.TheConstants.{SENDS, SEND_LIMIT}
+use Rattle.client_machine.specs.Times.{SENDS, SEND_LIMIT}
 use Rattle.client_machine.specs.Machine.{Asked}
 use Rattle.camera_machine.specs.Camera.{Kept}
 use Rattle.world_machine.specs.State.{Host, Run, World, new_world}

@@ -5,11 +5,12 @@ use Rattle.gvcp_wire.specs.declared.message.CommandHead.{CommandHead}
 use Rattle.gvcp_wire.specs.declared.message.ControlError.{ControlError}
 use Rattle.gvcp_wire.specs.Messages.{PlainCommand, read_reg, write_reg, read_mem, write_mem, other}
 use Rattle.bootstrap_regs.specs.Addresses.{SCPS0}
+use Rattle.client_machine.specs.Setup.{SETUP_PACKET_SIZE}
 use Rattle.camera_machine.specs.Access.{Write, pairs_in, words_in}
 
 -- what the register of the packet size holds at first, and what the setup writes
 abbrev pub PACKET_SIZE : ℕ
-PACKET_SIZE = 1500
+PACKET_SIZE = SETUP_PACKET_SIZE
 
 -- a write to that register writes that value
 abbrev pub KeepsSize : Write → Type 0

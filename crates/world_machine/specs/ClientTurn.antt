@@ -1,11 +1,10 @@
 -- The client's turn of a round: the setup of the stream, heartbeats, and when a run gives up.
-use Rattle.std.specs.Prelude.{ℕ, ◌+◌, List, [], ◌∷◌, ◌++◌, slice_get, Option, Some, None}
-use Rattle.byteorder.specs.Endian.{big_bytes}
+use Rattle.std.specs.Prelude.{ℕ, ◌+◌, slice_get, Option, Some, None}
 use Rattle.gev_types.specs.declared.peer.Peer.{Peer}
-use Rattle.gvcp_wire.specs.Messages.{PlainCommand, write_reg}
-use Rattle.bootstrap_regs.specs.Addresses.{CCP, SCP0, SCPS0, SCDA0}
+use Rattle.gvcp_wire.specs.Messages.{PlainCommand}
 use Rattle.client_machine.specs.declared.outcome.Outcome.{Outcome}
 use Rattle.client_machine.specs.declared.outcome.Outcome.TheVariants.{Waiting, Idle, Acked, Refused, NoAnswer}
+pub use Rattle.client_machine.specs.Setup.{write_of, setup_commands, SETUP_SIZE}
 use Rattle.client_machine.specs.Machine.{Asked, Told, submitted, ticked, to_send, taken}
 use Rattle.world_machine.specs.State.{Run, World}
 use Rattle.world_machine.specs.Queues.{sent_to_camera}
@@ -18,19 +17,6 @@ client_peer = record { address = 0x7F000001; port = 1 }
 
 abbrev pub stream_peer : Peer
 stream_peer = record { address = 0x7F000001; port = 49152 }
-
--- WRITEREG of one register
-abbrev pub write_of : ℕ → ℕ → PlainCommand
-write_of address value = write_reg (big_bytes 4 address ++ big_bytes 4 value)
-
--- What makes a camera send its stream to a peer, in packets of 1500 bytes: control, the packets' size,
--- the address, and the port, which opens the channel.
-abbrev pub setup_commands : Peer → List PlainCommand
-setup_commands peer = write_of CCP 2 ∷ write_of SCPS0 1500 ∷ write_of SCDA0 peer.address ∷ write_of SCP0 peer.port ∷ []
-
--- how many commands the setup has
-abbrev pub SETUP_SIZE : ℕ
-SETUP_SIZE = 4
 
 -- ---- how a run ends
 
