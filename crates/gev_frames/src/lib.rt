@@ -11,6 +11,8 @@ mod lcg;
 #[cfg(test)]
 mod tests;
 
-pub use frames::frame_of;
-pub use laws::{drawn_bytes_are_draws, made_frames_are_valid};
+pub use frames::{camera_frame, frame_of, rows_of, short_frame_of};
+pub use laws::{
+    camera_frames_are_valid, drawn_bytes_are_draws, made_frames_are_valid, short_frames_are_valid,
+};
 pub use lcg::Lcg;

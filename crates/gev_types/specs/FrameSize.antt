@@ -16,7 +16,21 @@ image_size pixel size_x size_y padding_x padding_y =
 abbrev pub IsImageSize : ℕ → Type 0
 IsImageSize size = (0 < size) × (size ≤ max_buffer_size)
 
--- a valid frame has as many bytes as its fields say, and a size that a frame may have
+-- the size that a frame's leader tells: that of an image of all the lines that it announces
+abbrev pub told_size : Frame → ℕ
+told_size frame = image_size frame.pixel frame.size_x frame.size_y frame.padding_x frame.padding_y
+
+-- A valid frame has at least one line and no more than it announces, as many bytes as its lines and
+-- its other fields say, and a size, both the told one and its own, that a frame may have.
 pub record IsFrame (frame : Frame) : Type 0 where
-  pub size : length frame.pixels ≡ image_size frame.pixel frame.size_x frame.size_y frame.padding_x frame.padding_y
+  pub some : 1 ≤ frame.rows
+  pub rows : frame.rows ≤ frame.size_y
+  pub told : IsImageSize (told_size frame)
+  pub size : length frame.pixels ≡ image_size frame.pixel frame.size_x frame.rows frame.padding_x frame.padding_y
   pub in_limits : IsImageSize (length frame.pixels)
+
+-- An image of fewer lines is no larger, and one of at least one line has a size that a frame may have.
+pub record FewerLines (pixel size_x size_y padding_x padding_y rows : ℕ) : Type 0 where
+  pub no_larger : image_size pixel size_x rows padding_x padding_y ≤ image_size pixel size_x size_y padding_x padding_y
+  pub in_limits : 1 ≤ rows → IsImageSize (image_size pixel size_x size_y padding_x padding_y)
+      → IsImageSize (image_size pixel size_x rows padding_x padding_y)

@@ -26,8 +26,11 @@ pub struct Frame {
     pub pixel: u32,
     /// Pixels in a line.
     pub size_x: u32,
-    /// Lines.
+    /// Lines that the leader announces: the most that the image may have.
     pub size_y: u32,
+    /// Lines that the image has, from 1 to `size_y`. The trailer tells them: a line-scan camera only
+    /// knows them at the end.
+    pub rows: u32,
     /// The first column of the sensor that is sent.
     pub offset_x: u32,
     /// The first line of the sensor that is sent.

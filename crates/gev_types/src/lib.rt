@@ -16,6 +16,9 @@ pub use block_record::Record;
 pub use buf::Buf;
 pub use bytes::Bytes;
 pub use frame::{Frame, Shape, frame_size};
-pub use limits::{MAX_BUFFER_SIZE, MAX_PACKET_ID, MAX_PAYLOAD_SIZE, MIN_PAYLOAD_SIZE, PLACES};
+pub use limits::{
+    MAX_BUFFER_SIZE, MAX_PACKET_ID, MAX_PAYLOAD_SIZE, MAX_RECEIVED_PAYLOAD_SIZE, MIN_PAYLOAD_SIZE,
+    PLACES,
+};
 pub use memory::NoMemory;
 pub use peer::Peer;

@@ -106,6 +106,7 @@ fn text_of_no_memory(rt: HostRuntime) -> Result<(), Fail> {
 }
 
 #[test]
-fn the_law_can_be_called(_rt: HostRuntime) {
+fn laws_can_be_called(_rt: HostRuntime) {
     laws::constants_are_the_limits();
+    laws::fewer_lines_make_a_smaller_image();
 }

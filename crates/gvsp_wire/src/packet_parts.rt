@@ -1,6 +1,6 @@
 ghost use Rattle.std.specs.Prelude.{◌≡◌};
 ghost use Rattle.std.specs.Option.{option_copied};
-ghost use Rattle.stream_packets.specs.Packets.{head_of, is_trailer, is_notice, carried_info, carried_bytes};
+ghost use Rattle.stream_packets.specs.Packets.{head_of, is_trailer, is_notice, carried_info, carried_bytes, carried_lines};
 ghost use Rattle.gvsp_wire.specs.View.{view};
 
 use crate::packet::Packet;
@@ -39,6 +39,18 @@ impl<'a> Packet<'a> {
             Packet::Leader(_, _) => None,
             Packet::Payload(_, bytes) => Some(bytes),
             Packet::Trailer(_, _) => None,
+            Packet::Notice(_) => None,
+        }
+    }
+
+    /// How many lines the packet says that the image has, if it is a trailer.
+    pub fn lines(&self) -> Option<u32>
+        ensures { result ≡ carried_lines (view self.now) }
+    {
+        match *self {
+            Packet::Leader(_, _) => None,
+            Packet::Payload(_, _) => None,
+            Packet::Trailer(_, lines) => Some(lines),
             Packet::Notice(_) => None,
         }
     }

@@ -45,3 +45,10 @@ carried_bytes (leader h i) = None
 carried_bytes (payload h d) = Some d
 carried_bytes (trailer h y) = None
 carried_bytes (notice h) = None
+
+-- how many lines a trailer says that the image has
+abbrev pub carried_lines : StreamPacket → Option ℕ
+carried_lines (leader h i) = None
+carried_lines (payload h d) = None
+carried_lines (trailer h y) = Some y
+carried_lines (notice h) = None

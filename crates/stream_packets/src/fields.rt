@@ -21,7 +21,7 @@ pub struct LeaderInfo {
     pub pixel: u32,
     /// Pixels in a line.
     pub size_x: u32,
-    /// Lines.
+    /// Lines, as many as the image may have; the trailer tells how many it has.
     pub size_y: u32,
     /// The first column of the sensor that is sent.
     pub offset_x: u32,
@@ -31,6 +31,7 @@ pub struct LeaderInfo {
     pub padding_x: u16,
     /// Bytes after the image.
     pub padding_y: u16,
-    /// The image's size in bytes, which follows from the fields above: 1 byte to 64 MiB.
+    /// The size in bytes of an image of so many lines, which follows from the fields above: 1 byte to
+    /// 64 MiB.
     pub size: u32,
 }

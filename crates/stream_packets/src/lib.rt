@@ -6,5 +6,7 @@
 #![tactic(auto)]
 
 mod fields;
+mod leaders;
 
 pub use fields::{Head, LeaderInfo};
+pub use leaders::leader_info;
