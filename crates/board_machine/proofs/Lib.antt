@@ -18,3 +18,4 @@ pub mod Actors
 pub mod RunWord
 pub mod Sizes
 pub mod Adding
+pub mod Quiet

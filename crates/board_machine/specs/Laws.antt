@@ -1,5 +1,5 @@
 -- What holds of every run, stated over the definitions.
-use Rattle.std.specs.Prelude.{◌≡◌, ◌≢◌, ◌↔◌, ◌⊎◌, ℕ, ◌+◌, ◌<◌, ◌≤◌, List, [], ◌∷◌, ◌++◌, length, drop, Some}
+use Rattle.std.specs.Prelude.{◌≡◌, ◌≢◌, ◌↔◌, ◌⊎◌, ℕ, ◌+◌, ◌<◌, ◌≤◌, false, List, [], ◌∷◌, ◌++◌, length, drop, Some}
 use Rattle.gentl_types.specs.declared.word.Word.{Word}
 use Rattle.board_machine.specs.declared.events.Entry.{Entry}
 use Rattle.board_machine.specs.declared.events.Event.{Event}
@@ -12,6 +12,7 @@ use Rattle.board_machine.specs.Machine.{Board, Item, item, word_at, hand_at, han
 use Rattle.board_machine.specs.Histories.{Run, After, own_of, splits, StandsFor}
 use Rattle.board_machine.specs.Adding.{Adds, entries_of}
 use Rattle.board_machine.specs.Actors.{BearOnly, AllBy, ActorsIn, IsNeverJoined}
+use Rattle.board_machine.specs.Kinds.{is_close, is_stop, is_filled, is_fill_refused, HasNone, TakesAreBy}
 use Rattle.board_machine.specs.Sizes.{KeepsBuffer, BringOneSize, HaveOneSize}
 use Rattle.board_machine.specs.Owners.{IsOwned, IsCounted}
 use Rattle.board_machine.specs.Handout.{filled, removed, handed, removed_items, handed_items, taken_items, IsLegal}
@@ -180,6 +181,22 @@ OneSizeStays = (h : List Entry) (size : ℕ) → Run h → BringOneSize size h �
 -- where an actor took nothing more, it has taken what it had
 abbrev pub OnlyOwnTakesCount : Type 0
 OnlyOwnTakesCount = (front more : List Entry) (k : ℕ) → Run (front ++ more) → handed (own_of k more) ≡ [] → taken_items k (front ++ more) ≡ taken_items k front
+
+-- where an open stream isn't closed, no fill is refused
+abbrev pub OpenStreamsTakeFills : Type 0
+OpenStreamsTakeFills = (front later : List Entry) → Run (front ++ later) → (After front).closed ≡ false → HasNone is_close later → HasNone is_fill_refused later
+
+-- where a started acquisition isn't stopped, it stays started
+abbrev pub RunWordStays : Type 0
+RunWordStays = (front later : List Entry) → (After front).run ≡ 1 → HasNone is_stop later → (After (front ++ later)).run ≡ 1
+
+-- where an empty output isn't filled, it stays empty
+abbrev pub EmptyOutputStays : Type 0
+EmptyOutputStays = (front later : List Entry) → (After front).out ≡ [] → HasNone is_filled later → (After (front ++ later)).out ≡ []
+
+-- where all takes are one actor's, what it took is what was handed out
+abbrev pub HandedAreOwn : Type 0
+HandedAreOwn = (k : ℕ) (h : List Entry) → TakesAreBy k h → taken_items k h ≡ handed_items h
 
 -- A board that stands for a history stands, after one more entry that can be the next one, for the history with it;
 abbrev pub HistoriesGrow : Type 0

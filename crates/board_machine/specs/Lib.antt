@@ -3,6 +3,8 @@ pub mod Machine
 pub mod Histories
 pub mod Adding
 pub mod Actors
+pub mod Kinds
+pub mod Ids
 pub mod Owners
 pub mod Handout
 pub mod Sizes

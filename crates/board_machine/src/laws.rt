@@ -6,6 +6,7 @@ ghost use Rattle.board_machine.specs.Laws.{ActsLeaveOthers, SplitsAddActors, Spl
 ghost use Rattle.board_machine.specs.Laws.{GenerationsNeverFall, PlacesRise, ClaimsAreLowest, HandsHoldPlaces};
 ghost use Rattle.board_machine.specs.Laws.{ActorsStay, OnlyJoinsEnd, ActorsAreBorn, UnbornDoNothing, LoneActorsStayAlone, OthersLeaveHands, EntriesAreTheirs};
 ghost use Rattle.board_machine.specs.Laws.{RunWordIsSmall, HeldBuffersStay, OneSizeStays, OnlyOwnTakesCount, HistoriesGrow, HistoriesGrowByLists};
+ghost use Rattle.board_machine.specs.Laws.{OpenStreamsTakeFills, RunWordStays, EmptyOutputStays, HandedAreOwn};
 ghost use Rattle.std.specs.Prelude.{[]};
 ghost use Rattle.board_machine.specs.Machine.{empty_board};
 ghost use Rattle.board_machine.specs.Owners.{IsOwned};
@@ -162,6 +163,26 @@ pub fn one_size_stays()
 /// What an actor has taken changes by its own takes alone.
 pub fn only_own_takes_count()
     ensures { OnlyOwnTakesCount }
+{}
+
+/// While nobody closes an open stream, each fill is put into the output.
+pub fn open_streams_take_fills()
+    ensures { OpenStreamsTakeFills }
+{}
+
+/// A started acquisition stays started while nobody stops it.
+pub fn run_word_stays()
+    ensures { RunWordStays }
+{}
+
+/// An empty output stays empty while nothing is filled.
+pub fn empty_output_stays()
+    ensures { EmptyOutputStays }
+{}
+
+/// Where one actor makes all takes that get a buffer, what it took is what was handed out.
+pub fn handed_are_own()
+    ensures { HandedAreOwn }
 {}
 
 /// The board before any act stands for the history with no entries.

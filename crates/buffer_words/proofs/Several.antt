@@ -166,3 +166,39 @@ of_first s t u K M event whole nobody first second = record {
 -- a call that ends with a look at others' entries
 pub then_grows : (s t u : Token) (K : List Event → Type 0) → EntersOf s K t → GrowsTo t u → EntersThen s K u
 then_grows s t u K enters grows = record { middle = t; enters = enters; grows = grows }
+
+-- a call that sees others' entries, before a list that has an entry
+pub grows_then_each : (s t u : Token) (event : Event) (events : List Event) → GrowsTo s t → Run t.seen → EntersEach t (event ∷ events) u → EntersEach s (event ∷ events) u
+grows_then_each s t u event events grows run each = record {
+  table = each.table ∙ grows.table;
+  number = each.number ∙ grows.number;
+  between = grows.between ++ each.between;
+  seen = each.seen ∙ (ap (λ l. l ++ each.between) grows.seen ∙ append_assoc s.seen grows.between each.between);
+  own = own_of-append s.number grows.between each.between
+      ∙ (ap (λ l. l ++ own_of s.number each.between) grows.grew.others
+      ∙ subst (λ n. own_of n each.between ≡ entries_of n (event ∷ events)) grows.number each.own);
+  last = ends_later s.number event events grows.between each.between (subst (λ n. EndsWith n (event ∷ events) each.between) grows.number each.last);
+  alone = λ alone.
+      let nothing : grows.between ≡ [] = grows.grew.alone alone in
+      let same_seen : t.seen ≡ s.seen = grows.seen ∙ (ap (λ l. s.seen ++ l) nothing ∙ append-nil s.seen) in
+      let still : IsAlone (After t.seen) t.number =
+      subst (λ n. IsAlone (After t.seen) n) (sym grows.number) (subst (λ l. IsAlone (After l) s.number) (sym same_seen) alone) in
+      let adds : AddsAlone s.number (event ∷ events) each.between u.seen = subst (λ n. AddsAlone n (event ∷ events) each.between u.seen) grows.number (each.alone still) in
+      record { only = ap (λ l. l ++ each.between) nothing ∙ adds.only; alone = adds.alone };
+  run = λ _. each.run run;
+}
+
+-- a call after one that ended with a look at others' entries
+pub then_each : (s t u : Token) (K M : List Event → Type 0) (event : Event) (events : List Event) → ((es : List Event) → K es → M (es ++ event ∷ events)) → EntersThen s K t → Run t.seen → EntersEach t (event ∷ events) u → EntersOf s M u
+then_each s t u K M event events whole first run second = record {
+  events = first.enters.events ++ event ∷ events;
+  kind = whole first.enters.events first.enters.kind;
+  enters = each_then s first.middle u first.enters.events (event ∷ events) first.enters.enters (grows_then_each first.middle t u event events first.grows run second);
+}
+
+pub then_of : (s t u : Token) (K L M : List Event → Type 0) → ((es fs : List Event) → K es → L fs → M (es ++ fs)) → ¬ (L []) → EntersThen s K t → Run t.seen → EntersOf t L u → EntersOf s M u
+then_of s t u K L M whole some_entry first run second = go second.events second.kind second.enters
+  where
+    go : (fs : List Event) → L fs → EntersEach t fs u → EntersOf s M u
+    go [] kind each = absurd (some_entry kind)
+    go (event ∷ events) kind each = then_each s t u K M event events (λ es of. whole es (event ∷ events) of kind) first run each

@@ -32,6 +32,7 @@ mod witness;
 mod words;
 
 pub use crossing::{board_is_shared, tokens_cross};
+pub use gentl_types::{State, Word};
 pub use laws::{
     between_steps, both_add_both, entries_are_owned, hosted_histories_are_theirs, hosts_act,
     hosts_begin, hosts_join, hosts_see_more, hosts_split, loans_stay, new_workers_do_their_kind,

@@ -5,7 +5,7 @@ use Rattle.gev_report.specs.ReplayLines.{take_line}
 use Rattle.gev_script.specs.Lines as line
 use Rattle.gev_script.specs.Lines.{ScriptLine}
 use Rattle.board_machine.specs.Machine.{Item, word_at}
-use Rattle.script_trace.specs.BoardLines.{buffer_at}
+use Rattle.board_machine.specs.Ids.{buffer_at}
 use Rattle.soak_host.specs.Receiver.{Receiver, waiting, takes_one, soak_host}
 use Rattle.soak_receiver.specs.Standing.{Hosting, HostStands}
 use Rattle.gev_world.specs.Rounds.{Wrote}

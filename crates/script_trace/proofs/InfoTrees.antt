@@ -25,7 +25,8 @@ use Rattle.board_calls.specs.Infos.{IsOneWhere, Infos, IsStreamInfo, IsLive, Buf
 use Rattle.board_model.specs.Plain.{no_filling}
 use Rattle.script_trace.specs.Trace.{Trace, Part, board, caller, only_says}
 use Rattle.script_trace.specs.Answers.{refused_text, value_text}
-use Rattle.script_trace.specs.BoardLines.{buffer_at, TakesBuffer}
+use Rattle.board_machine.specs.Ids.{buffer_at}
+use Rattle.script_trace.specs.BoardLines.{TakesBuffer}
 use Rattle.script_trace.proofs.Trees.{Tree, asks, Follows, nowhere, follows_along, looks_tree, looks_follow}
 use Rattle.script_trace.proofs.CallTrees.{leaf, at_leaf}
 

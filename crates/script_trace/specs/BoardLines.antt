@@ -10,7 +10,8 @@ use Rattle.gentl_handles.specs.declared.opened.Opened.{Opened}
 use Rattle.gentl_handles.specs.Handles.{child_of}
 use Rattle.gev_report.specs.ReplayLines.{take_line}
 use Rattle.board_machine.specs.declared.events.Event.{Event}
-use Rattle.board_machine.specs.Machine.{Board, Item, item, word_at}
+use Rattle.board_machine.specs.Machine.{Item, item}
+use Rattle.board_machine.specs.Ids.{buffer_at}
 use Rattle.board_calls.specs.Calls.{Announces, Queues, Revokes, Borrows, Returns, Flushes, DiscardsOutput, Gets, Kills, itself}
 use Rattle.board_calls.specs.Infos.{Infos, BufferInfos}
 use Rattle.board_calls.specs.Loans.{loan_value, new_data, is_incomplete, size_filled, frame_id, data_larger_than_buffer}
@@ -56,10 +57,6 @@ InfoLine t which part =
 -- the handle under which an event of the stream with serial 4 is open
 abbrev pub open_event : Trace → Option Opened
 open_event t = child_of (Some 4) 0 t.handles.handles
-
--- the id of the buffer at a place
-abbrev pub buffer_at : Board → ℕ → BufferId
-buffer_at b place = buffer place (word_at b place).generation
 
 -- The output's first buffer is taken, told as its fill left it, and returned.
 pub record TakesBuffer (t : Trace) (moment : ℕ) (part : Part) : Type 0 where

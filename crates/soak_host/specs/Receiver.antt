@@ -19,7 +19,7 @@ use Rattle.acquisition_machine.specs.Machine.{State, Input, datagram, claimed, t
 use Rattle.acquisition_machine.specs.Runs.{first_state}
 use Rattle.acquisition_machine.specs.TurnLaws.{asked_by}
 use Rattle.script_trace.specs.Trace.{caller, acquirer}
-use Rattle.script_trace.specs.BoardLines.{buffer_at}
+use Rattle.board_machine.specs.Ids.{buffer_at}
 use Rattle.script_trace.specs.StreamLines.{outcome}
 use Rattle.script_trace.specs.Ending.{as_count}
 use Rattle.world_machine.specs.State.{HostNumbers, Host}

@@ -9,7 +9,7 @@ use Rattle.board_machine.specs.Machine.{Board, Item, word_at}
 use Rattle.acquisition_machine.specs.Machine.{State, step, datagram, tick, request_bytes}
 use Rattle.acquisition_machine.specs.TurnLaws.{asked_by}
 use Rattle.acquisition_machine.proofs.Order.{all_append}
-use Rattle.script_trace.specs.BoardLines.{buffer_at}
+use Rattle.board_machine.specs.Ids.{buffer_at}
 use Rattle.script_trace.specs.Opening.{opening}
 use Rattle.script_trace.specs.Ending.{as_count}
 use Rattle.script_replay.specs.declared.running.Running.{Running}

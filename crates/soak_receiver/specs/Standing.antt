@@ -12,7 +12,7 @@ use Rattle.script_trace.specs.Adding.{Leads}
 use Rattle.script_trace.specs.Opening.{opening}
 use Rattle.script_trace.specs.Ending.{as_count}
 use Rattle.script_trace.specs.Laws.{KeepsPromises}
-use Rattle.script_trace.specs.BoardLines.{buffer_at}
+use Rattle.board_machine.specs.Ids.{buffer_at}
 use Rattle.script_replay.specs.declared.running.Running.{Running}
 use Rattle.script_replay.specs.Replays.{StandsAt}
 use Rattle.world_machine.specs.State.{HostNumbers}

@@ -10,7 +10,7 @@ use Rattle.board_machine.specs.declared.events.TakeEnd.TheVariants.{Taken}
 use Rattle.board_machine.specs.Machine.{Board, Item, item, word_at, IsHeldAs}
 use Rattle.board_model.specs.Plain.{content_at}
 use Rattle.script_trace.specs.Trace.{caller}
-use Rattle.script_trace.specs.BoardLines.{buffer_at}
+use Rattle.board_machine.specs.Ids.{buffer_at}
 use Rattle.script_replay.specs.declared.running.Running.{Running}
 use Rattle.soak_host.specs.Receiver.{Receiver, acts_on, waiting, takes_one}
 use Rattle.soak_receiver.specs.Moves.{Moves, unchanged}

@@ -15,7 +15,7 @@ use Rattle.block_image.specs.OneBlock.{HoldsFrame}
 use Rattle.board_machine.specs.Machine.{Item}
 use Rattle.acquisition_machine.proofs.Order.{all_append}
 use Rattle.camera_machine.specs.Sending.{AreGenerated}
-use Rattle.script_trace.specs.BoardLines.{buffer_at}
+use Rattle.board_machine.specs.Ids.{buffer_at}
 use Rattle.world_machine.specs.State.{Run, image_shape}
 use Rattle.world_machine.specs.ClientTurn.{End}
 use Rattle.world_machine.specs.HostActs.{HostAct, host_hears, host_ticks, host_takes, host_after, host_acts_after}
