@@ -43,7 +43,7 @@ length-payloads_of f p (suc n) =
 pub length-sent_packets : (sent : SentFrame) → length (sent_packets sent) ≡ trailer_id sent + 1
 length-sent_packets sent =
     let n : ℕ = payload_count sent.payload_size (length sent.frame.pixels) in
-    omega (arith, length-append (payloads_of sent.frame sent.payload_size n) (trailer (sent_head sent.frame (n + 1)) sent.frame.size_y ∷ []), length-payloads_of sent.frame sent.payload_size n)
+    omega (arith, length-append (payloads_of sent.frame sent.payload_size n) (trailer (sent_head sent.frame (n + 1)) sent.frame.rows ∷ []), length-payloads_of sent.frame sent.payload_size n)
 
 range_filled : (sent : SentFrame) (first last : ℕ) → first ≤ trailer_id sent → first ≤ last → has_packets (range_of (Some sent) first last) ≡ true
 range_filled sent first last low order =

@@ -1,6 +1,7 @@
 pub mod Words
 pub mod Jobs
 pub mod Past
+pub mod FrameCounts
 pub mod Passing
 pub mod Repeats
 pub mod Sound

@@ -1,5 +1,5 @@
 -- Packets are given in order.
-use Rattle.std.proofs.Common.{◌≡◌, ℕ, zero, suc, true, List, [], ◌∷◌, ◌++◌, length, drop, length-drop, refl, ap, ◌∙◌, arith}
+use Rattle.std.proofs.Common.{◌≡◌, ℕ, zero, suc, true, List, [], ◌∷◌, ◌++◌, length, drop, length-drop, Some, refl, ap, ◌∙◌, arith}
 use Rattle.std.specs.Prelude.{slice_get, option_to_list}
 use Rattle.gev_types.specs.declared.frame.Shape.{Shape}
 use Rattle.stream_packets.specs.Packets.{StreamPacket}
@@ -10,6 +10,17 @@ use Rattle.camera_machine.specs.Laws.{AreFilled}
 use Rattle.camera_machine.specs.Sending.{PacketsComeInOrder}
 use Rattle.camera_machine.proofs.Jobs.{filled_rest}
 use Rattle.camera_machine.proofs.Past.{state_says}
+
+-- the packet that waits first, and the others
+pub first_and_rest : (jobs : List Job) (x : StreamPacket) → first_waiting jobs ≡ Some x → all_waiting jobs ≡ x ∷ all_waiting (without_first jobs)
+first_and_rest [] x e = absurd (cc)
+first_and_rest (job ∷ jobs) x e = go job.packets e
+  where
+    go : (packets : List StreamPacket) → first_waiting (record job { packets = packets } ∷ jobs) ≡ Some x
+        → all_waiting (record job { packets = packets } ∷ jobs) ≡ x ∷ all_waiting (without_first (record job { packets = packets } ∷ jobs))
+    go [] e = absurd (cc)
+    go (y ∷ []) e = let same : y ≡ x = cc in ap (λ (v : StreamPacket). v ∷ all_waiting jobs) same
+    go (y ∷ z ∷ ys) e = let same : y ≡ x = cc in ap (λ (v : StreamPacket). v ∷ z ∷ ys ++ all_waiting jobs) same
 
 first_is : (jobs : List Job) → AreFilled jobs → first_waiting jobs ≡ slice_get (all_waiting jobs) 0
 first_is [] h = refl

@@ -26,7 +26,7 @@ use Rattle.camera_machine.specs.Camera.{Kept, Camera, is_open, has_lost, release
 use Rattle.camera_machine.specs.Access.{Write, denied_unless, refusal_of, with_port, written, change_of, write_all, ended_by, after_one, read_all, addresses_in, pairs_in, words_in}
 use Rattle.camera_machine.specs.Stream.{with_frame, next_frame, asked_again, reply_count, replies_to, MAX_REPLIES}
 use Rattle.camera_machine.specs.Commands.{Executed, Answered, answered, read_answer, write_answer, read_memory, is_memory_size, only_answered, silent, finished, executed_as, from_primary, same_bytes, is_behind, is_access, resend_in, resent, obeyed, renewed, heard, commanded}
-use Rattle.camera_machine.specs.Events.{Event, command, tick, make_frame, next_packet, is_release}
+use Rattle.camera_machine.specs.Events.{Event, command, tick, make_frame, next_packet, set_short, is_release}
 use Rattle.camera_machine.specs.Primary.{OnePrimary, has_release, KeepsControl, Releases, ControlPasses, RefusedWriteEnds}
 use Rattle.camera_machine.proofs.Past.{option_or-none}
 
@@ -262,3 +262,4 @@ control_passes s make_frame h k = inl (go (is_open s))
     go true = record { holder = h; is = k; same_peer = refl }
     go false = record { holder = h; is = k; same_peer = refl }
 control_passes s next_packet h k = inl (record { holder = h; is = k; same_peer = refl })
+control_passes s (set_short short) h k = inl (record { holder = h; is = k; same_peer = refl })

@@ -30,7 +30,7 @@ use Rattle.camera_machine.specs.Camera.{Kept, Camera, new_camera, is_open, has_l
 use Rattle.camera_machine.specs.Access.{Write, Written, refusal_of, with_port, written, change_of, write_all, ended_by, after_one, read_all, addresses_in, pairs_in, words_in, denied_unless}
 use Rattle.camera_machine.specs.Stream.{next_frame, framed, with_frame, asked_again, with_reply, reply_count, MAX_REPLIES, replies_to, sent_packets}
 use Rattle.camera_machine.specs.Commands.{Executed, Answered, answered, read_answer, write_answer, read_memory, is_memory_size, only_answered, silent, finished, kept_of, other_answer, executed_as, from_primary, same_bytes, is_behind, is_access, resend_in, resent, obeyed, renewed, heard}
-use Rattle.camera_machine.specs.Events.{Event, command, tick, make_frame, next_packet, step, after, Deed, changed, made, with_changes, with_look, with_answer, past_with, past, changes_in, last_kept, frames_since_opening, counted_in}
+use Rattle.camera_machine.specs.Events.{Event, command, tick, make_frame, next_packet, set_short, step, after, Deed, changed, made, with_changes, with_look, with_answer, past_with, past, changes_in, last_kept, frames_since_opening, counted_in}
 use Rattle.camera_machine.specs.Laws.{AreFilled, IsLeftBy, StateSaysThePast}
 use Rattle.camera_machine.proofs.Words.{holds_written, holds_released, initial_holds}
 use Rattle.camera_machine.proofs.Jobs.{filled_push, filled_rest, replies_filled}
@@ -328,6 +328,7 @@ left_step start s ds (command peer bytes moment) h =
 left_step start s ds (tick moment) h = left_looked start s ds moment h
 left_step start s ds make_frame h = left_framed start s ds h
 left_step start s ds next_packet h = record { words = h.words; privilege = h.privilege; kept = h.kept; executed = h.executed; waiting = filled_rest s.waiting h.waiting; seed_is = h.seed_is; shape_is = h.shape_is; room_is = h.room_is; store = h.store }
+left_step start s ds (set_short short) h = record { words = h.words; privilege = h.privilege; kept = h.kept; executed = h.executed; waiting = h.waiting; seed_is = h.seed_is; shape_is = h.shape_is; room_is = h.room_is; store = h.store }
 
 initial_privilege : initial_at CCP ≡ 0
 unfolding register_at

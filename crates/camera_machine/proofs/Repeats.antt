@@ -17,7 +17,7 @@ use Rattle.bootstrap_regs.specs.Changes.{Change}
 use Rattle.camera_machine.specs.Camera.{Kept, Camera, new_camera, is_open, has_lost, looked}
 use Rattle.camera_machine.specs.Stream.{next_frame}
 use Rattle.camera_machine.specs.Commands.{Execution, Answered, only_answered, silent, executed_as, from_primary, same_bytes, is_behind, is_access, resend_in, resent, obeyed, renewed, heard, commanded}
-use Rattle.camera_machine.specs.Events.{Event, command, tick, make_frame, next_packet, after, Deed, changed, executed, made, with_execution, with_changes, with_look, past_with, past, last_kept, is_release}
+use Rattle.camera_machine.specs.Events.{Event, command, tick, make_frame, next_packet, set_short, after, Deed, changed, executed, made, with_execution, with_changes, with_look, past_with, past, last_kept, is_release}
 use Rattle.camera_machine.specs.Primary.{head_in, IsAccess, RepeatIsAnswered, BehindIsDropped}
 use Rattle.camera_machine.proofs.Past.{state_says}
 
@@ -218,6 +218,7 @@ all_step s make_frame ds h = go (is_open s)
     go true = h
     go false = h
 all_step s next_packet ds h = h
+all_step s (set_short short) ds h = h
 
 all_past : (start : Camera) (es : List Event) → AllAccess (past start es)
 all_past start [] = tt

@@ -52,9 +52,9 @@ payloads_sent frames p f e (suc n) h =
 frame_sent : (frames : Frames) (p : ℕ) (f : Frame) → frames f.block ≡ Some f → All (IsSent frames p) (packets_of f p)
 frame_sent frames p f e =
     let n : ℕ = payload_count p (length f.pixels) in
-    All-cons (IsSent frames p) (leader (sent_head f 0) (leader_info f)) (payloads_of f p n ++ trailer (sent_head f (n + 1)) f.size_y ∷ [])
+    All-cons (IsSent frames p) (leader (sent_head f 0) (leader_info f)) (payloads_of f p n ++ trailer (sent_head f (n + 1)) f.rows ∷ [])
     (record { frame = f; of_block = e; packet = (refl, refl, refl); status = inl refl })
-    (All-push (IsSent frames p) (payloads_of f p n) (trailer (sent_head f (n + 1)) f.size_y) (payloads_sent frames p f e n (omega arith))
+    (All-push (IsSent frames p) (payloads_of f p n) (trailer (sent_head f (n + 1)) f.rows) (payloads_sent frames p f e n (omega arith))
     (record { frame = f; of_block = e; packet = (refl, refl, refl); status = inl refl }))
 
 again_sent : (frames : Frames) (p : ℕ) (x : StreamPacket) → IsSent frames p x → IsSent frames p (again x)

@@ -1,5 +1,5 @@
 -- What a camera is at a moment (GigE Vision 2.0, device with one stream channel).
-use Rattle.std.specs.Prelude.{ℕ, Bool, not, ◌==◌, if◌then◌else◌, List, [], Option, None}
+use Rattle.std.specs.Prelude.{ℕ, Bool, false, not, ◌==◌, if◌then◌else◌, List, [], Option, None}
 use Rattle.gev_types.specs.declared.frame.Shape.{Shape}
 use Rattle.gev_types.specs.declared.peer.Peer.{Peer}
 use Rattle.stream_packets.specs.Packets.{StreamPacket}
@@ -36,6 +36,8 @@ pub record Camera : Type 0 where
   pub waiting : List Job
   -- how many register and memory commands of the primary were executed
   pub executed : ℕ
+  -- whether the frames that it makes are short ones
+  pub short : Bool
 
 -- a camera that holds at most so many frames
 abbrev pub new_camera : ℕ → Shape → ℕ → Camera
@@ -48,6 +50,7 @@ new_camera seed shape room = record {
   shelf = empty_shelf room;
   waiting = [];
   executed = 0;
+  short = false;
 }
 
 -- the stream channel is open while its host port isn't 0

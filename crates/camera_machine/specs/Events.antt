@@ -20,17 +20,29 @@ pub data Event : Type 0 where
   make_frame : Event
   -- the packet that waits first is given
   next_packet : Event
+  -- the frames that are made from here on are short ones, or whole ones
+  set_short : Bool → Event
 
 abbrev pub step : Camera → Event → Camera
 step s (command peer bytes moment) = (commanded s peer bytes moment).camera
 step s (tick moment) = looked s moment
 step s make_frame = framed s
 step s next_packet = given s
+step s (set_short short) = record s { short = short }
 
 -- the camera after these events, the latest of which comes first
 abbrev pub after : Camera → List Event → Camera
 after start [] = start
 after start (e ∷ es) = step (after start es) e
+
+-- whether frames are short after these events: as the latest one that sets it says
+abbrev pub last_short : List Event → Bool
+last_short [] = false
+last_short (command peer bytes moment ∷ es) = last_short es
+last_short (tick moment ∷ es) = last_short es
+last_short (make_frame ∷ es) = last_short es
+last_short (next_packet ∷ es) = last_short es
+last_short (set_short short ∷ es) = short
 
 -- ---- steps with all that waits
 
@@ -87,6 +99,7 @@ past_with s (command peer bytes moment) ds = with_answer (commanded s peer bytes
 past_with s (tick moment) ds = with_look s moment ds
 past_with s make_frame ds = if is_open s then made (next_frame s) ∷ ds else ds
 past_with s next_packet ds = ds
+past_with s (set_short short) ds = ds
 
 -- all that these events did from a camera on, the latest first
 abbrev pub past : Camera → List Event → List Deed

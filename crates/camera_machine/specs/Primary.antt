@@ -14,7 +14,7 @@ use Rattle.control_privilege.specs.Control.{is_primary}
 use Rattle.camera_machine.specs.Camera.{Kept, Camera, new_camera, has_lost}
 use Rattle.camera_machine.specs.Access.{Write, refusal_of, write_all}
 use Rattle.camera_machine.specs.Commands.{is_access, is_behind, only_answered, silent, renewed, commanded}
-use Rattle.camera_machine.specs.Events.{Event, command, tick, make_frame, next_packet, step, after, is_release}
+use Rattle.camera_machine.specs.Events.{Event, command, tick, make_frame, next_packet, set_short, step, after, is_release}
 
 -- ---- who has control
 
@@ -42,6 +42,7 @@ EndsControl s h (command peer bytes moment) = IsTrue (has_lost s moment) ⊎ Rel
 EndsControl s h (tick moment) = IsTrue (has_lost s moment)
 EndsControl s h make_frame = ⊥
 EndsControl s h next_packet = ⊥
+EndsControl s h (set_short short) = ⊥
 
 -- Whatever happens, the peer that has control keeps it, or the event ended its control.
 abbrev pub ControlPasses : Camera → Event → Type 0

@@ -7,7 +7,7 @@ use Rattle.stream_packets.specs.Packets.{StreamPacket, leader, payload, trailer,
 use Rattle.camera_machine.specs.Camera.{Camera, new_camera}
 use Rattle.camera_machine.specs.Stream.{all_waiting, first_waiting}
 use Rattle.camera_machine.specs.Commands.{commanded}
-use Rattle.camera_machine.specs.Events.{Event, command, tick, make_frame, next_packet, step}
+use Rattle.camera_machine.specs.Events.{Event, command, tick, make_frame, next_packet, set_short, step}
 
 -- ---- running events in order
 
@@ -20,6 +20,7 @@ said s (command peer bytes moment) = said_of (commanded s peer bytes moment).ack
 said s (tick moment) = []
 said s make_frame = []
 said s next_packet = []
+said s (set_short short) = []
 
 -- the acknowledges that go out, in order
 abbrev pub answers : Camera → List Event → List (List ℕ)

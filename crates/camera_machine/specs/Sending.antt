@@ -1,9 +1,9 @@
 -- The laws of the frames and packets of a camera over lists of events, which `src/laws.rt` proves.
-use Rattle.std.specs.Prelude.{◌≡◌, ℕ, ◌≤◌, List, [], ◌∷◌, Option, Some, None, Result, Ok, Err, All, IfSome, drop, slice_get}
+use Rattle.std.specs.Prelude.{◌≡◌, ℕ, ◌+◌, ◌≤◌, Bool, false, List, [], ◌∷◌, Option, Some, None, Result, Ok, Err, All, IfSome, drop, slice_get}
 use Rattle.gev_types.specs.declared.frame.Frame.{Frame}
 use Rattle.gev_types.specs.declared.frame.Shape.{Shape}
 use Rattle.gev_types.specs.FrameSize.{IsImageSize}
-use Rattle.gev_frames.specs.Frames.{shape_size, frame_of}
+use Rattle.gev_frames.specs.Frames.{shape_size, rows_of, camera_frame, MayBeShort}
 use Rattle.stream_packets.specs.Sent.{AreFrames, IsSent}
 use Rattle.gvcp_wire.specs.declared.message.CommandHead.{CommandHead}
 use Rattle.gvcp_wire.specs.declared.message.ControlError.{ControlError}
@@ -13,20 +13,62 @@ use Rattle.gvcp_aux.specs.declared.resend.Resend.{Resend}
 use Rattle.resend_store.specs.Pushes.{reply_of}
 use Rattle.resend_store.specs.Shelf.{reply_in}
 use Rattle.camera_machine.specs.Camera.{Camera, new_camera}
-use Rattle.camera_machine.specs.Stream.{all_waiting, waiting_count, first_waiting, given, packets_given, after_given, emptied}
+use Rattle.camera_machine.specs.Stream.{next_frame, all_waiting, waiting_count, first_waiting, given, packets_given, after_given, emptied}
 use Rattle.camera_machine.specs.Commands.{resend_in}
-use Rattle.camera_machine.specs.Events.{Event, command, tick, make_frame, next_packet, Deed, changed, executed, made, after, past, frames_since_opening, frames_made}
+use Rattle.camera_machine.specs.Events.{Event, command, tick, make_frame, next_packet, set_short, Deed, changed, executed, made, after, past, last_short, frames_since_opening, frames_made}
 
 -- ---- frames
 
--- The frames that were made are the generator's, each under its own id: valid ones, where the shape has
--- a size that a frame may have.
-pub record AreGenerated (seed : ℕ) (shape : Shape) (frames : ℕ → Option Frame) : Type 0 where
-  pub same : (b : ℕ) (f : Frame) → frames b ≡ Some f → f ≡ frame_of seed b shape
-  pub valid : IsImageSize (shape_size shape) → AreFrames frames
+-- each frame was made with this shortness: it has so many lines as a frame of its id then has
+abbrev pub HaveRows : Bool → Shape → List Deed → Type 0
+HaveRows short shape [] = Unit {0}
+HaveRows short shape (changed c ∷ ds) = HaveRows short shape ds
+HaveRows short shape (executed x ∷ ds) = HaveRows short shape ds
+HaveRows short shape (made sent ∷ ds) = (sent.frame.rows ≡ rows_of short sent.frame.block shape) × HaveRows short shape ds
+
+-- The frames that were made are the generator's, all whole or all short, each under its own id: valid
+-- ones, where the shape has a size that a frame may have, and lines enough for short ones.
+pub record AreGenerated (short : Bool) (seed : ℕ) (shape : Shape) (frames : ℕ → Option Frame) : Type 0 where
+  pub same : (b : ℕ) (f : Frame) → frames b ≡ Some f → f ≡ camera_frame short seed b shape
+  pub valid : IsImageSize (shape_size shape) → MayBeShort short shape → AreFrames frames
+
+-- Each of these frames is the generator's, whole or short, under its own id; where all were made with one
+-- shortness, it's of that.
+pub record AreOfGenerator (seed : ℕ) (shape : Shape) (deeds : List Deed) : Type 0 where
+  pub each : (b : ℕ) (f : Frame) → frames_made deeds b ≡ Some f → (short : Bool) × (f ≡ camera_frame short seed b shape)
+  pub valid : IsImageSize (shape_size shape) → 8 ≤ shape.size_y → AreFrames (frames_made deeds)
+  pub all : (short : Bool) → HaveRows short shape deeds → AreGenerated short seed shape (frames_made deeds)
 
 abbrev pub FramesAreGenerated : ℕ → Shape → ℕ → List Event → Type 0
-FramesAreGenerated seed shape room es = AreGenerated seed shape (frames_made (past (new_camera seed shape room) es))
+FramesAreGenerated seed shape room es = AreOfGenerator seed shape (past (new_camera seed shape room) es)
+
+-- ---- short frames
+
+-- no event sets whether frames are short
+abbrev pub IsNeverSet : List Event → Type 0
+IsNeverSet [] = Unit {0}
+IsNeverSet (command peer bytes moment ∷ es) = IsNeverSet es
+IsNeverSet (tick moment ∷ es) = IsNeverSet es
+IsNeverSet (make_frame ∷ es) = IsNeverSet es
+IsNeverSet (next_packet ∷ es) = IsNeverSet es
+IsNeverSet (set_short short ∷ es) = ⊥
+
+-- the first event sets it to this, and no other sets it
+abbrev pub IsSetFirst : Bool → List Event → Type 0
+IsSetFirst short [] = ⊥
+IsSetFirst short (command peer bytes moment ∷ es) = IsSetFirst short es
+IsSetFirst short (tick moment ∷ es) = IsSetFirst short es
+IsSetFirst short (make_frame ∷ es) = IsSetFirst short es
+IsSetFirst short (next_packet ∷ es) = IsSetFirst short es
+IsSetFirst short (set_short to ∷ es) = (to ≡ short) × (es ≡ [])
+
+-- The frame that is made after these events is short exactly where the latest event that sets it said so.
+-- So all frames are whole where no event sets it, and of one shortness where the first alone does.
+pub record FramesAreShort (seed : ℕ) (shape : Shape) (room : ℕ) (es : List Event) : Type 0 where
+  pub next : (next_frame (after (new_camera seed shape room) es)).frame
+      ≡ camera_frame (last_short es) seed ((after (new_camera seed shape room) es).shelf.count + 1) shape
+  pub never : IsNeverSet es → HaveRows false shape (past (new_camera seed shape room) es)
+  pub first : (short : Bool) → IsSetFirst short es → HaveRows short shape (past (new_camera seed shape room) es)
 
 -- ---- packets
 
@@ -49,16 +91,18 @@ AskFromOne (command peer bytes moment ∷ es) = IfSome (asked_in (command_readin
 AskFromOne (tick moment ∷ es) = AskFromOne es
 AskFromOne (make_frame ∷ es) = AskFromOne es
 AskFromOne (next_packet ∷ es) = AskFromOne es
+AskFromOne (set_short short ∷ es) = AskFromOne es
 
 -- All packets that wait, and so the next that is given, are ones that a camera of these frames may send.
 pub record GivesSent (frames : ℕ → Option Frame) (p : ℕ) (s : Camera) : Type 0 where
   pub waiting : All (IsSent frames p) (all_waiting s.waiting)
   pub next : IfSome (first_waiting s.waiting) (IsSent frames p)
 
--- So it is after any events of a new camera, of the map of frames that it made.
-abbrev pub PacketsAreSent : ℕ → Shape → ℕ → ℕ → List Event → Type 0
-PacketsAreSent seed shape room p es =
-    AskFromOne es → HaveSize p (past (new_camera seed shape room) es)
+-- So it is after any events of a new camera, of the map of frames that it made, where each was made with
+-- payloads of p bytes and this shortness.
+abbrev pub PacketsAreSent : ℕ → Shape → ℕ → ℕ → Bool → List Event → Type 0
+PacketsAreSent seed shape room p short es =
+    AskFromOne es → HaveSize p (past (new_camera seed shape room) es) → HaveRows short shape (past (new_camera seed shape room) es)
     → GivesSent (frames_made (past (new_camera seed shape room) es)) p (after (new_camera seed shape room) es)
 
 -- ---- replies

@@ -1,7 +1,7 @@
 -- The frames that a camera makes, the packets that wait, and the replies to PACKETRESEND (GigE Vision
 -- 2.0, GVSP and PACKETRESEND).
 use Rattle.std.specs.Prelude.{ℕ, zero, suc, option_to_list, ◌+◌, ◌-◌, ◌%◌, ◌^◌, Bool, true, false, nat_lt, if◌then◌else◌, List, [], ◌∷◌, ◌++◌, drop, take, length, map, flat_map, Option, Some, None}
-use Rattle.gev_frames.specs.Frames.{frame_of}
+use Rattle.gev_frames.specs.Frames.{camera_frame}
 use Rattle.stream_packets.specs.declared.fields.Head.{Head}
 use Rattle.stream_packets.specs.Packets.{StreamPacket, leader, payload, trailer, notice}
 use Rattle.stream_packets.specs.FramePackets.{packets_of}
@@ -50,9 +50,9 @@ HEADER_BYTES = 48
 abbrev pub payload_size_of : Camera → ℕ
 payload_size_of s = word_at s.words SCPS0 % 2 ^ 16 - HEADER_BYTES
 
--- the frame that is made next, with the payload size that stands now
+-- the frame that is made next, short or not as is set now, with the payload size that stands now
 abbrev pub next_frame : Camera → SentFrame
-next_frame s = record { frame = frame_of s.seed (s.shelf.count + 1) s.shape; payload_size = payload_size_of s }
+next_frame s = record { frame = camera_frame s.short s.seed (s.shelf.count + 1) s.shape; payload_size = payload_size_of s }
 
 abbrev pub sent_packets : SentFrame → List StreamPacket
 sent_packets sent = packets_of sent.frame sent.payload_size

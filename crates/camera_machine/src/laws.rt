@@ -1,6 +1,6 @@
 //! Laws over the definitions of the camera. Each function only carries its statement.
 
-ghost use Rattle.std.specs.Prelude.{ℕ, List};
+ghost use Rattle.std.specs.Prelude.{ℕ, Bool, List};
 ghost use Rattle.gev_types.specs.declared.frame.Shape.{Shape};
 ghost use Rattle.gev_types.specs.declared.peer.Peer.{Peer};
 ghost use Rattle.gvcp_wire.specs.declared.status.Status.{Status};
@@ -8,7 +8,7 @@ ghost use Rattle.camera_machine.specs.Camera.{Camera};
 ghost use Rattle.camera_machine.specs.Access.{Write};
 ghost use Rattle.camera_machine.specs.Events.{Event};
 ghost use Rattle.camera_machine.specs.Laws.{NewWordsAreInitial, StateSaysThePast};
-ghost use Rattle.camera_machine.specs.Sending.{FramesAreGenerated, PacketsAreSent, PacketsComeInOrder, RepliesSayThePast};
+ghost use Rattle.camera_machine.specs.Sending.{FramesAreGenerated, FramesAreShort, PacketsAreSent, PacketsComeInOrder, RepliesSayThePast};
 ghost use Rattle.camera_machine.specs.Primary.{OnePrimary, ControlPasses, StrangerChangesNothing, RefusedWriteEnds, RepeatIsAnswered, BehindIsDropped};
 
 /// At most one peer has control.
@@ -62,16 +62,24 @@ pub fn state_says_the_past()
     ensures { (seed : ℕ) (shape : Shape) (room : ℕ) (es : List Event) → StateSaysThePast seed shape room es }
 {}
 
-/// The frames that a camera makes are the generator's, each under its own id from 1 on, and valid ones.
+/// The frames that a camera makes are the generator's, whole or short, each under its own id from 1 on,
+/// and valid ones; where all were made with one shortness, they are the whole ones, or the short ones.
 pub fn made_frames_are_generated()
     ensures { (seed : ℕ) (shape : Shape) (room : ℕ) (es : List Event) → FramesAreGenerated seed shape room es }
 {}
 
+/// A frame is short exactly where the latest event that set it said so: all frames are whole where no
+/// event sets it, and of one shortness where the first event sets it and no other does.
+pub fn frames_are_short_as_was_set()
+    ensures { (seed : ℕ) (shape : Shape) (room : ℕ) (es : List Event) → FramesAreShort seed shape room es }
+{}
+
 /// Each packet that a camera gives is a sent packet of the map of frames that it made, where each frame
-/// was made with one payload size and no command asked for packets of block 0. Without the first the
-/// sizes differ, and without the second a notice names block 0.
+/// was made with one payload size and one shortness, and no command asked for packets of block 0. Without
+/// the first the sizes differ, without the second two frames may have one id, and without the third a
+/// notice names block 0.
 pub fn given_packets_are_sent()
-    ensures { (seed : ℕ) (shape : Shape) (room p : ℕ) (es : List Event) → PacketsAreSent seed shape room p es }
+    ensures { (seed : ℕ) (shape : Shape) (room p : ℕ) (short : Bool) (es : List Event) → PacketsAreSent seed shape room p short es }
 {}
 
 /// The reply to a range of packets is that of the list of all frames that were made since the channel

@@ -20,6 +20,7 @@ fn laws() {
     laws::new_words_are_initial();
     laws::state_says_the_past();
     laws::made_frames_are_generated();
+    laws::frames_are_short_as_was_set();
     laws::given_packets_are_sent();
     laws::replies_say_the_past();
     laws::packets_come_in_order();
