@@ -1,5 +1,5 @@
 -- Worked rows: what a camera answers to given datagrams, byte by byte.
-use Rattle.std.specs.Prelude.{◌≡◌, ℕ, List, [], ◌∷◌, ◌++◌, Option, Some, None}
+use Rattle.std.specs.Prelude.{◌≡◌, ℕ, true, false, List, [], ◌∷◌, ◌++◌, Option, Some, None}
 use Rattle.byteorder.specs.Endian.{big_bytes}
 use Rattle.gev_types.specs.declared.peer.Peer.{Peer}
 use Rattle.stream_packets.specs.declared.fields.Head.{Head}
@@ -153,3 +153,43 @@ pub record StreamRows : Type 0 where
   -- the fifth frame is one too many for the first
   pub gone : all_waiting (ending (ending ready_camera (make_frame ∷ make_frame ∷ make_frame ∷ make_frame ∷ make_frame ∷ [])) (last_packets_asked ∷ [])).waiting
       ≡ waiting_after (make_frame ∷ make_frame ∷ make_frame ∷ make_frame ∷ make_frame ∷ []) ++ notice (head_with 0x8012 0 2) ∷ []
+
+-- ---- short frames
+
+-- a camera of images of eight lines of one pixel, with the channel open
+abbrev pub tall_camera : Camera
+tall_camera = ending (new_camera 0 (record { pixel = 0x01080001; size_x = 1; size_y = 8 }) 4) opening
+
+-- the packets of its first frame of so many lines, whose bytes are these
+abbrev pub tall_frame : ℕ → List ℕ → List StreamPacket
+tall_frame rows bytes =
+    leader (head_with 0 0 0) (record {
+      timestamp = 1;
+      pixel = 0x01080001;
+      size_x = 1;
+      size_y = 8;
+      offset_x = 0;
+      offset_y = 0;
+      padding_x = 0;
+      padding_y = 0;
+      size = 8;
+    })
+    ∷ payload (head_with 0 0 1) bytes ∷ trailer (head_with 0 0 2) rows ∷ []
+
+-- what waits after the events
+abbrev pub tall_waiting : List Event → List StreamPacket
+tall_waiting events = all_waiting (ending tall_camera events).waiting
+
+-- control is released
+abbrev pub released_by_host : Event
+released_by_host = command (host 1) (big_bytes 16 0x420100820008000300000a0000000000) 0
+
+pub record ShortRows : Type 0 where
+  -- the leader announces eight lines, the first short frame has seven, and its trailer tells them
+  pub short : tall_waiting (set_short true ∷ make_frame ∷ []) ≡ tall_frame 7 (big_bytes 7 0x6c82a562cb808d)
+  pub whole : tall_waiting (make_frame ∷ []) ≡ tall_frame 8 (big_bytes 8 0x6c82a562cb808d10)
+  pub set_back : tall_waiting (set_short true ∷ set_short false ∷ make_frame ∷ []) ≡ tall_frame 8 (big_bytes 8 0x6c82a562cb808d10)
+  -- what waits stays as it was made
+  pub waits : tall_waiting (make_frame ∷ set_short true ∷ []) ≡ tall_frame 8 (big_bytes 8 0x6c82a562cb808d10)
+  -- frames stay short where control is released and the channel is opened again
+  pub stays : (ending tall_camera (set_short true ∷ released_by_host ∷ opening)).short ≡ true

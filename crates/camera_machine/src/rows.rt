@@ -1,6 +1,6 @@
 //! Worked rows of the camera's definitions. Each function only carries its statement.
 
-ghost use Rattle.camera_machine.specs.Rows.{SecondPeerWaits, StrangerReads, ExclusiveAccessKeepsOut, HostileCommands, StreamRows};
+ghost use Rattle.camera_machine.specs.Rows.{SecondPeerWaits, StrangerReads, ExclusiveAccessKeepsOut, HostileCommands, StreamRows, ShortRows};
 
 /// A second peer gets control only when the heartbeat of the first ran out, and its repeat isn't
 /// executed.
@@ -26,4 +26,9 @@ pub fn hostile_commands_are_answered()
 /// A frame's packets, and the replies to requests for packets again.
 pub fn stream_rows_hold()
     ensures { StreamRows }
+{}
+
+/// Frames of fewer lines than their leader announces.
+pub fn short_rows_hold()
+    ensures { ShortRows }
 {}

@@ -7,6 +7,7 @@ fn rows() {
     rows::exclusive_access_keeps_out();
     rows::hostile_commands_are_answered();
     rows::stream_rows_hold();
+    rows::short_rows_hold();
 }
 
 #[test]
