@@ -12,10 +12,11 @@ use Rattle.buffer_words.specs.Loans.{Lent}
 use Rattle.buffer_words.specs.Several.{EntersEach, EntersOf, EntersThen}
 use Rattle.buffer_words.proofs.Several.{each_none, each_then}
 use Rattle.buffer_words.proofs.Retries.{grows_self, hands_self, hands_then, hands_then_has}
-use Rattle.gentl_events.specs.Readings.{TellsEach, AreEarly}
+use Rattle.gentl_events.specs.Readings.{AreEarly}
 use Rattle.gentl_events.specs.Turns.{idle_turn, idle_turns, last_turn, lent_items, TakesMore, HasLoan, TurnsWith, EndsWait, Turns}
 use Rattle.gentl_events.specs.Waits.{AnswersBy, Waits}
-use Rattle.gentl_events.proofs.Readings.{tells_first, tells_more, early_more}
+use Rattle.gev_links.proofs.Growing.{tells_first, tells_more}
+use Rattle.gentl_events.proofs.Readings.{early_more}
 use Rattle.gentl_events.proofs.Taking.{takes_then}
 
 -- The wait goes on: each turn was idle, and no moment was late.

@@ -6,7 +6,8 @@ use Rattle.gentl_types.specs.declared.errors.GcError.TheVariants.{InvalidHandle,
 use Rattle.gentl_types.specs.declared.errors.Shown.TheVariants as shown
 use Rattle.board_machine.specs.declared.events.Event.{Event}
 use Rattle.buffer_words.specs.Loans.{Lent}
-use Rattle.gentl_events.specs.Readings.{TellsEach, IsLate, AreEarly}
+use Rattle.gev_links.specs.Moments.{TellsEach}
+use Rattle.gentl_events.specs.Readings.{IsLate, AreEarly}
 use Rattle.gentl_events.specs.Turns.{idle_turns, last_turn}
 
 -- The last of these moments is the first late one.

@@ -1,2 +1,5 @@
 pub mod Sendings
 pub mod Telling
+pub mod Receiving
+pub mod Giving
+pub mod Growing

@@ -1,5 +1,10 @@
 pub mod Faults
 pub mod Told
 pub mod Moments
+pub mod Links
+pub mod Given
+pub mod Receptions
+pub mod LinkState
+pub mod PortsState
 pub mod SourceState
 pub mod SinkState

@@ -1,13 +1,22 @@
--- What a clock tells of its moments. None means that it tells nothing, or nothing any more.
-use Rattle.std.specs.Prelude.{◌≡◌, ⊤, ℕ, zero, suc, ◌-◌, ◌^◌, ◌==◌, nat_lt, if◌then◌else◌, List, [], ◌∷◌, ◌++◌, length, slice_index, Option, Some, None}
+-- What a clock tells of its moments, and a link of its receives. None means that it tells nothing, or nothing
+-- any more.
+use Rattle.std.specs.Prelude.{◌≡◌, ⊤, ℕ, zero, suc, ◌+◌, ◌-◌, ◌^◌, ◌≤◌, ◌==◌, nat_lt, if◌then◌else◌, List, [], ◌∷◌, ◌++◌, length, slice_index, Option, Some, None}
 
--- This moment was told after those. A clock that tells nothing never tells; one that tells goes on with it
--- for 2 ^ 64 - 1 moments at least.
-abbrev pub Tells : Option (List ℕ) → Option (List ℕ) → ℕ → Type 0
-Tells None None moment = ⊤
-Tells None (Some new) moment = ⊥
-Tells (Some old) None moment = length old ≡ 2 ^ 64 - 1
-Tells (Some old) (Some new) moment = new ≡ old ++ moment ∷ []
+-- This was told after those. What tells nothing never tells; what tells goes on with it for 2 ^ 64 - 1 members
+-- at least.
+abbrev pub Tells : {A : Type 0} → Option (List A) → Option (List A) → A → Type 0
+Tells None None member = ⊤
+Tells None (Some new) member = ⊥
+Tells (Some old) None member = length old ≡ 2 ^ 64 - 1
+Tells (Some old) (Some new) member = new ≡ old ++ member ∷ []
+
+-- These were told one after the other, after those that were told before. What told, and tells nothing any
+-- more, told 2 ^ 64 - 1 members at least.
+abbrev pub TellsEach : {A : Type 0} → Option (List A) → Option (List A) → List A → Type 0
+TellsEach None None members = ⊤
+TellsEach None (Some new) members = ⊥
+TellsEach (Some old) None members = 2 ^ 64 - 1 ≤ length old + length members
+TellsEach (Some old) (Some new) members = new ≡ old ++ members
 
 -- ---- a clock in memory
 

@@ -6,12 +6,21 @@
 #![tactic(auto)]
 
 mod clock;
+mod counting;
+mod discarding_link;
 mod failed;
+mod fault_count;
 mod gate;
 mod gates;
+mod link;
 mod memory_clock;
+mod memory_link;
+mod memory_ports;
 mod memory_sink;
 mod memory_source;
+mod ports;
+mod reception;
+mod receptions;
 mod sink;
 mod source;
 mod steady_source;
@@ -20,12 +29,18 @@ mod tests;
 mod writing;
 
 pub use clock::Clock;
+pub use discarding_link::DiscardingLink;
 pub use failed::Failed;
+pub use fault_count::CountsFaults;
 pub use gate::Gate;
 pub use gates::{HoldingGate, OpenGate};
+pub use link::Link;
 pub use memory_clock::MemoryClock;
+pub use memory_link::MemoryLink;
+pub use memory_ports::MemoryPorts;
 pub use memory_sink::MemorySink;
 pub use memory_source::MemorySource;
+pub use ports::Ports;
 pub use sink::Sink;
 pub use source::Source;
 pub use steady_source::SteadySource;

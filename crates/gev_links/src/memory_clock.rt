@@ -1,7 +1,8 @@
-ghost use Rattle.std.specs.Prelude.{◌≡◌, ◌<◌, ◌+◌, ◌-◌, ◌^◌, Some, None, option_map};
+ghost use Rattle.std.specs.Prelude.{◌≡◌, Some, option_map};
 ghost use Rattle.gev_links.specs.Moments.{last_moment, moment_at, told_by};
 
 use crate::clock::Clock;
+use crate::counting::one_more;
 use std::marker::Model;
 
 /// A clock in memory, which tells the moments of a list, then the last of them again and again. With an
@@ -31,18 +32,6 @@ impl<'a> MemoryClock<'a> {
             moments,
             count: Some(0),
         }
-    }
-}
-
-/// One more; None where that can't be counted.
-fn one_more(count: u64) -> Option<u64>
-    ensures more { count < 2 ^ 64 - 1 → result ≡ Some (count + 1) }
-    ensures most { count ≡ 2 ^ 64 - 1 → result ≡ None }
-{
-    if count < u64::MAX {
-        Some(count + 1)
-    } else {
-        None
     }
 }
 

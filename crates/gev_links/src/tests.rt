@@ -1,4 +1,8 @@
+ghost use Rattle.std.specs.Prelude.{◌≡◌, [], Some, IfOk};
+
 use crate::*;
+use gev_types::{NoMemory, Peer};
+use std::alloc::Global;
 use std::process::Abort;
 use std::test::*;
 
@@ -148,4 +152,128 @@ fn gates(rt: HostRuntime) {
     HoldingGate::new(2, 5).pass(1);
     HoldingGate::new(2, 5).pass(2);
     assert!(rt; true);
+}
+
+const HERE: Peer = Peer {
+    address: 0x7f00_0001,
+    port: 49152,
+};
+
+const THERE: Peer = Peer {
+    address: 0x7f00_0001,
+    port: 3956,
+};
+
+/// One receive into `length` bytes: the bytes that came and who sent them, or a fault.
+fn check_receive<L: Link>(
+    rt: &impl Abort,
+    link: &mut L,
+    length: usize,
+    want: Result<Option<&[u8]>, Failed>,
+) {
+    let mut out = [0xee; 8];
+    assert!(rt; length <= out.len());
+    match link.recv(&mut out[..length]) {
+        Ok(Some((count, peer))) => {
+            assert_eq!(rt; peer, THERE);
+            assert_eq!(rt; Ok(Some(&out[..count])), want);
+        }
+        Ok(None) => assert_eq!(rt; Ok(None), want),
+        Err(failed) => assert_eq!(rt; Err(failed), want),
+    }
+}
+
+// Length of the slice, what the receive gives, and the faults so far. The second and the fourth fail: the
+// second uses up a datagram, and the fourth is behind the end of the list.
+#[test]
+fn receives_in_memory(rt: HostRuntime) -> Result<(), Fail> {
+    let answers: [Option<(&[u8], Peer)>; 3] = [
+        Some((&[1, 2, 3], THERE)),
+        Some((&[4], THERE)),
+        None,
+    ];
+    let mut link = MemoryLink::new(rt.alloc(), HERE, &answers, &[2, 4], &[], 0)?;
+    assert_eq!(rt; link.peer(), HERE);
+    let rows: [(usize, Result<Option<&[u8]>, Failed>, u64); 5] = [
+        (2, Ok(Some(&[1, 2])), 0),
+        (8, Err(Failed), 1),
+        (8, Ok(None), 1),
+        (8, Ok(None), 1),
+        (8, Ok(None), 1),
+    ];
+    for (length, want, faults) in rows {
+        check_receive(&rt, &mut link, length, want);
+        assert_eq!(rt; link.fault_count(), faults);
+    }
+    let mut silent = DiscardingLink::new(rt.alloc(), HERE, &answers)?;
+    assert_eq!(rt; silent.peer(), HERE);
+    check_receive(&rt, &mut silent, 0, Ok(Some(&[])));
+    check_receive(&rt, &mut silent, 8, Ok(Some(&[4])));
+    check_receive(&rt, &mut silent, 8, Ok(None));
+    check_receive(&rt, &mut silent, 8, Ok(None));
+    assert_eq!(rt; silent.send(THERE, &[1]), Ok(()));
+    assert_eq!(rt; silent.fault_count(), 0);
+    Ok(())
+}
+
+// Room for two datagrams; the second send fails.
+#[test]
+fn sends_in_memory(rt: HostRuntime) -> Result<(), Fail> {
+    let mut link = MemoryLink::new(rt.alloc(), HERE, &[], &[], &[2], 2)?;
+    assert_eq!(rt; link.send(THERE, &[1, 2]), Ok(()));
+    assert_eq!(rt; link.send(THERE, &[3]), Err(Failed));
+    assert_eq!(rt; link.send(HERE, &[]), Ok(()));
+    assert_eq!(rt; link.send(THERE, &[4]), Err(Failed));
+    assert_eq!(rt; link.fault_count(), 2);
+    assert_eq!(rt; link.sent().len(), 2);
+    assert_eq!(rt; link.sent()[0].0, THERE);
+    assert_eq!(rt; link.sent()[0].1.as_slice(), [1, 2].as_slice());
+    assert_eq!(rt; link.sent()[1].0, HERE);
+    assert_eq!(rt; link.sent()[1].1.as_slice(), [].as_slice());
+    Ok(())
+}
+
+/// A link to which nothing comes.
+fn quiet_link<'a>(
+    alloc: Global,
+    peer: Peer,
+    failing_sends: &'a [u64],
+) -> Result<MemoryLink<'a>, NoMemory>
+    ensures unheard { IfOk result (λ link. link.received ≡ Some []) }
+    ensures unsent { IfOk result (λ link. link.sent ≡ []) }
+    ensures faults { IfOk result (λ link. link.faults ≡ 0) }
+{
+    MemoryLink::new(alloc, peer, &[], &[], failing_sends, 1)
+}
+
+#[test]
+fn ports_in_memory(rt: HostRuntime) -> Result<(), Fail> {
+    let first = quiet_link(rt.alloc(), HERE, &[1])?;
+    let second = quiet_link(rt.alloc(), HERE, &[])?;
+    let third = quiet_link(rt.alloc(), THERE, &[])?;
+    let moments: [&[u64]; 3] = [&[1], &[2, 3], &[4]];
+    let mut ports = MemoryPorts::new(rt.alloc(), first, second, third, moments, &[2])?;
+    let (mut faulty, here) = ports.bind()?;
+    assert_eq!(rt; here, HERE);
+    assert!(rt; ports.bind().is_err());
+    assert_eq!(rt; ports.faults(), 1);
+    let (last, there) = ports.bind()?;
+    assert_eq!(rt; there, THERE);
+    assert!(rt; ports.bind().is_err());
+    assert_eq!(rt; ports.faults(), 2);
+
+    assert_eq!(rt; faulty.send(THERE, &[]), Err(Failed));
+    ports.unbind(last);
+    assert_eq!(rt; ports.faults(), 2);
+    ports.unbind(faulty);
+    assert_eq!(rt; ports.faults(), 3);
+    assert_eq!(rt; ports.links().len(), 2);
+    assert_eq!(rt; ports.links()[1].fault_count(), 1);
+
+    for want in [1, 2, 4, 0] {
+        let mut clock = ports.clock();
+        assert_eq!(rt; clock.now(), want);
+        ports.unclock(clock);
+    }
+    Ok(())
 }
