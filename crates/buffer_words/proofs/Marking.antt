@@ -1,15 +1,15 @@
 -- The steps on the kill mark and on the run word keep the rule.
 use Rattle.std.proofs.Common.{◌≡◌, ◌≢◌, ◌⊎◌, ℕ, ◌≤◌, ◌==◌, Bool, true, false, List, [], ◌∷◌, ◌++◌, set, get_or, Result, Ok, Err, refl, sym, ap, subst, ◌∙◌, inl, inr, eqb, arith}
-use Rattle.std.proofs.lemmas.List.{length-set, get_or-set_same, get_or-set_other, set-get_or}
+use Rattle.std.proofs.lemmas.List.{length-set, get_or-set_same, get_or-set_other}
 use Rattle.std.proofs.lemmas.Bool.{cases_eq}
 use mathlib.Core.Option as opt
 use prog.Atomic.{either}
 use lib.ListN.{get_elem?}
-use Rattle.atomic_table.specs.Table.{State, step, keeps, stepped, Allows}
+use Rattle.atomic_table.specs.Table.{State, step, keeps, Allows}
 use Rattle.atomic_table.proofs.Lists.{exchanged}
 use Rattle.board_machine.specs.declared.events.Event.{Event}
 use Rattle.board_machine.specs.declared.events.Event.TheVariants.{LookRun, Start, Stop, Post, Unpost, Join}
-use Rattle.board_machine.specs.Machine.{Board, hand, Meets, entry, next}
+use Rattle.board_machine.specs.Machine.{Board, Meets, entry, next}
 use Rattle.board_machine.specs.Histories.{After}
 use Rattle.board_machine.proofs.RunWord.{run_small}
 use Rattle.buffer_words.specs.declared.view.View.{View}

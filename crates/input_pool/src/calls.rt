@@ -9,8 +9,7 @@ ghost use Rattle.buffer_words.specs.Swept.{GetsAll};
 ghost use Rattle.input_pool.specs.Queued.{QueuesIn};
 
 use arrayvec::ArrayVec;
-use buffer_words::{Board, Pass, Tried};
-use gentl_types::Word;
+use buffer_words::{Board, Pass, Tried, Word};
 use std::sync::Wait;
 
 /// Puts the buffer of a place into the pool, where its word is Held with this generation; else the word

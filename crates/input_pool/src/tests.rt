@@ -4,8 +4,7 @@ ghost use Rattle.buffer_words.specs.Boards.{board_id};
 ghost use Rattle.buffer_words.specs.Passes.{IsEmptyHanded};
 
 use super::*;
-use buffer_words::{Board, Pass};
-use gentl_types::{State, Word};
+use buffer_words::{Board, Pass, State, Word};
 use gev_types::Buf;
 use std::alloc::Global;
 use std::sync::Wait;
