@@ -14,6 +14,8 @@ use Rattle.block_image.specs.Kept.{takes, has_id, has_trailer}
 use Rattle.block_image.specs.KeptFacts.{IsNumbered, IsLeaderFirst}
 use Rattle.block_image.specs.Image.{reaches_past, leader_in, has_trailer_at}
 use Rattle.block_image.specs.Sizes.{IsPayloadSize, IsBufferSize}
+use Rattle.block_image.specs.Extent.{TellsSizeIfLeader}
+use Rattle.block_image.proofs.FewerLines.{lines_in-push_leader, lines_in-push_payload, lines_in-push_trailer}
 use Rattle.block_image.proofs.Bools.{or_false}
 use Rattle.block_image.proofs.KeptLemmas.{has_id-push, has_trailer-push, has_trailer_at-push, reaches_past-push, reaches_past-append, leader_in-push_first, leader_in-push_payload, leader_in-push_trailer, leader_in-none}
 use Rattle.block_image.proofs.IsKept.{AllByRecursion-push, IsKept-push, IsKept-nil, takes_parts, may_keep_parts}
@@ -24,7 +26,7 @@ use Rattle.packet_bitmap.specs.Bits.{has}
 use Rattle.block_assembly.specs.declared.assembly.Assembly.{Assembly}
 use Rattle.block_assembly.specs.declared.assembly.TheConstants.{PACKET_IDS}
 use Rattle.block_assembly.specs.Shortest.{IsShortest}
-use Rattle.block_assembly.specs.Assembly.{IsAssembly, IsInLimits, is_trailer_id}
+use Rattle.block_assembly.specs.Assembly.{IsAssembly, is_trailer_id, lines_of}
 use Rattle.block_assembly.specs.Steps.{with_leader, with_trailer, with_payload, end_inside}
 use Rattle.block_assembly.specs.Verdicts.{IsRead}
 use Rattle.block_assembly.proofs.Marks.{has-set, has-clear, count-push, highest-push}
@@ -79,8 +81,9 @@ leader_kept a ks h i s t read =
       wide = length-set a.kept h.id true ∙ s.wide;
       ids = λ k. ids-push a ks x k s t;
       leader = sym (leader_in-push_first ks h i none);
-      in_limits = read.1;
+      told = read.1;
       trailer = λ k. trailer_stays a ks x k s (has_trailer_at-push k ks x);
+      lines = s.lines ∙ sym (lines_in-push_leader ks h i);
       ended = ended_stays a ks x s (has_trailer-push ks x);
       count = count-push ks x a.count s.count;
       highest = ap (λ o. Some (higher h.id o)) s.highest ∙ sym (highest-push ks x);
@@ -91,7 +94,7 @@ leader_kept a ks h i s t read =
     }
 
 pub trailer_kept : (a : Assembly) (ks : List StreamPacket) (h : Head) (y : ℕ) → IsAssembly a ks → takes a.payload_size a.block ks (trailer h y) ≡ true
-    → IsAssembly (with_trailer a h) (ks ++ trailer h y ∷ [])
+    → IsAssembly (with_trailer a h y) (ks ++ trailer h y ∷ [])
 trailer_kept a ks h y s t =
     let p = a.payload_size in
     let x = trailer h y in
@@ -106,8 +109,9 @@ trailer_kept a ks h y s t =
       wide = length-set a.kept h.id true ∙ s.wide;
       ids = λ k. ids-push a ks x k s t;
       leader = s.leader ∙ sym (leader_in-push_trailer ks h y);
-      in_limits = s.in_limits;
+      told = s.told;
       trailer = λ k. has_trailer_at-push k ks x ∙ ap (λ r. r || (h.id == k)) (no_trailer_at k ks none);
+      lines = sym (lines_in-push_trailer ks h y none);
       ended = sym (has_trailer-push ks x ∙ ap (λ r. r || true) none);
       count = count-push ks x a.count s.count;
       highest = ap (λ o. Some (higher h.id o)) s.highest ∙ sym (highest-push ks x);
@@ -164,8 +168,9 @@ payload_kept a ks h d s t read =
       wide = length-set a.kept h.id true ∙ s.wide;
       ids = λ k. ids-push a ks x k s t;
       leader = s.leader ∙ sym (leader_in-push_payload ks h d);
-      in_limits = s.in_limits;
+      told = s.told;
       trailer = λ k. trailer_stays a ks x k s (has_trailer_at-push k ks x);
+      lines = s.lines ∙ sym (lines_in-push_payload ks h d);
       ended = ended_stays a ks x s (has_trailer-push ks x);
       count = count-push ks x a.count s.count;
       highest = ap (λ o. Some (higher h.id o)) s.highest ∙ sym (highest-push ks x);
@@ -194,8 +199,9 @@ nothing_kept a p n zeros clear lead trail count high short placed end past = rec
   wide = ap length clear ∙ length-replicate PACKET_IDS false;
   ids = λ k. ap (λ bits. has bits k) clear ∙ has-clear PACKET_IDS k;
   leader = lead;
-  in_limits = subst IsInLimits (sym lead) tt;
+  told = subst TellsSizeIfLeader (sym lead) tt;
   trailer = λ k. ap (λ o. is_trailer_id o k) (sym trail);
+  lines = ap lines_of trail;
   ended = ap is_some trail;
   count = count ∙ omega arith;
   highest = high;

@@ -6,14 +6,15 @@ use Rattle.std.proofs.lemmas.Bool.{leb-true, eq-eqb, or_left, or_right}
 use Rattle.stream_packets.specs.declared.fields.LeaderInfo.{LeaderInfo}
 use Rattle.stream_packets.specs.Packets.{StreamPacket, leader, payload, trailer, notice, head_of}
 use Rattle.stream_packets.specs.FramePackets.{payload_count, payload_start}
+use Rattle.block_image.specs.Extent.{extent_of}
 use Rattle.block_image.specs.Kept.{has_id}
 use Rattle.block_image.specs.KeptFacts.{AreLeadersFirst, may_keep}
-use Rattle.block_image.specs.Image.{is_complete, has_image, has_payloads, has_trailer_at, leader_in}
+use Rattle.block_image.specs.Image.{is_complete, has_image, has_payloads, has_trailer_at, leader_in, lines_in, extent_in}
 use Rattle.block_image.proofs.IsKept.{may_keep_parts}
-use Rattle.missing_ranges.specs.Missing.{extent_of, higher, highest}
+use Rattle.missing_ranges.specs.Missing.{higher, highest}
 use Rattle.packet_bitmap.specs.Bits.{has, HasClear}
 use Rattle.block_assembly.specs.declared.assembly.Assembly.{Assembly}
-use Rattle.block_assembly.specs.Assembly.{IsAssembly}
+use Rattle.block_assembly.specs.Assembly.{IsAssembly, lines_of}
 use Rattle.block_assembly.specs.Shortest.{are_long}
 use Rattle.block_assembly.proofs.Covers.{Ends, rest_of, covered_is, uncovered_is, few_is}
 
@@ -62,25 +63,29 @@ leader_has_id (payload h d ∷ xs) i first e = or_right (h.id == 0) (has_id 0 xs
 leader_has_id (trailer h y ∷ xs) i first e = or_right (h.id == 0) (has_id 0 xs) (leader_has_id xs i first.1 e)
 leader_has_id (notice h ∷ xs) i first e = or_right (h.id == 0) (has_id 0 xs) (leader_has_id xs i first.1 e)
 
--- what the leader's length tells
+-- what the extent tells, which is known with a leader alone
 pub record Leads (a : Assembly) (len : ℕ) (ks : List StreamPacket) : Type 0 where
   pub leads : has_id 0 ks ≡ true
-  pub complete : has_image a.payload_size a.size len ks ≡ is_complete a.payload_size a.size ks (leader_in ks)
+  pub complete : has_image a.payload_size a.size len ks ≡ is_complete a.payload_size a.size ks (extent_in ks)
 
-pub leads_with : (a : Assembly) (len : ℕ) (ks : List StreamPacket) → IsAssembly a ks → Some len ≡ extent_of a.leader → Leads a len ks
+pub extent_is : (a : Assembly) (ks : List StreamPacket) → IsAssembly a ks → extent_of a.leader (lines_of a.trailer) ≡ extent_in ks
+extent_is a ks s =
+    ap (λ (o : Option LeaderInfo). extent_of o (lines_of a.trailer)) s.leader ∙ ap (extent_of (leader_in ks)) s.lines
+
+pub leads_with : (a : Assembly) (len : ℕ) (ks : List StreamPacket) → IsAssembly a ks → Some len ≡ extent_of a.leader (lines_of a.trailer) → Leads a len ks
 leads_with a len ks s e = go (leader_in ks) refl where
+  known : Some len ≡ extent_in ks
+  known = e ∙ extent_is a ks s
+
   go : (o : Option LeaderInfo) → leader_in ks ≡ o → Leads a len ks
-  go None none = absurd (differs (e ∙ ap extent_of (s.leader ∙ none)))
+  go None none = absurd (differs (known ∙ ap (λ (o : Option LeaderInfo). extent_of o (lines_in ks)) none))
     where
       differs : Some len ≡ None → ⊥
       differs same = cc
-  go (Some i) there =
-      let known : Some len ≡ Some i.size = e ∙ ap extent_of (s.leader ∙ there) in
-      let same : len ≡ i.size = cc in
-      record {
-        leads = leader_has_id ks i s.leaders there;
-        complete = ap (λ (n : ℕ). has_image a.payload_size a.size n ks) same ∙ sym (ap (is_complete a.payload_size a.size ks) there);
-      }
+  go (Some i) there = record {
+    leads = leader_has_id ks i s.leaders there;
+    complete = ap (is_complete a.payload_size a.size ks) known;
+  }
 
 -- the highest id fits
 higher_fits : (id : ℕ) (o : Option ℕ) → id ≤ 131073 → IfSome o (λ top. top ≤ 131073) → higher id o ≤ 131073

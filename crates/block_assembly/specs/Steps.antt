@@ -31,8 +31,8 @@ marked a id = record a {
 abbrev pub with_leader : Assembly → Head → LeaderInfo → Assembly
 with_leader a h i = record (marked a h.id) { leader = Some i }
 
-abbrev pub with_trailer : Assembly → Head → Assembly
-with_trailer a h = record (marked a h.id) { trailer = Some h.id }
+abbrev pub with_trailer : Assembly → Head → ℕ → Assembly
+with_trailer a h y = record (marked a h.id) { trailer = Some (record { id = h.id; lines = y }) }
 
 abbrev pub with_payload : Assembly → Head → List ℕ → Assembly
 with_payload a h d =
@@ -49,7 +49,7 @@ with_payload a h d =
 abbrev pub with_packet : Assembly → StreamPacket → Assembly
 with_packet a (leader h i) = with_leader a h i
 with_packet a (payload h d) = with_payload a h d
-with_packet a (trailer h y) = with_trailer a h
+with_packet a (trailer h y) = with_trailer a h y
 with_packet a (notice h) = a
 
 -- a notice more: with the status 0x8010 it says nothing for good, and no packet of a block has a higher id

@@ -1,17 +1,17 @@
 -- What becomes of a packet.
 use Rattle.std.specs.Prelude.{◌≡◌, ⊤, ℕ, ◌≤◌, ◌&&◌, not, List, length, Bool, is_some, if◌then◌else◌}
-use Rattle.gev_types.specs.Limits.{max_buffer_size}
 use Rattle.stream_packets.specs.Packets.{StreamPacket, leader, payload, trailer, notice, head_of, is_trailer, is_notice}
+use Rattle.block_image.specs.Extent.{TellsItsSize}
 use Rattle.block_image.specs.Kept.{fits, takes, kept}
 use Rattle.packet_bitmap.specs.Bits.{has}
 use Rattle.block_assembly.specs.declared.assembly.Assembly.{Assembly}
 use Rattle.block_assembly.specs.declared.verdict.Verdict.{Verdict}
 use Rattle.block_assembly.specs.declared.verdict.Verdict.TheVariants.{Kept, Repeat, Misfit, Notice}
 
--- A packet that was read: a leader has the id 0 and an image that a frame may have, and a payload an id
--- from 1 on and at least one byte.
+-- A packet that was read: a leader has the id 0 and tells the size of its image, which a frame may have,
+-- and a payload an id from 1 on and at least one byte.
 abbrev pub IsRead : StreamPacket → Type 0
-IsRead (leader h i) = (h.id ≡ 0) × (i.size ≤ max_buffer_size)
+IsRead (leader h i) = (h.id ≡ 0) × TellsItsSize i
 IsRead (payload h d) = (1 ≤ h.id) × (1 ≤ length d)
 IsRead (trailer h y) = ⊤
 IsRead (notice h) = ⊤

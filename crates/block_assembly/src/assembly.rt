@@ -14,6 +14,15 @@ pub struct Short {
     pub len: u32,
 }
 
+/// What the kept trailer says.
+#[derive(Clone, Copy, Debug, PartialEq, Eq)]
+pub struct Ending {
+    /// Its packet id.
+    pub id: u32,
+    /// How many lines the image has.
+    pub lines: u32,
+}
+
 /// One block on its way into its buffer.
 ///
 /// A payload's bytes are copied once, when it comes, and what the record says is counted along. Nothing
@@ -34,8 +43,8 @@ pub struct Assembly {
     pub(crate) refused: Bitmap,
     /// What the kept leader says of the image.
     pub(crate) leader: Option<LeaderInfo>,
-    /// The id of the kept trailer.
-    pub(crate) trailer: Option<u32>,
+    /// What the kept trailer says.
+    pub(crate) trailer: Option<Ending>,
     /// How many packets were kept, up to the type's end.
     pub(crate) count: u32,
     /// The highest id that was kept.

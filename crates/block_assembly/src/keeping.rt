@@ -9,7 +9,7 @@ ghost use Rattle.block_assembly.specs.Assembly.{IsSound};
 ghost use Rattle.block_assembly.specs.Verdicts.{IsRead};
 ghost use Rattle.block_assembly.specs.Steps.{marked, with_leader, with_trailer, with_payload, with_packet, noted, acted};
 
-use crate::assembly::{Assembly, PACKET_IDS, Short};
+use crate::assembly::{Assembly, Ending, PACKET_IDS, Short};
 use crate::span::span_of;
 use crate::verdict::Verdict;
 use gev_types::MAX_PACKET_ID;
@@ -48,12 +48,12 @@ fn keep_leader(assembly: &mut Assembly, head: Head, info: LeaderInfo)
 }
 
 /// Keeps a trailer.
-fn keep_trailer(assembly: &mut Assembly, head: Head)
+fn keep_trailer(assembly: &mut Assembly, head: Head, lines: u32)
     requires { head.id < length assembly.old.kept }
-    ensures { assembly.new ≡ with_trailer assembly.old head }
+    ensures { assembly.new ≡ with_trailer assembly.old head lines }
 {
     mark(assembly, head.id);
-    assembly.trailer = Some(head.id);
+    assembly.trailer = Some(Ending { id: head.id, lines });
 }
 
 /// The short payload with the lower id.
@@ -116,7 +116,7 @@ fn keep(assembly: &mut Assembly, packet: &Packet<'_>)
     match *packet {
         Packet::Leader(head, info) => keep_leader(assembly, head, info),
         Packet::Payload(head, bytes) => keep_payload(assembly, head, bytes),
-        Packet::Trailer(head, _) => keep_trailer(assembly, head),
+        Packet::Trailer(head, lines) => keep_trailer(assembly, head, lines),
         Packet::Notice(_) => {}
     }
 }

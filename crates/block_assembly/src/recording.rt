@@ -2,7 +2,7 @@
 
 ghost use Rattle.std.specs.Prelude.{◌≡◌, ◌≤◌, List};
 ghost use Rattle.stream_packets.specs.Packets.{StreamPacket};
-ghost use Rattle.block_image.specs.Image.{is_larger, image_len, leader_in, record_of};
+ghost use Rattle.block_image.specs.Image.{is_larger, image_len, extent_in, record_of};
 ghost use Rattle.block_assembly.specs.Assembly.{IsAssembly, IsSound};
 
 use crate::assembly::Assembly;
@@ -13,7 +13,7 @@ use gev_types::Record;
 fn is_larger(assembly: &Assembly) -> bool
     requires { IsSound assembly.now }
     ensures { (ks : List StreamPacket) → IsAssembly assembly.now ks
-        → result ≡ is_larger assembly.now.payload_size assembly.now.size ks (leader_in ks) }
+        → result ≡ is_larger assembly.now.payload_size assembly.now.size ks (extent_in ks) }
 {
     match extent(assembly) {
         Some(len) => assembly.size < len,
@@ -25,7 +25,7 @@ fn is_larger(assembly: &Assembly) -> bool
 fn image_len(assembly: &Assembly) -> u32
     requires { IsSound assembly.now }
     ensures value { (ks : List StreamPacket) → IsAssembly assembly.now ks
-        → result ≡ image_len assembly.now.payload_size assembly.now.size ks (leader_in ks) }
+        → result ≡ image_len assembly.now.payload_size assembly.now.size ks (extent_in ks) }
     ensures within { result ≤ assembly.now.size }
 {
     match extent(assembly) {
