@@ -8,9 +8,9 @@ use Rattle.block_image.specs.Extent.{TellsSizeIfLeader}
 use Rattle.block_image.specs.Sizes.{IsPayloadSize, IsBufferSize}
 use Rattle.missing_ranges.specs.Missing.{has_gone, highest}
 use Rattle.packet_bitmap.specs.Bits.{has}
-use Rattle.block_assembly.specs.declared.assembly.Assembly.{Assembly}
-use Rattle.block_assembly.specs.declared.assembly.Ending.{Ending}
-use Rattle.block_assembly.specs.declared.assembly.TheConstants.{PACKET_IDS}
+use Rattle.block_assembly.specs.declared.progress.Progress.{Progress}
+use Rattle.block_assembly.specs.declared.progress.Ending.{Ending}
+use Rattle.block_assembly.specs.declared.progress.TheConstants.{PACKET_IDS}
 use Rattle.block_assembly.specs.Shortest.{IsShortest}
 
 -- the trailer among these has this id, if there is one
@@ -24,7 +24,7 @@ lines_of None = None
 lines_of (Some ending) = Some ending.lines
 
 -- The assembly after just these packets were kept: each of its fields is what they give.
-pub record IsAssembly (a : Assembly) (ks : List StreamPacket) : Type 0 where
+pub record IsAssembly (a : Progress) (ks : List StreamPacket) : Type 0 where
   pub payload_size : IsPayloadSize a.payload_size
   pub size : IsBufferSize a.size
   pub are_kept : IsKept a.payload_size a.block ks
@@ -47,7 +47,7 @@ pub record IsAssembly (a : Assembly) (ks : List StreamPacket) : Type 0 where
 
 -- The assembly of block b, with payloads of p bytes at most, in a buffer of this size, after it took
 -- these packets of its block.
-pub record AssemblyStands (a : Assembly) (p b size : ℕ) (heard : List StreamPacket) : Type 0 where
+pub record AssemblyStands (a : Progress) (p b size : ℕ) (heard : List StreamPacket) : Type 0 where
   pub payload_size : a.payload_size ≡ p
   pub block : a.block ≡ b
   pub buffer_size : a.size ≡ size
@@ -56,7 +56,7 @@ pub record AssemblyStands (a : Assembly) (p b size : ℕ) (heard : List StreamPa
   pub gone : (k : ℕ) → k < PACKET_IDS → has a.refused k ≡ has_gone k heard
 
 -- it is the assembly of some block after some packets
-pub record StandsForSome (a : Assembly) : Type 0 where
+pub record StandsForSome (a : Progress) : Type 0 where
   pub p : ℕ
   pub b : ℕ
   pub size : ℕ
@@ -64,15 +64,15 @@ pub record StandsForSome (a : Assembly) : Type 0 where
   pub stands : AssemblyStands a p b size heard
 
 -- the block that is assembled
-abbrev pub block_of : Assembly → ℕ
+abbrev pub block_of : Progress → ℕ
 block_of a = a.block
 
 -- its buffer's size in bytes
-abbrev pub size_of : Assembly → ℕ
+abbrev pub size_of : Progress → ℕ
 size_of a = a.size
 
 -- what the steps rest on
-pub record IsSound (a : Assembly) : Type 0 where
+pub record IsSound (a : Progress) : Type 0 where
   pub payload_size : IsPayloadSize a.payload_size
   pub size : IsBufferSize a.size
   pub wide : length a.kept ≡ PACKET_IDS
