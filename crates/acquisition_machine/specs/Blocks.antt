@@ -3,7 +3,7 @@ use Rattle.std.specs.Prelude.{ℕ, ◌+◌, ◌-◌, ◌==◌, ◌&&◌, ◌||�
 use Rattle.gev_types.specs.Filling.{Filling}
 use Rattle.stream_packets.specs.Packets.{StreamPacket}
 use Rattle.block_image.specs.Kept.{kept, takes}
-use Rattle.block_image.specs.Image.{leader_in, image}
+use Rattle.block_image.specs.Image.{extent_in, image}
 use Rattle.block_image.specs.Image.{is_complete as is_complete_image}
 use Rattle.missing_ranges.specs.Missing.{missing}
 use Rattle.acquisition_machine.specs.declared.config.AcqConfig.{AcqConfig}
@@ -69,7 +69,7 @@ filling_in p o g = image p o.block g.size o.heard
 -- as the record of that image says
 abbrev pub has_whole : ℕ → Open → Option Given → Bool
 has_whole p o None = false
-has_whole p o (Some g) = is_complete_image p g.size (kept_in p o) (leader_in (kept_in p o))
+has_whole p o (Some g) = is_complete_image p g.size (kept_in p o) (extent_in (kept_in p o))
 
 abbrev pub is_complete : ℕ → Open → Bool
 is_complete p o = has_whole p o o.given

@@ -16,8 +16,8 @@ use Rattle.block_image.proofs.ImageLemmas.{length-image_bytes}
 use Rattle.block_image.proofs.CountLemmas.{placed_count-le, placed_end-le}
 use Rattle.missing_ranges.specs.Missing.{is_gone, has_gone}
 use Rattle.packet_bitmap.specs.Bits.{has}
-use Rattle.block_assembly.specs.declared.assembly.Assembly.{Assembly}
-use Rattle.block_assembly.specs.declared.assembly.TheConstants.{PACKET_IDS}
+use Rattle.block_assembly.specs.declared.progress.Progress.{Progress}
+use Rattle.block_assembly.specs.declared.progress.TheConstants.{PACKET_IDS}
 use Rattle.block_assembly.specs.declared.verdict.Verdict.{Verdict}
 use Rattle.block_assembly.specs.declared.verdict.Verdict.TheVariants.{Kept, Repeat, Misfit, Notice}
 use Rattle.block_assembly.specs.Assembly.{IsAssembly, AssemblyStands, StandsForSome, IsSound}
@@ -35,13 +35,13 @@ pub takes-misfit : (p b : ℕ) (ks : List StreamPacket) (x : StreamPacket) → f
 takes-misfit p b ks x e = rw (e, and_false ((head_of x).block == b && not (is_notice x))) refl
 
 -- what the assembly keeps along tells which packets are kept
-takes-new : (a : Assembly) (ks : List StreamPacket) (x : StreamPacket) → IsAssembly a ks → (head_of x).block ≡ a.block → is_notice x ≡ false → fits a.payload_size x ≡ true → takes a.payload_size a.block ks x ≡ is_new a x
+takes-new : (a : Progress) (ks : List StreamPacket) (x : StreamPacket) → IsAssembly a ks → (head_of x).block ≡ a.block → is_notice x ≡ false → fits a.payload_size x ≡ true → takes a.payload_size a.block ks x ≡ is_new a x
 takes-new a ks x s of_block no_notice fit =
     let here : ((head_of x).block == a.block) ≡ true = eq-eqb (head_of x).block a.block of_block in
     rw (here, no_notice, fit, s.ids (head_of x).id, s.ended) refl
 
 -- the notices are kept apart
-with_refused : (a : Assembly) (r : List Bool) (ks : List StreamPacket) → IsAssembly a ks → IsAssembly (record a { refused = r }) ks
+with_refused : (a : Progress) (r : List Bool) (ks : List StreamPacket) → IsAssembly a ks → IsAssembly (record a { refused = r }) ks
 with_refused a r ks s = record {
   payload_size = s.payload_size;
   size = s.size;
@@ -52,8 +52,9 @@ with_refused a r ks s = record {
   wide = s.wide;
   ids = s.ids;
   leader = s.leader;
-  in_limits = s.in_limits;
+  told = s.told;
   trailer = s.trailer;
+  lines = s.lines;
   ended = s.ended;
   count = s.count;
   highest = s.highest;
@@ -84,7 +85,7 @@ and_true : (x : Bool) → (x && true) ≡ x
 and_true true = refl
 and_true false = refl
 
-stands_noted : (a : Assembly) (p b size : ℕ) (heard : List StreamPacket) (h : Head) → AssemblyStands a p b size heard → AssemblyStands (noted a h) p b size (heard ++ notice h ∷ [])
+stands_noted : (a : Progress) (p b size : ℕ) (heard : List StreamPacket) (h : Head) → AssemblyStands a p b size heard → AssemblyStands (noted a h) p b size (heard ++ notice h ∷ [])
 stands_noted a p b size heard h s = go (not (h.status == 0x8010) && nat_le h.id 131073) refl where
   x : StreamPacket
   x = notice h
@@ -118,14 +119,14 @@ stands_noted a p b size heard h s = go (not (h.status == 0x8010) && nat_le h.id 
     none k low (inl later) = and_right (h.id == k) (not (h.status == 0x8010)) later
     none k low (inr high) = and_left (h.id == k) (not (h.status == 0x8010)) (ne_eqb h.id k (λ same. omega (arith, leb-false h.id 131073 high)))
 
-stands_notice : (a : Assembly) (p b size : ℕ) (heard : List StreamPacket) (x : StreamPacket) → AssemblyStands a p b size heard → is_notice x ≡ true → AssemblyStands (noted a (head_of x)) p b size (heard ++ x ∷ [])
+stands_notice : (a : Progress) (p b size : ℕ) (heard : List StreamPacket) (x : StreamPacket) → AssemblyStands a p b size heard → is_notice x ≡ true → AssemblyStands (noted a (head_of x)) p b size (heard ++ x ∷ [])
 stands_notice a p b size heard (leader h i) s e = absurd (false≢true e)
 stands_notice a p b size heard (payload h d) s e = absurd (false≢true e)
 stands_notice a p b size heard (trailer h y) s e = absurd (false≢true e)
 stands_notice a p b size heard (notice h) s e = stands_noted a p b size heard h s
 
 -- a packet that isn't kept, and no notice
-stands_same : (a : Assembly) (p b size : ℕ) (heard : List StreamPacket) (x : StreamPacket) → AssemblyStands a p b size heard → is_notice x ≡ false → takes a.payload_size a.block (kept a.payload_size a.block heard) x ≡ false → AssemblyStands a p b size (heard ++ x ∷ [])
+stands_same : (a : Progress) (p b size : ℕ) (heard : List StreamPacket) (x : StreamPacket) → AssemblyStands a p b size heard → is_notice x ≡ false → takes a.payload_size a.block (kept a.payload_size a.block heard) x ≡ false → AssemblyStands a p b size (heard ++ x ∷ [])
 stands_same a p b size heard x s no_notice none = record {
   payload_size = s.payload_size;
   block = s.block;
@@ -135,7 +136,7 @@ stands_same a p b size heard x s no_notice none = record {
   gone = λ k low. s.gone k low ∙ gone_stays k heard x (not_gone k x no_notice);
 }
 
-stands_kept : (a : Assembly) (p b size : ℕ) (heard : List StreamPacket) (x : StreamPacket) → AssemblyStands a p b size heard → IsRead x → takes a.payload_size a.block (kept a.payload_size a.block heard) x ≡ true → AssemblyStands (with_packet a x) p b size (heard ++ x ∷ [])
+stands_kept : (a : Progress) (p b size : ℕ) (heard : List StreamPacket) (x : StreamPacket) → AssemblyStands a p b size heard → IsRead x → takes a.payload_size a.block (kept a.payload_size a.block heard) x ≡ true → AssemblyStands (with_packet a x) p b size (heard ++ x ∷ [])
 stands_kept a p b size heard (leader h i) s read taken = record {
   payload_size = s.payload_size;
   block = s.block;
@@ -167,7 +168,7 @@ stands_kept a p b size heard (notice h) s read taken =
 abbrev pub verdict_by : Bool → Bool → Bool → Verdict
 verdict_by is_note does_fit is_fresh = if is_note then Notice else if not does_fit then Misfit else if is_fresh then Kept else Repeat
 
-pub stands_after : (a : Assembly) (p b size : ℕ) (heard : List StreamPacket) (x : StreamPacket) → AssemblyStands a p b size heard → IsRead x → (head_of x).block ≡ a.block → AssemblyStands (acted (verdict_in a x) a x) p b size (heard ++ x ∷ [])
+pub stands_after : (a : Progress) (p b size : ℕ) (heard : List StreamPacket) (x : StreamPacket) → AssemblyStands a p b size heard → IsRead x → (head_of x).block ≡ a.block → AssemblyStands (acted (verdict_in a x) a x) p b size (heard ++ x ∷ [])
 stands_after a p b size heard x s read of_block = go (is_notice x) (fits a.payload_size x) (is_new a x) refl refl refl where
   go : (n f w : Bool) → is_notice x ≡ n → fits a.payload_size x ≡ f → is_new a x ≡ w → AssemblyStands (acted (verdict_by n f w) a x) p b size (heard ++ x ∷ [])
   go true f w en ef ew = stands_notice a p b size heard x s en
@@ -180,7 +181,7 @@ same_verdict true f w t e = refl
 same_verdict false false w t e = refl
 same_verdict false true w t e = ap (λ b. verdict_by false true b) (sym (e refl refl))
 
-pub verdict_is : (a : Assembly) (p b size : ℕ) (heard : List StreamPacket) (x : StreamPacket) → AssemblyStands a p b size heard → (head_of x).block ≡ a.block → verdict_in a x ≡ verdict_of p b heard x
+pub verdict_is : (a : Progress) (p b size : ℕ) (heard : List StreamPacket) (x : StreamPacket) → AssemblyStands a p b size heard → (head_of x).block ≡ a.block → verdict_in a x ≡ verdict_of p b heard x
 verdict_is a p b size heard x s of_block =
     same_verdict (is_notice x) (fits a.payload_size x) (is_new a x) (takes a.payload_size a.block (kept a.payload_size a.block heard) x)
     (λ en ef. takes-new a (kept a.payload_size a.block heard) x s.assembly of_block en ef)
@@ -192,10 +193,10 @@ fits_by n true w e = refl
 fits_by true false w e = absurd (cc)
 fits_by false false w e = absurd (cc)
 
-pub kept_fits : (a : Assembly) (x : StreamPacket) → verdict_in a x ≡ Kept → fits a.payload_size x ≡ true
+pub kept_fits : (a : Progress) (x : StreamPacket) → verdict_in a x ≡ Kept → fits a.payload_size x ≡ true
 kept_fits a x e = fits_by (is_notice x) (fits a.payload_size x) (is_new a x) e
 
-pub sound : (a : Assembly) → StandsForSome a → IsSound a
+pub sound : (a : Progress) → StandsForSome a → IsSound a
 sound a some =
     let s = some.stands.assembly in
     let ks = kept a.payload_size a.block some.heard in
@@ -204,19 +205,19 @@ sound a some =
       size = s.size;
       wide = s.wide;
       wide_refused = some.stands.wide;
-      in_limits = s.in_limits;
+      told = s.told;
       buffer = ap length s.bytes ∙ length-image_bytes a.payload_size ks a.size;
       placed = omega (arith, s.placed, placed_count-le a.payload_size ks a.size);
       end = omega (arith, s.end, placed_end-le a.payload_size ks a.size);
     }
 
 -- what the acted assembly stands for, as the calls tell it
-pub acts : (a new : Assembly) (v : Verdict) (x : StreamPacket) (p b size : ℕ) (heard : List StreamPacket) → v ≡ verdict_in a x → new ≡ acted v a x → IsRead x → (head_of x).block ≡ a.block → AssemblyStands a p b size heard → AssemblyStands new p b size (heard ++ x ∷ [])
+pub acts : (a new : Progress) (v : Verdict) (x : StreamPacket) (p b size : ℕ) (heard : List StreamPacket) → v ≡ verdict_in a x → new ≡ acted v a x → IsRead x → (head_of x).block ≡ a.block → AssemblyStands a p b size heard → AssemblyStands new p b size (heard ++ x ∷ [])
 acts a new v x p b size heard told done read of_block s =
     subst (λ n. AssemblyStands n p b size (heard ++ x ∷ [])) (sym (done ∙ ap (λ w. acted w a x) told))
     (stands_after a p b size heard x s read of_block)
 
-pub acts_for_some : (a new : Assembly) (v : Verdict) (x : StreamPacket) → v ≡ verdict_in a x → new ≡ acted v a x → IsRead x → (head_of x).block ≡ a.block → StandsForSome a → StandsForSome new
+pub acts_for_some : (a new : Progress) (v : Verdict) (x : StreamPacket) → v ≡ verdict_in a x → new ≡ acted v a x → IsRead x → (head_of x).block ≡ a.block → StandsForSome a → StandsForSome new
 acts_for_some a new v x told done read of_block some = record {
   p = some.p;
   b = some.b;
@@ -226,7 +227,7 @@ acts_for_some a new v x told done read of_block some = record {
 }
 
 -- an assembly that has taken nothing
-pub started : (a : Assembly) → IsPayloadSize a.payload_size → IsBufferSize a.size → a.buf.bytes ≡ replicate a.size 0 → a.kept ≡ replicate PACKET_IDS false → a.refused ≡ replicate PACKET_IDS false
+pub started : (a : Progress) → IsPayloadSize a.payload_size → IsBufferSize a.size → a.buf.bytes ≡ replicate a.size 0 → a.kept ≡ replicate PACKET_IDS false → a.refused ≡ replicate PACKET_IDS false
     → a.leader ≡ None → a.trailer ≡ None → a.count ≡ 0 → a.highest ≡ None → a.shortest ≡ None → a.placed ≡ 0 → a.end ≡ 0 → a.past ≡ false → AssemblyStands a a.payload_size a.block a.size []
 started a p n zeros clear none lead trail count high short placed end past = record {
   payload_size = refl;
@@ -241,7 +242,7 @@ abbrev same_filling : List ℕ → Record → Filling
 same_filling bs r = record { bytes = bs; rec = r }
 
 -- the buffer in the end
-pub finished : (a : Assembly) (f : Filling) (rec : Record) (p b size : ℕ) (heard : List StreamPacket) → AssemblyStands a p b size heard → f.bytes ≡ a.buf.bytes → f.rec ≡ rec
+pub finished : (a : Progress) (f : Filling) (rec : Record) (p b size : ℕ) (heard : List StreamPacket) → AssemblyStands a p b size heard → f.bytes ≡ a.buf.bytes → f.rec ≡ rec
     → rec ≡ record_of a.payload_size a.block a.size (kept a.payload_size a.block heard) → f ≡ image p b size heard
 finished a f rec p b size heard s bytes same is_record =
     ap (λ (bs : List ℕ). same_filling bs f.rec) (bytes ∙ s.assembly.bytes)

@@ -13,7 +13,7 @@ use Rattle.block_image.specs.KeptFacts.{HasDistinctIds, HasOneTrailer, may_keep,
 use Rattle.block_image.proofs.Bools.{or_false}
 use Rattle.block_image.proofs.Completeness.{has_payload-none}
 use Rattle.block_image.proofs.IsKept.{may_keep-payload, may_keep_parts}
-use Rattle.block_assembly.specs.declared.assembly.Short.{Short}
+use Rattle.block_assembly.specs.declared.progress.Short.{Short}
 use Rattle.block_assembly.specs.Shortest.{IsFull, IsShortFrom, has_short, IsShortest, are_long}
 use Rattle.block_assembly.proofs.Counts.{as_many}
 

@@ -14,6 +14,8 @@ use Rattle.block_image.specs.Kept.{takes, has_id, has_trailer}
 use Rattle.block_image.specs.KeptFacts.{IsNumbered, IsLeaderFirst}
 use Rattle.block_image.specs.Image.{reaches_past, leader_in, has_trailer_at}
 use Rattle.block_image.specs.Sizes.{IsPayloadSize, IsBufferSize}
+use Rattle.block_image.specs.Extent.{TellsSizeIfLeader}
+use Rattle.block_image.proofs.FewerLines.{lines_in-push_leader, lines_in-push_payload, lines_in-push_trailer}
 use Rattle.block_image.proofs.Bools.{or_false}
 use Rattle.block_image.proofs.KeptLemmas.{has_id-push, has_trailer-push, has_trailer_at-push, reaches_past-push, reaches_past-append, leader_in-push_first, leader_in-push_payload, leader_in-push_trailer, leader_in-none}
 use Rattle.block_image.proofs.IsKept.{AllByRecursion-push, IsKept-push, IsKept-nil, takes_parts, may_keep_parts}
@@ -21,22 +23,22 @@ use Rattle.block_image.proofs.ImageLemmas.{length-image_bytes, image_bytes-nil, 
 use Rattle.block_image.proofs.CountLemmas.{placed_count-nil, placed_end-nil, placed_count-push_payload, placed_count-push_leader, placed_count-push_trailer, placed_end-push_payload, placed_end-push_leader, placed_end-push_trailer}
 use Rattle.missing_ranges.specs.Missing.{higher}
 use Rattle.packet_bitmap.specs.Bits.{has}
-use Rattle.block_assembly.specs.declared.assembly.Assembly.{Assembly}
-use Rattle.block_assembly.specs.declared.assembly.TheConstants.{PACKET_IDS}
+use Rattle.block_assembly.specs.declared.progress.Progress.{Progress}
+use Rattle.block_assembly.specs.declared.progress.TheConstants.{PACKET_IDS}
 use Rattle.block_assembly.specs.Shortest.{IsShortest}
-use Rattle.block_assembly.specs.Assembly.{IsAssembly, IsInLimits, is_trailer_id}
+use Rattle.block_assembly.specs.Assembly.{IsAssembly, is_trailer_id, lines_of}
 use Rattle.block_assembly.specs.Steps.{with_leader, with_trailer, with_payload, end_inside}
 use Rattle.block_assembly.specs.Verdicts.{IsRead}
 use Rattle.block_assembly.proofs.Marks.{has-set, has-clear, count-push, highest-push}
 use Rattle.block_assembly.proofs.Shorts.{shortest-push_full, shortest-push}
 
 -- the id of a packet that is kept has a bit
-pub id_fits : (a : Assembly) (ks : List StreamPacket) (x : StreamPacket) → IsAssembly a ks → takes a.payload_size a.block ks x ≡ true → (head_of x).id < length a.kept
+pub id_fits : (a : Progress) (ks : List StreamPacket) (x : StreamPacket) → IsAssembly a ks → takes a.payload_size a.block ks x ≡ true → (head_of x).id < length a.kept
 id_fits a ks x s t =
     let parts = may_keep_parts a.payload_size a.block x (takes_parts a.payload_size a.block ks x t).may in
     omega (arith, s.wide, leb-true (head_of x).id 131073 parts.id)
 
-ids-push : (a : Assembly) (ks : List StreamPacket) (x : StreamPacket) (k : ℕ) → IsAssembly a ks → takes a.payload_size a.block ks x ≡ true → has (set a.kept (head_of x).id true) k ≡ has_id k (ks ++ x ∷ [])
+ids-push : (a : Progress) (ks : List StreamPacket) (x : StreamPacket) (k : ℕ) → IsAssembly a ks → takes a.payload_size a.block ks x ≡ true → has (set a.kept (head_of x).id true) k ≡ has_id k (ks ++ x ∷ [])
 ids-push a ks x k s t =
     has-set a.kept (head_of x).id k (id_fits a ks x s t)
     ∙ ap (λ b. b || ((head_of x).id == k)) (s.ids k) ∙ sym (has_id-push k ks x)
@@ -50,20 +52,20 @@ no_trailer_at k (trailer g y ∷ ks) h = absurd (cc)
 no_trailer_at k (notice g ∷ ks) h = no_trailer_at k ks h
 
 -- a packet that is no trailer
-trailer_stays : (a : Assembly) (ks : List StreamPacket) (x : StreamPacket) (k : ℕ) → IsAssembly a ks → has_trailer_at k (ks ++ x ∷ []) ≡ (has_trailer_at k ks || false) → has_trailer_at k (ks ++ x ∷ []) ≡ is_trailer_id a.trailer k
+trailer_stays : (a : Progress) (ks : List StreamPacket) (x : StreamPacket) (k : ℕ) → IsAssembly a ks → has_trailer_at k (ks ++ x ∷ []) ≡ (has_trailer_at k ks || false) → has_trailer_at k (ks ++ x ∷ []) ≡ is_trailer_id a.trailer k
 trailer_stays a ks x k s e = e ∙ or_false (has_trailer_at k ks) ∙ s.trailer k
 
-ended_stays : (a : Assembly) (ks : List StreamPacket) (x : StreamPacket) → IsAssembly a ks → has_trailer (ks ++ x ∷ []) ≡ (has_trailer ks || false) → is_some a.trailer ≡ has_trailer (ks ++ x ∷ [])
+ended_stays : (a : Progress) (ks : List StreamPacket) (x : StreamPacket) → IsAssembly a ks → has_trailer (ks ++ x ∷ []) ≡ (has_trailer ks || false) → is_some a.trailer ≡ has_trailer (ks ++ x ∷ [])
 ended_stays a ks x s e = s.ended ∙ sym (or_false (has_trailer ks)) ∙ sym e
 
 -- a packet that is no payload
-past_stays : (a : Assembly) (ks : List StreamPacket) (x : StreamPacket) → IsAssembly a ks → reaches_past a.payload_size a.size (x ∷ []) ≡ false → a.past ≡ reaches_past a.payload_size a.size (ks ++ x ∷ [])
+past_stays : (a : Progress) (ks : List StreamPacket) (x : StreamPacket) → IsAssembly a ks → reaches_past a.payload_size a.size (x ∷ []) ≡ false → a.past ≡ reaches_past a.payload_size a.size (ks ++ x ∷ [])
 past_stays a ks x s f =
     s.past ∙ sym (or_false (reaches_past a.payload_size a.size ks))
     ∙ ap (λ r. reaches_past a.payload_size a.size ks || r) (sym f)
     ∙ sym (reaches_past-append a.payload_size a.size ks (x ∷ []))
 
-pub leader_kept : (a : Assembly) (ks : List StreamPacket) (h : Head) (i : LeaderInfo) → IsAssembly a ks → takes a.payload_size a.block ks (leader h i) ≡ true
+pub leader_kept : (a : Progress) (ks : List StreamPacket) (h : Head) (i : LeaderInfo) → IsAssembly a ks → takes a.payload_size a.block ks (leader h i) ≡ true
     → IsRead (leader h i) → IsAssembly (with_leader a h i) (ks ++ leader h i ∷ [])
 leader_kept a ks h i s t read =
     let p = a.payload_size in
@@ -79,8 +81,9 @@ leader_kept a ks h i s t read =
       wide = length-set a.kept h.id true ∙ s.wide;
       ids = λ k. ids-push a ks x k s t;
       leader = sym (leader_in-push_first ks h i none);
-      in_limits = read.1;
+      told = read.1;
       trailer = λ k. trailer_stays a ks x k s (has_trailer_at-push k ks x);
+      lines = s.lines ∙ sym (lines_in-push_leader ks h i);
       ended = ended_stays a ks x s (has_trailer-push ks x);
       count = count-push ks x a.count s.count;
       highest = ap (λ o. Some (higher h.id o)) s.highest ∙ sym (highest-push ks x);
@@ -90,8 +93,8 @@ leader_kept a ks h i s t read =
       past = past_stays a ks x s refl;
     }
 
-pub trailer_kept : (a : Assembly) (ks : List StreamPacket) (h : Head) (y : ℕ) → IsAssembly a ks → takes a.payload_size a.block ks (trailer h y) ≡ true
-    → IsAssembly (with_trailer a h) (ks ++ trailer h y ∷ [])
+pub trailer_kept : (a : Progress) (ks : List StreamPacket) (h : Head) (y : ℕ) → IsAssembly a ks → takes a.payload_size a.block ks (trailer h y) ≡ true
+    → IsAssembly (with_trailer a h y) (ks ++ trailer h y ∷ [])
 trailer_kept a ks h y s t =
     let p = a.payload_size in
     let x = trailer h y in
@@ -106,8 +109,9 @@ trailer_kept a ks h y s t =
       wide = length-set a.kept h.id true ∙ s.wide;
       ids = λ k. ids-push a ks x k s t;
       leader = s.leader ∙ sym (leader_in-push_trailer ks h y);
-      in_limits = s.in_limits;
+      told = s.told;
       trailer = λ k. has_trailer_at-push k ks x ∙ ap (λ r. r || (h.id == k)) (no_trailer_at k ks none);
+      lines = sym (lines_in-push_trailer ks h y none);
       ended = sym (has_trailer-push ks x ∙ ap (λ r. r || true) none);
       count = count-push ks x a.count s.count;
       highest = ap (λ o. Some (higher h.id o)) s.highest ∙ sym (highest-push ks x);
@@ -145,7 +149,7 @@ put_at-min bytes at size piece e =
           ∙ put_at-past bytes size piece (omega arith) ∙ sym (put_at-past bytes at piece (omega arith))
     ]
 
-pub payload_kept : (a : Assembly) (ks : List StreamPacket) (h : Head) (d : List ℕ) → IsAssembly a ks → takes a.payload_size a.block ks (payload h d) ≡ true
+pub payload_kept : (a : Progress) (ks : List StreamPacket) (h : Head) (d : List ℕ) → IsAssembly a ks → takes a.payload_size a.block ks (payload h d) ≡ true
     → IsRead (payload h d) → IsAssembly (with_payload a h d) (ks ++ payload h d ∷ [])
 payload_kept a ks h d s t read =
     let p = a.payload_size in
@@ -164,8 +168,9 @@ payload_kept a ks h d s t read =
       wide = length-set a.kept h.id true ∙ s.wide;
       ids = λ k. ids-push a ks x k s t;
       leader = s.leader ∙ sym (leader_in-push_payload ks h d);
-      in_limits = s.in_limits;
+      told = s.told;
       trailer = λ k. trailer_stays a ks x k s (has_trailer_at-push k ks x);
+      lines = s.lines ∙ sym (lines_in-push_payload ks h d);
       ended = ended_stays a ks x s (has_trailer-push ks x);
       count = count-push ks x a.count s.count;
       highest = ap (λ o. Some (higher h.id o)) s.highest ∙ sym (highest-push ks x);
@@ -182,7 +187,7 @@ payload_kept a ks h d s t read =
     }
 
 -- nothing kept, over a buffer of zeros
-pub nothing_kept : (a : Assembly) → IsPayloadSize a.payload_size → IsBufferSize a.size → a.buf.bytes ≡ replicate a.size 0 → a.kept ≡ replicate PACKET_IDS false
+pub nothing_kept : (a : Progress) → IsPayloadSize a.payload_size → IsBufferSize a.size → a.buf.bytes ≡ replicate a.size 0 → a.kept ≡ replicate PACKET_IDS false
     → a.leader ≡ None → a.trailer ≡ None → a.count ≡ 0 → a.highest ≡ None → a.shortest ≡ None → a.placed ≡ 0 → a.end ≡ 0 → a.past ≡ false → IsAssembly a []
 nothing_kept a p n zeros clear lead trail count high short placed end past = record {
   payload_size = p;
@@ -194,8 +199,9 @@ nothing_kept a p n zeros clear lead trail count high short placed end past = rec
   wide = ap length clear ∙ length-replicate PACKET_IDS false;
   ids = λ k. ap (λ bits. has bits k) clear ∙ has-clear PACKET_IDS k;
   leader = lead;
-  in_limits = subst IsInLimits (sym lead) tt;
+  told = subst TellsSizeIfLeader (sym lead) tt;
   trailer = λ k. ap (λ o. is_trailer_id o k) (sym trail);
+  lines = ap lines_of trail;
   ended = ap is_some trail;
   count = count ∙ omega arith;
   highest = high;

@@ -7,7 +7,7 @@ use Rattle.stream_packets.specs.declared.fields.Head.{Head}
 use Rattle.stream_packets.specs.Packets.{StreamPacket, leader, payload, trailer, notice}
 use Rattle.block_image.proofs.Bools.{or_assoc}
 use Rattle.block_image.proofs.IsKept.{AllByRecursion-push}
-use Rattle.block_assembly.specs.declared.assembly.Short.{Short}
+use Rattle.block_assembly.specs.declared.progress.Short.{Short}
 use Rattle.block_assembly.specs.Shortest.{IsFull, IsShortFrom, has_short, IsLowestShort, IsShortest, lower_short, shortest_with}
 
 has_short-append : (p : ℕ) (s : Short) (xs ys : List StreamPacket) → has_short p s (xs ++ ys) ≡ (has_short p s xs || has_short p s ys)

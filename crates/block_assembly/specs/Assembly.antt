@@ -1,30 +1,30 @@
 -- What the assembly of a block stands for: the packets of the block that it took, in order of arrival.
-use Rattle.std.specs.Prelude.{◌≡◌, ⊤, ℕ, ◌-◌, ◌≤◌, ◌<◌, ◌^◌, min, ◌==◌, List, length, Bool, false, Option, Some, None, is_some}
-use Rattle.gev_types.specs.Limits.{max_buffer_size}
-use Rattle.stream_packets.specs.declared.fields.LeaderInfo.{LeaderInfo}
+use Rattle.std.specs.Prelude.{◌≡◌, ℕ, ◌-◌, ◌≤◌, ◌<◌, ◌^◌, min, ◌==◌, List, length, Bool, false, Option, Some, None, is_some}
 use Rattle.stream_packets.specs.Packets.{StreamPacket}
 use Rattle.block_image.specs.Kept.{kept, has_id, has_trailer}
 use Rattle.block_image.specs.KeptFacts.{IsKept, ArePayloadsNumbered, AreLeadersFirst}
-use Rattle.block_image.specs.Image.{image_bytes, placed_count, placed_end, reaches_past, leader_in, has_trailer_at}
+use Rattle.block_image.specs.Image.{image_bytes, placed_count, placed_end, reaches_past, leader_in, lines_in, has_trailer_at}
+use Rattle.block_image.specs.Extent.{TellsSizeIfLeader}
 use Rattle.block_image.specs.Sizes.{IsPayloadSize, IsBufferSize}
 use Rattle.missing_ranges.specs.Missing.{has_gone, highest}
 use Rattle.packet_bitmap.specs.Bits.{has}
-use Rattle.block_assembly.specs.declared.assembly.Assembly.{Assembly}
-use Rattle.block_assembly.specs.declared.assembly.TheConstants.{PACKET_IDS}
+use Rattle.block_assembly.specs.declared.progress.Progress.{Progress}
+use Rattle.block_assembly.specs.declared.progress.Ending.{Ending}
+use Rattle.block_assembly.specs.declared.progress.TheConstants.{PACKET_IDS}
 use Rattle.block_assembly.specs.Shortest.{IsShortest}
 
 -- the trailer among these has this id, if there is one
-abbrev pub is_trailer_id : Option ℕ → ℕ → Bool
+abbrev pub is_trailer_id : Option Ending → ℕ → Bool
 is_trailer_id None k = false
-is_trailer_id (Some id) k = id == k
+is_trailer_id (Some ending) k = ending.id == k
 
--- the image of a leader is one that a frame may have
-abbrev pub IsInLimits : Option LeaderInfo → Type 0
-IsInLimits None = ⊤
-IsInLimits (Some i) = i.size ≤ max_buffer_size
+-- how many lines it tells
+abbrev pub lines_of : Option Ending → Option ℕ
+lines_of None = None
+lines_of (Some ending) = Some ending.lines
 
 -- The assembly after just these packets were kept: each of its fields is what they give.
-pub record IsAssembly (a : Assembly) (ks : List StreamPacket) : Type 0 where
+pub record IsAssembly (a : Progress) (ks : List StreamPacket) : Type 0 where
   pub payload_size : IsPayloadSize a.payload_size
   pub size : IsBufferSize a.size
   pub are_kept : IsKept a.payload_size a.block ks
@@ -34,8 +34,9 @@ pub record IsAssembly (a : Assembly) (ks : List StreamPacket) : Type 0 where
   pub wide : length a.kept ≡ PACKET_IDS
   pub ids : (k : ℕ) → has a.kept k ≡ has_id k ks
   pub leader : a.leader ≡ leader_in ks
-  pub in_limits : IsInLimits a.leader
+  pub told : TellsSizeIfLeader a.leader
   pub trailer : (k : ℕ) → has_trailer_at k ks ≡ is_trailer_id a.trailer k
+  pub lines : lines_of a.trailer ≡ lines_in ks
   pub ended : is_some a.trailer ≡ has_trailer ks
   pub count : a.count ≡ min (length ks) (2 ^ 32 - 1)
   pub highest : a.highest ≡ highest ks
@@ -46,7 +47,7 @@ pub record IsAssembly (a : Assembly) (ks : List StreamPacket) : Type 0 where
 
 -- The assembly of block b, with payloads of p bytes at most, in a buffer of this size, after it took
 -- these packets of its block.
-pub record AssemblyStands (a : Assembly) (p b size : ℕ) (heard : List StreamPacket) : Type 0 where
+pub record AssemblyStands (a : Progress) (p b size : ℕ) (heard : List StreamPacket) : Type 0 where
   pub payload_size : a.payload_size ≡ p
   pub block : a.block ≡ b
   pub buffer_size : a.size ≡ size
@@ -55,7 +56,7 @@ pub record AssemblyStands (a : Assembly) (p b size : ℕ) (heard : List StreamPa
   pub gone : (k : ℕ) → k < PACKET_IDS → has a.refused k ≡ has_gone k heard
 
 -- it is the assembly of some block after some packets
-pub record StandsForSome (a : Assembly) : Type 0 where
+pub record StandsForSome (a : Progress) : Type 0 where
   pub p : ℕ
   pub b : ℕ
   pub size : ℕ
@@ -63,20 +64,20 @@ pub record StandsForSome (a : Assembly) : Type 0 where
   pub stands : AssemblyStands a p b size heard
 
 -- the block that is assembled
-abbrev pub block_of : Assembly → ℕ
+abbrev pub block_of : Progress → ℕ
 block_of a = a.block
 
 -- its buffer's size in bytes
-abbrev pub size_of : Assembly → ℕ
+abbrev pub size_of : Progress → ℕ
 size_of a = a.size
 
 -- what the steps rest on
-pub record IsSound (a : Assembly) : Type 0 where
+pub record IsSound (a : Progress) : Type 0 where
   pub payload_size : IsPayloadSize a.payload_size
   pub size : IsBufferSize a.size
   pub wide : length a.kept ≡ PACKET_IDS
   pub wide_refused : length a.refused ≡ PACKET_IDS
-  pub in_limits : IsInLimits a.leader
+  pub told : TellsSizeIfLeader a.leader
   pub buffer : length a.buf.bytes ≡ a.size
   pub placed : a.placed ≤ a.size
   pub end : a.end ≤ a.size

@@ -2,7 +2,7 @@
 use Rattle.std.specs.Prelude.{◌≡◌, ⊤, ℕ, ◌<◌, ◌≤◌, ◌==◌, ◌&&◌, ◌||◌, nat_le, nat_lt, List, [], ◌∷◌, length, Bool, true, false, Option, Some, None, if◌then◌else◌}
 use Rattle.std.specs.List.{AllByRecursion}
 use Rattle.stream_packets.specs.Packets.{StreamPacket, leader, payload, trailer, notice}
-use Rattle.block_assembly.specs.declared.assembly.Short.{Short}
+use Rattle.block_assembly.specs.declared.progress.Short.{Short}
 
 -- a payload has p bytes or more
 abbrev pub IsFull : ℕ → StreamPacket → Type 0

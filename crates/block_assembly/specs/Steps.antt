@@ -7,7 +7,7 @@ use Rattle.stream_packets.specs.declared.fields.LeaderInfo.{LeaderInfo}
 use Rattle.stream_packets.specs.Packets.{StreamPacket, leader, payload, trailer, notice, head_of}
 use Rattle.stream_packets.specs.FramePackets.{payload_start}
 use Rattle.missing_ranges.specs.Missing.{higher}
-use Rattle.block_assembly.specs.declared.assembly.Assembly.{Assembly}
+use Rattle.block_assembly.specs.declared.progress.Progress.{Progress}
 use Rattle.block_assembly.specs.declared.verdict.Verdict.{Verdict}
 use Rattle.block_assembly.specs.declared.verdict.Verdict.TheVariants.{Kept, Repeat, Misfit, Notice}
 use Rattle.block_assembly.specs.Shortest.{shortest_with}
@@ -21,20 +21,20 @@ abbrev pub count_inside : ℕ → ℕ → ℕ → ℕ
 count_inside start len size = min size (start + len) - min size start
 
 -- an id more
-abbrev pub marked : Assembly → ℕ → Assembly
+abbrev pub marked : Progress → ℕ → Progress
 marked a id = record a {
   kept = slice_set a.kept id true;
   count = min (a.count + 1) (2 ^ 32 - 1);
   highest = Some (higher id a.highest);
 }
 
-abbrev pub with_leader : Assembly → Head → LeaderInfo → Assembly
+abbrev pub with_leader : Progress → Head → LeaderInfo → Progress
 with_leader a h i = record (marked a h.id) { leader = Some i }
 
-abbrev pub with_trailer : Assembly → Head → Assembly
-with_trailer a h = record (marked a h.id) { trailer = Some h.id }
+abbrev pub with_trailer : Progress → Head → ℕ → Progress
+with_trailer a h y = record (marked a h.id) { trailer = Some (record { id = h.id; lines = y }) }
 
-abbrev pub with_payload : Assembly → Head → List ℕ → Assembly
+abbrev pub with_payload : Progress → Head → List ℕ → Progress
 with_payload a h d =
     let start = payload_start a.payload_size h.id in
     record (marked a h.id) {
@@ -46,19 +46,19 @@ with_payload a h d =
     }
 
 -- a packet more
-abbrev pub with_packet : Assembly → StreamPacket → Assembly
+abbrev pub with_packet : Progress → StreamPacket → Progress
 with_packet a (leader h i) = with_leader a h i
 with_packet a (payload h d) = with_payload a h d
-with_packet a (trailer h y) = with_trailer a h
+with_packet a (trailer h y) = with_trailer a h y
 with_packet a (notice h) = a
 
 -- a notice more: with the status 0x8010 it says nothing for good, and no packet of a block has a higher id
-abbrev pub noted : Assembly → Head → Assembly
+abbrev pub noted : Progress → Head → Progress
 noted a h =
     if not (h.status == 0x8010) && nat_le h.id max_packet_id then record a { refused = slice_set a.refused h.id true } else a
 
 -- what follows of an answer
-abbrev pub acted : Verdict → Assembly → StreamPacket → Assembly
+abbrev pub acted : Verdict → Progress → StreamPacket → Progress
 acted Kept a x = with_packet a x
 acted Repeat a x = a
 acted Misfit a x = a

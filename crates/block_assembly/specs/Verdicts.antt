@@ -1,17 +1,17 @@
 -- What becomes of a packet.
 use Rattle.std.specs.Prelude.{◌≡◌, ⊤, ℕ, ◌≤◌, ◌&&◌, not, List, length, Bool, is_some, if◌then◌else◌}
-use Rattle.gev_types.specs.Limits.{max_buffer_size}
 use Rattle.stream_packets.specs.Packets.{StreamPacket, leader, payload, trailer, notice, head_of, is_trailer, is_notice}
+use Rattle.block_image.specs.Extent.{TellsItsSize}
 use Rattle.block_image.specs.Kept.{fits, takes, kept}
 use Rattle.packet_bitmap.specs.Bits.{has}
-use Rattle.block_assembly.specs.declared.assembly.Assembly.{Assembly}
+use Rattle.block_assembly.specs.declared.progress.Progress.{Progress}
 use Rattle.block_assembly.specs.declared.verdict.Verdict.{Verdict}
 use Rattle.block_assembly.specs.declared.verdict.Verdict.TheVariants.{Kept, Repeat, Misfit, Notice}
 
--- A packet that was read: a leader has the id 0 and an image that a frame may have, and a payload an id
--- from 1 on and at least one byte.
+-- A packet that was read: a leader has the id 0 and tells the size of its image, which a frame may have,
+-- and a payload an id from 1 on and at least one byte.
 abbrev pub IsRead : StreamPacket → Type 0
-IsRead (leader h i) = (h.id ≡ 0) × (i.size ≤ max_buffer_size)
+IsRead (leader h i) = (h.id ≡ 0) × TellsItsSize i
 IsRead (payload h d) = (1 ≤ h.id) × (1 ≤ length d)
 IsRead (trailer h y) = ⊤
 IsRead (notice h) = ⊤
@@ -25,11 +25,11 @@ verdict_of p b heard x =
     else if takes p b (kept p b heard) x then Kept else Repeat
 
 -- no kept packet has its id, and it is no second trailer
-abbrev pub is_new : Assembly → StreamPacket → Bool
+abbrev pub is_new : Progress → StreamPacket → Bool
 is_new a x = not (has a.kept (head_of x).id) && not (is_trailer x && is_some a.trailer)
 
 -- the answer by what the assembly keeps along
-abbrev pub verdict_in : Assembly → StreamPacket → Verdict
+abbrev pub verdict_in : Progress → StreamPacket → Verdict
 verdict_in a x =
     if is_notice x then Notice
     else if not (fits a.payload_size x) then Misfit

@@ -1,51 +1,142 @@
-use gev_types::{Buf, MAX_PACKET_ID};
-use gvsp_wire::LeaderInfo;
+ghost use Rattle.std.specs.Prelude.{◌≡◌, ℕ, ◌+◌, ◌≤◌, ◌<◌, List, [], ◌∷◌, ◌++◌, length, IfSome};
+ghost use Rattle.stream_packets.specs.Packets.{StreamPacket, head_of};
+ghost use Rattle.gvsp_wire.specs.View.{view};
+ghost use Rattle.block_image.specs.Kept.{kept, has_id};
+ghost use Rattle.block_image.specs.Image.{image};
+ghost use Rattle.block_image.specs.Sizes.{IsPayloadSize};
+ghost use Rattle.missing_ranges.specs.Missing.{top_of, has_gone};
+ghost use Rattle.packet_bitmap.specs.Bits.{has};
+ghost use Rattle.block_assembly.specs.Assembly.{AssemblyStands, block_of};
+ghost use Rattle.block_assembly.specs.Verdicts.{IsRead, verdict_of};
+
+use crate::completing::{completes, top};
+use crate::judging::judge;
+use crate::keeping::act;
+use crate::progress::{PACKET_IDS, Progress};
+use crate::recording::record;
+use crate::verdict::Verdict;
+use gev_types::Buf;
+use gvsp_wire::Packet;
 use packet_bitmap::Bitmap;
-
-/// How many packet ids a block may have: the ids of its bitmaps.
-pub const PACKET_IDS: u32 = MAX_PACKET_ID + 1;
-
-/// A payload with fewer bytes than a payload may have.
-#[derive(Clone, Copy, Debug, PartialEq, Eq)]
-pub struct Short {
-    /// Its packet id.
-    pub id: u32,
-    /// Its length in bytes.
-    pub len: u32,
-}
+use std::marker::Model;
 
 /// One block on its way into its buffer.
 ///
-/// A payload's bytes are copied once, when it comes, and what the record says is counted along. Nothing
-/// that is counted rests on the leader or the trailer, so it doesn't matter when they come.
+/// Contracts see how far it has come. It always stands for some packets of its block.
 #[derive(Debug, Drop)]
 pub struct Assembly {
-    /// The most bytes of a payload packet.
-    pub(crate) payload_size: u32,
-    /// The block id.
-    pub(crate) block: u64,
-    /// The buffer's size in bytes.
-    pub(crate) size: u32,
-    /// The buffer, with the kept payloads' bytes in place.
-    pub(crate) buf: Buf,
-    /// The ids of the kept packets.
-    pub(crate) kept: Bitmap,
-    /// The ids that the camera can't send again.
-    pub(crate) refused: Bitmap,
-    /// What the kept leader says of the image.
-    pub(crate) leader: Option<LeaderInfo>,
-    /// The id of the kept trailer.
-    pub(crate) trailer: Option<u32>,
-    /// How many packets were kept, up to the type's end.
-    pub(crate) count: u32,
-    /// The highest id that was kept.
-    pub(crate) highest: Option<u32>,
-    /// Of the kept payloads with fewer bytes than `payload_size`, the one with the lowest id.
-    pub(crate) shortest: Option<Short>,
-    /// How many bytes of the buffer were placed.
-    pub(crate) placed: u32,
-    /// The end of the highest byte that was placed, 0 if none was.
-    pub(crate) end: u32,
-    /// Whether a kept payload reaches past the buffer.
-    pub(crate) past: bool,
+    progress: Progress,
+}
+
+impl Model for Assembly {
+    ghost use Rattle.block_assembly.specs.declared.progress.Progress.{Progress};
+    ghost use Rattle.block_assembly.specs.Assembly.{StandsForSome};
+
+    ghost Value = { Progress };
+
+    ghost view = { λ a. a.progress };
+
+    ghost invariant = { λ a. StandsForSome a.progress };
+}
+
+impl Assembly {
+    /// An assembly of this block that has taken nothing, over a buffer and two bitmaps, which it clears.
+    /// `payload_size` is the most bytes of a payload packet.
+    pub fn start(buf: Buf, kept: Bitmap, refused: Bitmap, block: u64, payload_size: u32) -> Assembly
+        requires payload_size { IsPayloadSize payload_size }
+        requires kept { length kept ≡ PACKET_IDS }
+        requires refused { length refused ≡ PACKET_IDS }
+        ensures stands { AssemblyStands result payload_size block (length buf.bytes) [] }
+        ensures of_block { block_of result ≡ block }
+    {
+        let mut buf = buf;
+        let mut kept = kept;
+        let mut refused = refused;
+        let size = buf.bytes().len() as u32;
+        buf.clear();
+        kept.reset();
+        refused.reset();
+        let progress = Progress {
+            payload_size,
+            block,
+            size,
+            buf,
+            kept,
+            refused,
+            leader: None,
+            trailer: None,
+            count: 0,
+            highest: None,
+            shortest: None,
+            placed: 0,
+            end: 0,
+            past: false,
+        };
+        Assembly { progress }
+    }
+
+    /// Takes a packet of the block, and says what becomes of it.
+    pub fn accept(&mut self, packet: &Packet<'_>) -> Verdict
+        requires read { IsRead (view packet.now) }
+        requires of_block { (head_of (view packet.now)).block ≡ block_of self.old }
+        ensures verdict { (p b size : ℕ) (heard : List StreamPacket) → AssemblyStands self.old p b size heard
+            → result ≡ verdict_of p b heard (view packet.now) }
+        ensures stands { (p b size : ℕ) (heard : List StreamPacket) → AssemblyStands self.old p b size heard
+            → AssemblyStands self.new p b size (heard ++ view packet.now ∷ []) }
+        ensures same_block { block_of self.new ≡ block_of self.old }
+    {
+        let verdict = judge(&self.progress, packet);
+        act(&mut self.progress, verdict, packet);
+        verdict
+    }
+
+    /// Whether the whole image is in the buffer.
+    pub fn is_complete(&self) -> bool
+        ensures { (p b size : ℕ) (heard : List StreamPacket) → AssemblyStands self.now p b size heard
+            → result ≡ (image p b size heard).rec.complete }
+    {
+        completes(&self.progress)
+    }
+
+    /// The last id up to which packets may be missing: the trailer's where the leader tells it, else the
+    /// highest that was kept. None where nothing was kept.
+    pub fn top(&self) -> Option<u32>
+        ensures top { (p b size : ℕ) (heard : List StreamPacket) → AssemblyStands self.now p b size heard
+            → result ≡ top_of p (kept p b heard) }
+        ensures in_range { IfSome result (λ top. top < PACKET_IDS) }
+    {
+        top(&self.progress)
+    }
+
+    /// The ids of the packets that were kept.
+    pub fn kept(&self) -> &Bitmap
+        ensures ids { (p b size : ℕ) (heard : List StreamPacket) → AssemblyStands self.now p b size heard
+            → (id : ℕ) → has result.now id ≡ has_id id (kept p b heard) }
+        ensures wide { length result.now ≡ PACKET_IDS }
+    {
+        &self.progress.kept
+    }
+
+    /// The ids of the packets that the camera can't send again, by its notices.
+    pub fn refused(&self) -> &Bitmap
+        ensures ids { (p b size : ℕ) (heard : List StreamPacket) → AssemblyStands self.now p b size heard
+            → (id : ℕ) → id < PACKET_IDS → has result.now id ≡ has_gone id heard }
+        ensures wide { length result.now ≡ PACKET_IDS }
+    {
+        &self.progress.refused
+    }
+
+    /// The buffer with the block's image and record, and the two bitmaps for another block.
+    pub fn finish(self) -> (Buf, Bitmap, Bitmap)
+        ensures image { (p b size : ℕ) (heard : List StreamPacket) → AssemblyStands self p b size heard
+            → result.0 ≡ image p b size heard }
+        ensures kept { length result.1 ≡ PACKET_IDS }
+        ensures refused { length result.2 ≡ PACKET_IDS }
+    {
+        let Assembly { progress } = self;
+        let rec = record(&progress);
+        let mut buf = progress.buf;
+        buf.set_rec(rec);
+        (buf, progress.kept, progress.refused)
+    }
 }

@@ -5,13 +5,13 @@ ghost use Rattle.stream_packets.specs.Packets.{head_of};
 ghost use Rattle.gvsp_wire.specs.View.{view};
 ghost use Rattle.block_assembly.specs.Verdicts.{is_new, verdict_in};
 
-use crate::assembly::{Assembly, PACKET_IDS};
+use crate::progress::{PACKET_IDS, Progress};
 use crate::verdict::Verdict;
 use block_image::does_fit;
 use gvsp_wire::Packet;
 
 /// Whether no kept packet has the packet's id, and the packet is no second trailer.
-fn is_new(assembly: &Assembly, packet: &Packet<'_>) -> bool
+fn is_new(assembly: &Progress, packet: &Packet<'_>) -> bool
     requires { (head_of (view packet.now)).id < length assembly.now.kept }
     ensures { result ≡ is_new assembly.now (view packet.now) }
 {
@@ -19,7 +19,7 @@ fn is_new(assembly: &Assembly, packet: &Packet<'_>) -> bool
 }
 
 /// What becomes of the packet.
-pub(crate) fn judge(assembly: &Assembly, packet: &Packet<'_>) -> Verdict
+pub(crate) fn judge(assembly: &Progress, packet: &Packet<'_>) -> Verdict
     requires { length assembly.now.kept ≡ PACKET_IDS }
     ensures { result ≡ verdict_in assembly.now (view packet.now) }
 {

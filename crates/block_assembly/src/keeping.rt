@@ -9,7 +9,7 @@ ghost use Rattle.block_assembly.specs.Assembly.{IsSound};
 ghost use Rattle.block_assembly.specs.Verdicts.{IsRead};
 ghost use Rattle.block_assembly.specs.Steps.{marked, with_leader, with_trailer, with_payload, with_packet, noted, acted};
 
-use crate::assembly::{Assembly, PACKET_IDS, Short};
+use crate::progress::{Ending, PACKET_IDS, Progress, Short};
 use crate::span::span_of;
 use crate::verdict::Verdict;
 use gev_types::MAX_PACKET_ID;
@@ -29,7 +29,7 @@ fn higher(id: u32, highest: Option<u32>) -> u32
 }
 
 /// Marks an id as kept.
-fn mark(assembly: &mut Assembly, id: u32)
+fn mark(assembly: &mut Progress, id: u32)
     requires { id < length assembly.old.kept }
     ensures { assembly.new ≡ marked assembly.old id }
 {
@@ -39,7 +39,7 @@ fn mark(assembly: &mut Assembly, id: u32)
 }
 
 /// Keeps a leader.
-fn keep_leader(assembly: &mut Assembly, head: Head, info: LeaderInfo)
+fn keep_leader(assembly: &mut Progress, head: Head, info: LeaderInfo)
     requires { head.id < length assembly.old.kept }
     ensures { assembly.new ≡ with_leader assembly.old head info }
 {
@@ -48,12 +48,12 @@ fn keep_leader(assembly: &mut Assembly, head: Head, info: LeaderInfo)
 }
 
 /// Keeps a trailer.
-fn keep_trailer(assembly: &mut Assembly, head: Head)
+fn keep_trailer(assembly: &mut Progress, head: Head, lines: u32)
     requires { head.id < length assembly.old.kept }
-    ensures { assembly.new ≡ with_trailer assembly.old head }
+    ensures { assembly.new ≡ with_trailer assembly.old head lines }
 {
     mark(assembly, head.id);
-    assembly.trailer = Some(head.id);
+    assembly.trailer = Some(Ending { id: head.id, lines });
 }
 
 /// The short payload with the lower id.
@@ -85,7 +85,7 @@ fn either(before: bool, past: bool) -> bool
 }
 
 /// Keeps a payload, and puts its bytes into the buffer.
-fn keep_payload(assembly: &mut Assembly, head: Head, bytes: &[u8])
+fn keep_payload(assembly: &mut Progress, head: Head, bytes: &[u8])
     requires sound { IsSound assembly.old }
     requires id { head.id < length assembly.old.kept }
     requires some { 1 ≤ length bytes.now }
@@ -107,7 +107,7 @@ fn keep_payload(assembly: &mut Assembly, head: Head, bytes: &[u8])
 }
 
 /// Keeps a packet.
-fn keep(assembly: &mut Assembly, packet: &Packet<'_>)
+fn keep(assembly: &mut Progress, packet: &Packet<'_>)
     requires sound { IsSound assembly.old }
     requires read { IsRead (view packet.now) }
     requires fits { fits assembly.old.payload_size (view packet.now) ≡ true }
@@ -116,13 +116,13 @@ fn keep(assembly: &mut Assembly, packet: &Packet<'_>)
     match *packet {
         Packet::Leader(head, info) => keep_leader(assembly, head, info),
         Packet::Payload(head, bytes) => keep_payload(assembly, head, bytes),
-        Packet::Trailer(head, _) => keep_trailer(assembly, head),
+        Packet::Trailer(head, lines) => keep_trailer(assembly, head, lines),
         Packet::Notice(_) => {}
     }
 }
 
 /// Notes that the camera can't send a packet again, where the notice says so.
-fn note(assembly: &mut Assembly, head: Head)
+fn note(assembly: &mut Progress, head: Head)
     requires { length assembly.old.refused ≡ PACKET_IDS }
     ensures { assembly.new ≡ noted assembly.old head }
 {
@@ -132,7 +132,7 @@ fn note(assembly: &mut Assembly, head: Head)
 }
 
 /// Does what follows of a verdict.
-pub(crate) fn act(assembly: &mut Assembly, verdict: Verdict, packet: &Packet<'_>)
+pub(crate) fn act(assembly: &mut Progress, verdict: Verdict, packet: &Packet<'_>)
     requires sound { IsSound assembly.old }
     requires read { IsRead (view packet.now) }
     requires fits { verdict ≡ Verdict.Kept → fits assembly.old.payload_size (view packet.now) ≡ true }

@@ -6,17 +6,18 @@
 #![tactic(auto)]
 
 mod assembly;
-mod calls;
 mod completing;
 mod judging;
 mod keeping;
 mod laws;
+mod progress;
 mod recording;
 mod span;
 #[cfg(test)]
 mod tests;
 mod verdict;
 
-pub use assembly::{Assembly, PACKET_IDS};
+pub use assembly::Assembly;
 pub use laws::verdicts_tell;
+pub use progress::PACKET_IDS;
 pub use verdict::Verdict;

@@ -2,18 +2,18 @@
 
 ghost use Rattle.std.specs.Prelude.{◌≡◌, ◌≤◌, List};
 ghost use Rattle.stream_packets.specs.Packets.{StreamPacket};
-ghost use Rattle.block_image.specs.Image.{is_larger, image_len, leader_in, record_of};
+ghost use Rattle.block_image.specs.Image.{is_larger, image_len, extent_in, record_of};
 ghost use Rattle.block_assembly.specs.Assembly.{IsAssembly, IsSound};
 
-use crate::assembly::Assembly;
 use crate::completing::{completes, extent};
+use crate::progress::Progress;
 use gev_types::Record;
 
 /// Whether the block has more bytes than the buffer.
-fn is_larger(assembly: &Assembly) -> bool
+fn is_larger(assembly: &Progress) -> bool
     requires { IsSound assembly.now }
     ensures { (ks : List StreamPacket) → IsAssembly assembly.now ks
-        → result ≡ is_larger assembly.now.payload_size assembly.now.size ks (leader_in ks) }
+        → result ≡ is_larger assembly.now.payload_size assembly.now.size ks (extent_in ks) }
 {
     match extent(assembly) {
         Some(len) => assembly.size < len,
@@ -22,10 +22,10 @@ fn is_larger(assembly: &Assembly) -> bool
 }
 
 /// The length of the image in the buffer, in bytes.
-fn image_len(assembly: &Assembly) -> u32
+fn image_len(assembly: &Progress) -> u32
     requires { IsSound assembly.now }
     ensures value { (ks : List StreamPacket) → IsAssembly assembly.now ks
-        → result ≡ image_len assembly.now.payload_size assembly.now.size ks (leader_in ks) }
+        → result ≡ image_len assembly.now.payload_size assembly.now.size ks (extent_in ks) }
     ensures within { result ≤ assembly.now.size }
 {
     match extent(assembly) {
@@ -35,7 +35,7 @@ fn image_len(assembly: &Assembly) -> u32
 }
 
 /// What is known of the block.
-pub(crate) fn record(assembly: &Assembly) -> Record
+pub(crate) fn record(assembly: &Progress) -> Record
     requires { IsSound assembly.now }
     ensures value { (ks : List StreamPacket) → IsAssembly assembly.now ks
         → result ≡ record_of assembly.now.payload_size assembly.now.block assembly.now.size ks }

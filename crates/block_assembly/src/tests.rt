@@ -1,10 +1,11 @@
 //! Worked rows of one block in its buffer. Payloads have 528 bytes at most.
 
-ghost use Rattle.std.specs.Prelude.{◌≡◌, ◌≤◌, length, IfOk};
+ghost use Rattle.std.specs.Prelude.{◌≡◌, ◌≤◌, ◌*◌, length, IfOk};
 ghost use Rattle.gev_types.specs.Limits.{max_buffer_size};
 ghost use Rattle.stream_packets.specs.Packets.{head_of};
 ghost use Rattle.gvsp_wire.specs.View.{view};
-ghost use Rattle.block_assembly.specs.Assembly.{StandsForSome, block_of};
+ghost use Rattle.block_image.specs.Extent.{TellsItsSize};
+ghost use Rattle.block_assembly.specs.Assembly.{block_of};
 ghost use Rattle.block_assembly.specs.Verdicts.{IsRead};
 
 use crate::{Assembly, PACKET_IDS, Verdict};
@@ -17,12 +18,16 @@ use std::test::Fail;
 /// A packet of block 1. The bytes of a payload are its id, up to 3.
 #[derive(Clone, Copy)]
 enum Sent {
-    /// Of an image of this many bytes.
+    /// Of an image of one line of this many bytes.
     Leader(u32),
+    /// Of an image of this many lines of 528 bytes.
+    LeaderOf(u32),
     /// With this id and length.
     Payload(u32, usize),
-    /// With this id.
+    /// With this id, and one line.
     Trailer(u32),
+    /// With this id and so many lines.
+    TrailerOf(u32, u32),
     /// With this status and id.
     TrailerWith(u16, u32),
     /// With this status, of the packet with this id.
@@ -47,14 +52,17 @@ fn head(status: u16, id: u32) -> Head
     }
 }
 
-fn leader(size: u32) -> LeaderInfo
-    ensures { result.size ≡ size }
+fn leader(size_x: u32, size_y: u32) -> LeaderInfo
+    requires some { 1 ≤ size_x * size_y }
+    requires in_limits { size_x * size_y ≤ max_buffer_size }
+    ensures { TellsItsSize result }
 {
+    let size = size_x * size_y;
     LeaderInfo {
         timestamp: 0,
         pixel: 0x0108_0001,
-        size_x: size,
-        size_y: 1,
+        size_x,
+        size_y,
         offset_x: 0,
         offset_y: 0,
         padding_x: 0,
@@ -79,9 +87,11 @@ fn packet(sent: Sent) -> Packet<'static>
     ensures of_block { (head_of (view result)).block ≡ 1 }
 {
     match sent {
-        Sent::Leader(size) => Packet::Leader(head(0, 0), leader(size.min(MAX_BUFFER_SIZE))),
+        Sent::Leader(size) => Packet::Leader(head(0, 0), leader(size.clamp(1, MAX_BUFFER_SIZE), 1)),
+        Sent::LeaderOf(lines) => Packet::Leader(head(0, 0), leader(528, lines.clamp(1, 1000))),
         Sent::Payload(id, len) => Packet::Payload(head(0, id.max(1)), payload(id, len)),
         Sent::Trailer(id) => Packet::Trailer(head(0, id), 1),
+        Sent::TrailerOf(id, lines) => Packet::Trailer(head(0, id), lines),
         Sent::TrailerWith(status, id) => Packet::Trailer(head(status, id), 1),
         Sent::Notice(status, id) => Packet::Notice(head(status, id)),
     }
@@ -91,7 +101,7 @@ fn packet(sent: Sent) -> Packet<'static>
 fn assembled(alloc: Global, size: u32, sents: &[Sent]) -> Result<Assembly, Fail>
     requires some { 1 ≤ size }
     requires in_limits { size ≤ max_buffer_size }
-    ensures { IfOk result (λ a. StandsForSome a × (block_of a ≡ 1)) }
+    ensures { IfOk result (λ a. block_of a ≡ 1) }
 {
     let buf = Buf::new(alloc, size)?;
     let kept = Bitmap::new(alloc, PACKET_IDS)?;
@@ -179,6 +189,49 @@ fn takes_packets_in_any_order(rt: HostRuntime) -> Result<(), Fail> {
     Ok(())
 }
 
+/// The packets of an image of four lines announced, of which two came.
+const SHORT_IMAGE: [Sent; 4] = [
+    Sent::LeaderOf(4),
+    Sent::Payload(1, 528),
+    Sent::Payload(2, 528),
+    Sent::TrailerOf(3, 2),
+];
+
+// The block is complete with the last of its packets, whichever that is, and up to the trailer it asks
+// for more as the leader tells, or without one for what is below the highest id.
+#[test]
+fn takes_a_short_image_in_any_order(rt: HostRuntime) -> Result<(), Fail> {
+    for order in &ORDERS {
+        let sents = [
+            SHORT_IMAGE[order[0] % 4],
+            SHORT_IMAGE[order[1] % 4],
+            SHORT_IMAGE[order[2] % 4],
+            SHORT_IMAGE[order[3] % 4],
+        ];
+        let early = assembled(rt.alloc(), 1056, &sents[..3])?;
+        assert!(rt; !early.is_complete(), "before the last of {order:?}");
+        let top = match order[3] {
+            0 => Some(3),
+            3 => Some(5),
+            _ => Some(3),
+        };
+        assert_eq!(rt; early.top(), top, "before the last of {order:?}");
+        let assembly = assembled(rt.alloc(), 1056, &sents)?;
+        assert!(rt; assembly.is_complete(), "after {order:?}");
+        assert_eq!(rt; assembly.top(), Some(3), "after {order:?}");
+        let (buf, _, _) = assembly.finish();
+        assert_eq!(rt;
+            buf.rec(),
+            rec(true, false, true, 1056, 1056),
+            "after {order:?}"
+        );
+        let (first, last) = buf.bytes().split_at(buf.bytes().len().min(528));
+        assert!(rt; first.iter().all(|b| *b == 1), "after {order:?}");
+        assert!(rt; last.iter().all(|b| *b == 2), "after {order:?}");
+    }
+    Ok(())
+}
+
 /// Packets that came, a buffer's size, and what they give: the last id, the record and some bytes.
 struct Case {
     name: &'static str,
@@ -189,7 +242,7 @@ struct Case {
     bytes: &'static [(usize, u8)],
 }
 
-const CASES: [Case; 9] = [
+const CASES: [Case; 15] = [
     Case {
         name: "a longer last payload",
         sents: &[
@@ -281,6 +334,76 @@ const CASES: [Case; 9] = [
         top: Some(1),
         rec: (false, false, false, 10, 10),
         bytes: &[(9, 1), (10, 0)],
+    },
+    Case {
+        name: "a trailer of no line",
+        sents: &[
+            Sent::LeaderOf(1),
+            Sent::Payload(1, 528),
+            Sent::TrailerOf(2, 0),
+        ],
+        size: 528,
+        top: Some(2),
+        rec: (true, false, true, 528, 528),
+        bytes: &[(527, 1)],
+    },
+    Case {
+        name: "a trailer of more lines than the leader's",
+        sents: &[
+            Sent::LeaderOf(1),
+            Sent::Payload(1, 528),
+            Sent::TrailerOf(2, 9),
+        ],
+        size: 528,
+        top: Some(2),
+        rec: (true, false, true, 528, 528),
+        bytes: &[(527, 1)],
+    },
+    Case {
+        name: "a short trailer with the id of the announced lines' one",
+        sents: &[
+            Sent::LeaderOf(2),
+            Sent::Payload(1, 528),
+            Sent::Payload(2, 528),
+            Sent::TrailerOf(3, 1),
+        ],
+        size: 1100,
+        top: Some(2),
+        rec: (false, false, true, 528, 1056),
+        bytes: &[(527, 1), (528, 2), (1056, 0)],
+    },
+    Case {
+        name: "an image that the trailer makes small enough",
+        sents: &[
+            Sent::LeaderOf(4),
+            Sent::Payload(1, 528),
+            Sent::TrailerOf(2, 1),
+        ],
+        size: 528,
+        top: Some(2),
+        rec: (true, false, true, 528, 528),
+        bytes: &[(527, 1)],
+    },
+    Case {
+        name: "the same before its trailer",
+        sents: &[Sent::LeaderOf(4), Sent::Payload(1, 528)],
+        size: 528,
+        top: Some(5),
+        rec: (false, true, true, 528, 528),
+        bytes: &[(527, 1)],
+    },
+    Case {
+        name: "a payload past the extent",
+        sents: &[
+            Sent::Payload(3, 528),
+            Sent::TrailerOf(2, 1),
+            Sent::Payload(1, 528),
+            Sent::LeaderOf(4),
+        ],
+        size: 1100,
+        top: Some(2),
+        rec: (true, false, true, 528, 572),
+        bytes: &[(527, 1), (528, 0), (1055, 0), (1056, 3), (1099, 3)],
     },
     Case {
         name: "nothing",

@@ -16,7 +16,7 @@ payload_of f p k = payload (sent_head f k) (payload_bytes p f.pixels k)
 -- the end of a frame's list, from the payloads on
 abbrev rest_of : Frame → ℕ → List StreamPacket
 rest_of f p =
-    payloads_of f p (payload_count p (length f.pixels)) ++ trailer (sent_head f (payload_count p (length f.pixels) + 1)) f.size_y ∷ []
+    payloads_of f p (payload_count p (length f.pixels)) ++ trailer (sent_head f (payload_count p (length f.pixels) + 1)) f.rows ∷ []
 
 -- in the list
 
@@ -48,10 +48,10 @@ payload_from_some P f p (suc n) s = go (payload_from_some P f p n) (some-append_
 listed : (f : Frame) (p : ℕ) (x : StreamPacket) → IsPacketOf f p x → SomeByRecursion (λ y. AreAlike y x) (packets_of f p)
 listed f p (leader h i) is = inl ((sym is.0, sym is.1), sym is.2)
 listed f p (payload h d) is =
-    inr (some-append_left (λ y. AreAlike y (payload h d)) (payloads_of f p (payload_count p (length f.pixels))) (trailer (sent_head f (payload_count p (length f.pixels) + 1)) f.size_y ∷ [])
+    inr (some-append_left (λ y. AreAlike y (payload h d)) (payloads_of f p (payload_count p (length f.pixels))) (trailer (sent_head f (payload_count p (length f.pixels) + 1)) f.rows ∷ [])
     (some_payload (λ y. AreAlike y (payload h d)) f p (payload_count p (length f.pixels)) h.id is.1 is.2 ((sym is.0, refl), sym is.3)))
 listed f p (trailer h y) is =
-    inr (some-append_right (λ z. AreAlike z (trailer h y)) (payloads_of f p (payload_count p (length f.pixels))) (trailer (sent_head f (payload_count p (length f.pixels) + 1)) f.size_y ∷ [])
+    inr (some-append_right (λ z. AreAlike z (trailer h y)) (payloads_of f p (payload_count p (length f.pixels))) (trailer (sent_head f (payload_count p (length f.pixels) + 1)) f.rows ∷ [])
     (inl ((sym is.0, sym is.1), sym is.2)))
 listed f p (notice h) is = absurd is
 
@@ -69,7 +69,7 @@ alike_payload f p k (payload h d) one top a =
 alike_payload f p k (trailer h y) one top a = absurd a
 alike_payload f p k (notice h) one top a = absurd a
 
-alike_trailer : (f : Frame) (p : ℕ) (x : StreamPacket) → AreAlike (trailer (sent_head f (payload_count p (length f.pixels) + 1)) f.size_y) x → IsPacketOf f p x
+alike_trailer : (f : Frame) (p : ℕ) (x : StreamPacket) → AreAlike (trailer (sent_head f (payload_count p (length f.pixels) + 1)) f.rows) x → IsPacketOf f p x
 alike_trailer f p (leader h i) a = absurd a
 alike_trailer f p (payload h d) a = absurd a
 alike_trailer f p (trailer h y) a = (sym a.0.0, sym a.0.1, sym a.1)
@@ -77,8 +77,8 @@ alike_trailer f p (notice h) a = absurd a
 
 unlisted : (f : Frame) (p : ℕ) (x : StreamPacket) → SomeByRecursion (λ y. AreAlike y x) (packets_of f p) → IsPacketOf f p x
 unlisted f p x (inl a) = alike_leader f p x a
-unlisted f p x (inr s) = go (some-append_cases (λ y. AreAlike y x) (payloads_of f p (payload_count p (length f.pixels))) (trailer (sent_head f (payload_count p (length f.pixels) + 1)) f.size_y ∷ []) s) where
-  go : SomeByRecursion (λ y. AreAlike y x) (payloads_of f p (payload_count p (length f.pixels))) ⊎ SomeByRecursion (λ y. AreAlike y x) (trailer (sent_head f (payload_count p (length f.pixels) + 1)) f.size_y ∷ []) → IsPacketOf f p x
+unlisted f p x (inr s) = go (some-append_cases (λ y. AreAlike y x) (payloads_of f p (payload_count p (length f.pixels))) (trailer (sent_head f (payload_count p (length f.pixels) + 1)) f.rows ∷ []) s) where
+  go : SomeByRecursion (λ y. AreAlike y x) (payloads_of f p (payload_count p (length f.pixels))) ⊎ SomeByRecursion (λ y. AreAlike y x) (trailer (sent_head f (payload_count p (length f.pixels) + 1)) f.rows ∷ []) → IsPacketOf f p x
   go (inl early) =
       let m = payload_from_some (λ y. AreAlike y x) f p (payload_count p (length f.pixels)) early in
       alike_payload f p m.k x m.one m.top m.holds
@@ -120,13 +120,13 @@ each_payload P f p (suc n) k all one top = go (each_payload P f p n k) (cases_lt
 all_came : (f : Frame) (p : ℕ) (xs : List StreamPacket) → HasAllPackets f p xs → AllByRecursion (λ x. HasCome x xs) (packets_of f p)
 all_came f p xs all = (
   all.the_leader,
-  all-append (λ x. HasCome x xs) (payloads_of f p (payload_count p (length f.pixels))) (trailer (sent_head f (payload_count p (length f.pixels) + 1)) f.size_y ∷ [])
+  all-append (λ x. HasCome x xs) (payloads_of f p (payload_count p (length f.pixels))) (trailer (sent_head f (payload_count p (length f.pixels) + 1)) f.rows ∷ [])
       (all_payloads (λ x. HasCome x xs) f p (payload_count p (length f.pixels)) all.payloads) (all.the_trailer, tt),
 )
 
 has_all : (f : Frame) (p : ℕ) (xs : List StreamPacket) → AllByRecursion (λ x. HasCome x xs) (packets_of f p) → HasAllPackets f p xs
 has_all f p xs all =
-    let rest = all-append_parts (λ x. HasCome x xs) (payloads_of f p (payload_count p (length f.pixels))) (trailer (sent_head f (payload_count p (length f.pixels) + 1)) f.size_y ∷ []) all.1 in
+    let rest = all-append_parts (λ x. HasCome x xs) (payloads_of f p (payload_count p (length f.pixels))) (trailer (sent_head f (payload_count p (length f.pixels) + 1)) f.rows ∷ []) all.1 in
     record {
       the_leader = all.0;
       payloads = λ k one top. each_payload (λ x. HasCome x xs) f p (payload_count p (length f.pixels)) k rest.0 one top;

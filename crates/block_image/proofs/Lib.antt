@@ -11,6 +11,7 @@ pub mod Members
 pub mod KeptLawLemmas
 pub mod FramePieces
 pub mod FrameKept
+pub mod FewerLines
 pub mod OneBlockLemmas
 pub mod AllPacketsLemmas
 pub mod PlainSteps

@@ -11,8 +11,9 @@ use Rattle.stream_packets.specs.declared.fields.LeaderInfo.{LeaderInfo}
 use Rattle.stream_packets.specs.Packets.{StreamPacket, leader, payload, trailer, notice, head_of, is_trailer, is_notice}
 use Rattle.stream_packets.specs.FramePackets.{payload_count, payload_start, payload_bytes, sent_head, leader_info, IsPacketOf}
 use Rattle.stream_packets.specs.Sent.{CarriesFrame, IsSent}
+use Rattle.block_image.specs.Extent.{extent_of}
 use Rattle.block_image.specs.Kept.{kept, is_good_status, fits_payload, has_id, has_trailer}
-use Rattle.block_image.specs.Image.{covers, byte_from, placed, image_bytes, leader_in, has_trailer_at, has_payload, has_payloads, is_complete, image_len, image}
+use Rattle.block_image.specs.Image.{covers, byte_from, placed, image_bytes, leader_in, lines_in, extent_in, has_trailer_at, has_payload, has_payloads, is_complete, image_len, image}
 use Rattle.block_image.specs.KeptFacts.{may_keep, HasDistinctIds, IsKept, IsNumbered, ArePayloadsNumbered}
 use Rattle.block_image.specs.AllPackets.{AreAlike, HasCome, HasAllPackets}
 use Rattle.block_image.specs.OneBlock.{AreSent, HoldsFrame, IsPieceOfFrame, CompleteIsFrame, BytesAreInPlace, AllPacketsComplete}
@@ -23,6 +24,7 @@ use Rattle.block_image.proofs.ImageLemmas.{length-image_bytes, get_or-image_byte
 use Rattle.block_image.proofs.Members.{Has, all-has, all_with, member_from_some, some_from_Any, has_from_Contains, Contains-from_has}
 use Rattle.block_image.proofs.KeptLawLemmas.{IsAnswered, IsAnswered-has}
 use Rattle.block_image.proofs.FramePieces.{payload_at, start_at, start_within, length-payload_bytes, get_or-payload_bytes, count_fits}
+use Rattle.block_image.proofs.FewerLines.{has_trailer-at, extent_in-of_frame}
 use Rattle.block_image.proofs.FrameKept.{AreOfFrame, some_same, frame_of_block, of_frame_from_sent, member-has_id, leader_in-by_id, has_trailer_at-by_kind, has_trailer-by_id, has_payload-by_id, has_payloads-from_each, has_payloads-each, payload_at_id}
 
 -- what is placed
@@ -126,17 +128,35 @@ bytes_are_in_place frames p b size xs s = record {
 -- a complete image is the frame
 
 record Complete (p size : ℕ) (ks : List StreamPacket) : Type 0 where
+  len : ℕ
+  extent : extent_in ks ≡ Some len
+  goes_in : len ≤ size
+  ended : has_trailer ks ≡ true
+  payloads : has_payloads p len (payload_count p len) ks ≡ true
+
+complete_parts : (p size : ℕ) (ks : List StreamPacket) (o : Option ℕ) → extent_in ks ≡ o → is_complete p size ks o ≡ true → Complete p size ks
+complete_parts p size ks None e is = cc
+complete_parts p size ks (Some len) e is =
+    let whole = and_parts (nat_le len size && has_trailer_at (payload_count p len + 1) ks) (has_payloads p len (payload_count p len) ks) is in
+    let ends = and_parts (nat_le len size) (has_trailer_at (payload_count p len + 1) ks) whole.0 in
+    record {
+      len = len;
+      extent = e;
+      goes_in = leb-true len size ends.0;
+      ended = has_trailer-at (payload_count p len + 1) ks ends.1;
+      payloads = whole.1;
+    }
+
+-- the extent is known by a leader alone
+record HasLeader (ks : List StreamPacket) : Type 0 where
   info : LeaderInfo
   first : leader_in ks ≡ Some info
-  goes_in : info.size ≤ size
-  payloads : has_payloads p info.size (payload_count p info.size) ks ≡ true
 
-complete_parts : (p size : ℕ) (ks : List StreamPacket) (o : Option LeaderInfo) → leader_in ks ≡ o → is_complete p size ks o ≡ true → Complete p size ks
-complete_parts p size ks None e is = cc
-complete_parts p size ks (Some i) e is =
-    let whole = and_parts (nat_le i.size size && has_trailer_at (payload_count p i.size + 1) ks) (has_payloads p i.size (payload_count p i.size) ks) is in
-    let ends = and_parts (nat_le i.size size) (has_trailer_at (payload_count p i.size + 1) ks) whole.0 in
-    record { info = i; first = e; goes_in = leb-true i.size size ends.0; payloads = whole.1 }
+has_leader : (ks : List StreamPacket) (len : ℕ) → extent_in ks ≡ Some len → HasLeader ks
+has_leader ks len e = go (leader_in ks) refl where
+  go : (o : Option LeaderInfo) → leader_in ks ≡ o → HasLeader ks
+  go None none = let known : extent_in ks ≡ None = ap (λ (o : Option LeaderInfo). extent_of o (lines_in ks)) none in absurd cc
+  go (Some i) there = record { info = i; first = there }
 
 -- the kept leader
 record LeaderAt (i : LeaderInfo) (ks : List StreamPacket) : Type 0 where
@@ -188,27 +208,31 @@ holds_frame : (frames : ℕ → Option Frame) (p b size : ℕ) (xs : List Stream
 holds_frame frames p b size xs s c =
     let ks : List StreamPacket = kept p b xs in
     let is = IsKept-kept p b xs in
-    let at = leader_at ks c.info c.first in
-    let may = all-has (λ x. may_keep p b x ≡ true) ks (leader at.head c.info) is.of_block at.inside in
-    let sent = all-has (IsSent frames p) ks (leader at.head c.info) (kept_sent frames p b xs s) at.inside in
+    let l = has_leader ks c.len c.extent in
+    let at = leader_at ks l.info l.first in
+    let may = all-has (λ x. may_keep p b x ≡ true) ks (leader at.head l.info) is.of_block at.inside in
+    let sent = all-has (IsSent frames p) ks (leader at.head l.info) (kept_sent frames p b xs s) at.inside in
     let f : Frame = sent.frame in
-    let of_block : frames b ≡ Some f = frame_of_block frames p b (leader at.head c.info) may sent in
-    let size_is : c.info.size ≡ length f.pixels = ap (λ i. i.size) sent.packet.2 in
+    let of_block : frames b ≡ Some f = frame_of_block frames p b (leader at.head l.info) may sent in
+    let of_frame = kept_of_frame frames p b f xs s of_block in
+    let first : leader_in ks ≡ Some (leader_info f) = l.first ∙ ap Some sent.packet.2 in
+    let size_is : c.len ≡ length f.pixels =
+    some_same c.len (length f.pixels) (sym c.extent ∙ extent_in-of_frame f p ks (s.are_frames.valid b f of_block) of_frame first c.ended) in
     let goes_in : length f.pixels ≤ size = omega (arith, size_is, c.goes_in) in
     let all : has_payloads p (length f.pixels) (payload_count p (length f.pixels)) ks ≡ true = subst (λ n. has_payloads p n (payload_count p n) ks ≡ true) size_is c.payloads in
-    let data_len : image_len p size ks (leader_in ks) ≡ length f.pixels = ap (image_len p size ks) c.first ∙ omega (arith, size_is, goes_in) in
+    let data_len : image_len p size ks (extent_in ks) ≡ length f.pixels = ap (image_len p size ks) c.extent ∙ omega (arith, size_is, goes_in) in
     let some : 1 ≤ p = omega (arith, s.payload_size.at_least) in
     record {
       frame = f;
       of_block = of_block;
       data_len = data_len;
       pixels = ap (λ n. take n (image_bytes p ks size)) data_len
-          ∙ frame_bytes f p b size ks some is (kept_numbered frames p b xs s) (kept_of_frame frames p b f xs s of_block) all goes_in;
+          ∙ frame_bytes f p b size ks some is (kept_numbered frames p b xs s) of_frame all goes_in;
     }
 
 pub complete_is_frame : CompleteIsFrame
 complete_is_frame frames p b size xs s complete =
-    holds_frame frames p b size xs s (complete_parts p size (kept p b xs) (leader_in (kept p b xs)) refl complete)
+    holds_frame frames p b size xs s (complete_parts p size (kept p b xs) (extent_in (kept p b xs)) refl complete)
 
 -- all packets make it complete
 
@@ -313,7 +337,7 @@ module _ (frames : ℕ → Option Frame) (p b : ℕ) (xs : List StreamPacket) (f
       let of = kept_of_frame frames p b f xs s is in
       has_trailer_at-by_kind f p (kept p b xs) of (go of
       (answered_last frames p b (payload_count p (length f.pixels) + 1) xs
-      (came frames p b f xs (trailer (sent_head f (payload_count p (length f.pixels) + 1)) f.size_y) s (s.are_frames.own_id b f is) last_fits refl refl all.the_trailer))) where
+      (came frames p b f xs (trailer (sent_head f (payload_count p (length f.pixels) + 1)) f.rows) s (s.are_frames.own_id b f is) last_fits refl refl all.the_trailer))) where
         go : AreOfFrame f p (kept p b xs) → (has_id (payload_count p (length f.pixels) + 1) (kept p b xs) ≡ true) ⊎ (has_trailer (kept p b xs) ≡ true) → has_trailer (kept p b xs) ≡ true
         go of (inl by_id) = has_trailer-by_id f p (kept p b xs) of by_id
         go of (inr by_kind) = by_kind
@@ -322,7 +346,9 @@ pub all_packets_complete : AllPacketsComplete
 all_packets_complete frames p b size xs f s is goes_in all =
     let ks : List StreamPacket = kept p b xs in
     let n : ℕ = payload_count p (length f.pixels) in
-    ap (is_complete p size ks) (leader_kept frames p b xs f s is all)
+    let ended : has_trailer ks ≡ true = has_trailer-at (n + 1) ks (trailer_kept frames p b xs f s is all) in
+    ap (is_complete p size ks)
+    (extent_in-of_frame f p ks (s.are_frames.valid b f is) (kept_of_frame frames p b f xs s is) (leader_kept frames p b xs f s is all) ended)
     ∙ and_from (nat_le (length f.pixels) size && has_trailer_at (n + 1) ks) (has_payloads p (length f.pixels) n ks)
     (and_from (nat_le (length f.pixels) size) (has_trailer_at (n + 1) ks) (le-leb (length f.pixels) size goes_in) (trailer_kept frames p b xs f s is all))
     (has_payloads-from_each p (length f.pixels) n ks (payload_kept frames p b xs f s is all))

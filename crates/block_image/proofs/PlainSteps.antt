@@ -3,7 +3,6 @@ use Rattle.std.proofs.Common.{◌≡◌, ℕ, zero, suc, ◌+◌, ◌-◌, ◌<�
 use Rattle.std.specs.Prelude.{Option, Some, None, is_some, unwrap_or, if◌then◌else◌}
 use Rattle.std.proofs.lemmas.List.{take_more, map-append, take_at, take_all, drop_at, drop-drop, drop-replicate, length-append, length-replicate}
 use Rattle.gev_types.specs.Placing.{put_at}
-use Rattle.stream_packets.specs.declared.fields.LeaderInfo.{LeaderInfo}
 use Rattle.stream_packets.specs.Packets.{StreamPacket}
 use Rattle.gvsp_wire.specs.declared.packet.Packet.{Packet}
 use Rattle.gvsp_wire.specs.View.{view, views}
@@ -100,6 +99,6 @@ pub end_more_none : (p : ℕ) (ks : List StreamPacket) (i n : ℕ) (o : Option �
 end_more_none p ks i n o found is_none so_far =
     so_far ∙ ap (λ w. if is_some w then i + 1 else placed_end p ks i) (sym is_none) ∙ sym (placed_end-next p ks i o found)
 
-pub image_len-le : (p size : ℕ) (ks : List StreamPacket) (o : Option LeaderInfo) → image_len p size ks o ≤ size
+pub image_len-le : (p size : ℕ) (ks : List StreamPacket) (o : Option ℕ) → image_len p size ks o ≤ size
 image_len-le p size ks None = placed_end-le p ks size
-image_len-le p size ks (Some i) = omega arith
+image_len-le p size ks (Some len) = omega arith

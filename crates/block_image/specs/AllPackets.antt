@@ -39,7 +39,7 @@ pub record HasAllPackets (frame : Frame) (p : ℕ) (xs : List StreamPacket) : Ty
   pub payloads :
       (k : ℕ) → 1 ≤ k → k ≤ payload_count p (length frame.pixels)
       → HasCome (payload (sent_head frame k) (payload_bytes p frame.pixels k)) xs
-  pub the_trailer : HasCome (trailer (sent_head frame (payload_count p (length frame.pixels) + 1)) frame.size_y) xs
+  pub the_trailer : HasCome (trailer (sent_head frame (payload_count p (length frame.pixels) + 1)) frame.rows) xs
 
 -- a packet is one of the frame's exactly where it is in the list of them, flags and status aside
 abbrev pub PacketsAgree : Type 0

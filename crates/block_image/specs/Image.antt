@@ -5,6 +5,7 @@ use Rattle.gev_types.specs.Filling.{Filling}
 use Rattle.stream_packets.specs.declared.fields.LeaderInfo.{LeaderInfo}
 use Rattle.stream_packets.specs.Packets.{StreamPacket, leader, payload, trailer, notice, head_of, is_trailer}
 use Rattle.stream_packets.specs.FramePackets.{payload_count, payload_start}
+use Rattle.block_image.specs.Extent.{extent_of}
 use Rattle.block_image.specs.Kept.{kept}
 
 -- Position j is one of the len bytes from position start on.
@@ -47,6 +48,18 @@ leader_in (payload h d ∷ xs) = leader_in xs
 leader_in (trailer h y ∷ xs) = leader_in xs
 leader_in (notice h ∷ xs) = leader_in xs
 
+-- how many lines the kept trailer tells
+abbrev pub lines_in : List StreamPacket → Option ℕ
+lines_in [] = None
+lines_in (leader h i ∷ xs) = lines_in xs
+lines_in (payload h d ∷ xs) = lines_in xs
+lines_in (trailer h y ∷ xs) = Some y
+lines_in (notice h ∷ xs) = lines_in xs
+
+-- the extent of the image: how long it is, where a leader was kept
+abbrev pub extent_in : List StreamPacket → Option ℕ
+extent_in ks = extent_of (leader_in ks) (lines_in ks)
+
 -- the kept trailer has this id
 abbrev pub has_trailer_at : ℕ → List StreamPacket → Bool
 has_trailer_at k [] = false
@@ -76,9 +89,9 @@ abbrev pub has_image : ℕ → ℕ → ℕ → List StreamPacket → Bool
 has_image p size len ks =
     nat_le len size && has_trailer_at (payload_count p len + 1) ks && has_payloads p len (payload_count p len) ks
 
-abbrev pub is_complete : ℕ → ℕ → List StreamPacket → Option LeaderInfo → Bool
+abbrev pub is_complete : ℕ → ℕ → List StreamPacket → Option ℕ → Bool
 is_complete p size ks None = false
-is_complete p size ks (Some i) = has_image p size i.size ks
+is_complete p size ks (Some len) = has_image p size len ks
 
 -- some kept payload reaches past the buffer
 abbrev pub reaches_past : ℕ → ℕ → List StreamPacket → Bool
@@ -88,24 +101,24 @@ reaches_past p size (payload h d ∷ xs) = nat_lt size (payload_start p h.id + l
 reaches_past p size (trailer h y ∷ xs) = reaches_past p size xs
 reaches_past p size (notice h ∷ xs) = reaches_past p size xs
 
--- the block has more bytes than the buffer
-abbrev pub is_larger : ℕ → ℕ → List StreamPacket → Option LeaderInfo → Bool
+-- the block has more bytes than the buffer: its extent, or without a leader some payload
+abbrev pub is_larger : ℕ → ℕ → List StreamPacket → Option ℕ → Bool
 is_larger p size ks None = reaches_past p size ks
-is_larger p size ks (Some i) = nat_lt size i.size
+is_larger p size ks (Some len) = nat_lt size len
 
 -- the length of the image in the buffer
-abbrev pub image_len : ℕ → ℕ → List StreamPacket → Option LeaderInfo → ℕ
+abbrev pub image_len : ℕ → ℕ → List StreamPacket → Option ℕ → ℕ
 image_len p size ks None = placed_end p ks size
-image_len p size ks (Some i) = min i.size size
+image_len p size ks (Some len) = min len size
 
 -- the record of block b, read over its kept packets
 abbrev pub record_of : ℕ → ℕ → ℕ → List StreamPacket → Record
 record_of p b size ks = record {
   block = b;
-  complete = is_complete p size ks (leader_in ks);
-  larger = is_larger p size ks (leader_in ks);
+  complete = is_complete p size ks (extent_in ks);
+  larger = is_larger p size ks (extent_in ks);
   has_leader = is_some (leader_in ks);
-  data_len = image_len p size ks (leader_in ks);
+  data_len = image_len p size ks (extent_in ks);
   filled = placed_count p ks size;
 }
 

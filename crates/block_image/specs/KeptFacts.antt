@@ -2,6 +2,7 @@
 use Rattle.std.specs.Prelude.{◌≡◌, ℕ, ◌≤◌, ◌&&◌, not, ⊤, List, [], ◌∷◌, ◌==◌, true, false, Bool}
 use Rattle.std.specs.List.{AllByRecursion}
 use Rattle.stream_packets.specs.Packets.{StreamPacket, leader, payload, trailer, notice, head_of, is_trailer, is_notice}
+use Rattle.block_image.specs.Extent.{TellsItsSize}
 use Rattle.block_image.specs.Kept.{fits, has_id, has_trailer}
 
 -- no id stands twice
@@ -43,3 +44,13 @@ IsLeaderFirst (notice h) = ⊤
 
 abbrev pub AreLeadersFirst : List StreamPacket → Type 0
 AreLeadersFirst ks = AllByRecursion IsLeaderFirst ks
+
+-- a leader tells the size of its image, as each parsed one does
+abbrev pub TellsSize : StreamPacket → Type 0
+TellsSize (leader h i) = TellsItsSize i
+TellsSize (payload h d) = ⊤
+TellsSize (trailer h y) = ⊤
+TellsSize (notice h) = ⊤
+
+abbrev pub DoLeadersTellSizes : List StreamPacket → Type 0
+DoLeadersTellSizes ks = AllByRecursion TellsSize ks

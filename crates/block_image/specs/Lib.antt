@@ -1,4 +1,5 @@
 pub mod Sizes
+pub mod Extent
 pub mod Kept
 pub mod Image
 pub mod KeptFacts

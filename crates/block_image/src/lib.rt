@@ -5,6 +5,7 @@
 //! slow program of the same definitions, with which later ones are compared.
 #![tactic(auto)]
 
+mod extents;
 mod keeping;
 mod laws;
 mod looking;
@@ -13,6 +14,7 @@ mod records;
 #[cfg(test)]
 mod tests;
 
+pub use extents::{extent, extent_of, tells_its_size};
 pub use keeping::{does_fit, is_kept, kept_packets};
 pub use laws::{
     all_packets_agree, all_packets_complete, bytes_are_in_place, complete_is_frame,

@@ -3,7 +3,7 @@
 ghost use Rattle.std.specs.Prelude.{◌≡◌, ◌+◌, ◌-◌, ◌<◌, ◌≤◌};
 ghost use Rattle.gvsp_wire.specs.View.{views};
 ghost use Rattle.block_image.specs.Kept.{has_id, has_trailer};
-ghost use Rattle.block_image.specs.Image.{leader_in, has_trailer_at};
+ghost use Rattle.block_image.specs.Image.{leader_in, lines_in, has_trailer_at};
 
 use gvsp_wire::{LeaderInfo, Packet};
 
@@ -51,6 +51,19 @@ pub fn first_leader(packets: &[Packet<'_>]) -> Option<LeaderInfo>
         let info = packet.leader_info();
         if info.is_some() {
             return info;
+        }
+    }
+    None
+}
+
+/// How many lines the first trailer tells.
+pub fn first_lines(packets: &[Packet<'_>]) -> Option<u32>
+    ensures { result ≡ lines_in (views packets.now) }
+{
+    for packet in packets {
+        let lines = packet.lines();
+        if lines.is_some() {
+            return lines;
         }
     }
     None

@@ -4,11 +4,14 @@ ghost use Rattle.std.specs.Prelude.{◌≡◌, ◌+◌, ◌-◌, ◌*◌, ◌^�
 ghost use Rattle.stream_packets.specs.FramePackets.{payload_start};
 ghost use Rattle.gvsp_wire.specs.View.{view, views};
 ghost use Rattle.block_image.specs.Sizes.{IsPayloadSize, IsBufferSize};
+ghost use Rattle.block_image.specs.Extent.{TellsSizeIfLeader};
 ghost use Rattle.block_image.specs.Kept.{kept};
-ghost use Rattle.block_image.specs.Image.{byte_from, placed, image_bytes, placed_count, placed_end, record_of, filling_of, image};
+ghost use Rattle.block_image.specs.KeptFacts.{DoLeadersTellSizes};
+ghost use Rattle.block_image.specs.Image.{byte_from, placed, image_bytes, placed_count, placed_end, leader_in, record_of, filling_of, image};
 
+use crate::extents::extent_of;
 use crate::keeping::kept_packets;
-use crate::looking::first_leader;
+use crate::looking::{first_leader, first_lines};
 use crate::records::{completes, outgrows, start_of_payload};
 use gev_types::{Buf, NoMemory, Record};
 use gvsp_wire::Packet;
@@ -76,15 +79,17 @@ fn record_with(p: u32, block: u64, size: u32, kept: &[Packet<'_>], placed: Place
     requires payload_size { IsPayloadSize p }
     requires count { placed.count ≡ placed_count p (views kept.now) size }
     requires end { placed.end ≡ placed_end p (views kept.now) size }
+    requires told { TellsSizeIfLeader (leader_in (views kept.now)) }
     ensures { result ≡ record_of p block size (views kept.now) }
 {
     let leader = first_leader(kept);
+    let extent = extent_of(leader, first_lines(kept));
     Record {
         block,
-        complete: completes(p, size, kept, leader),
-        larger: outgrows(p, size, kept, leader),
+        complete: completes(p, size, kept, extent),
+        larger: outgrows(p, size, kept, extent),
         has_leader: leader.is_some(),
-        data_len: leader.map_or(placed.end, |info| info.size.min(size)),
+        data_len: extent.map_or(placed.end, |len| len.min(size)),
         filled: placed.count,
     }
 }
@@ -92,7 +97,8 @@ fn record_with(p: u32, block: u64, size: u32, kept: &[Packet<'_>], placed: Place
 /// What these packets, in order of arrival, give of the block in a buffer of `size` bytes. `p` is the
 /// stream's payload size in bytes.
 ///
-/// The time is that of a look at each kept packet for each byte of the buffer.
+/// Each leader tells the size of its image, as `gvsp_wire::parse` sees to. The time is that of a look
+/// at each kept packet for each byte of the buffer.
 pub fn block_image(
     alloc: Global,
     p: u32,
@@ -102,6 +108,7 @@ pub fn block_image(
 ) -> Result<Buf, NoMemory>
     requires payload_size { IsPayloadSize p }
     requires buffer_size { IsBufferSize size }
+    requires told { DoLeadersTellSizes (views packets.now) }
     ensures { IfOk result (λ buf. buf ≡ image p block size (views packets.now)) }
 {
     let kept = kept_packets(alloc, p, block, packets)?;

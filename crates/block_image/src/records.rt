@@ -7,7 +7,7 @@ ghost use Rattle.block_image.specs.Sizes.{IsPayloadSize};
 ghost use Rattle.block_image.specs.Image.{is_long_enough, has_payload, has_payloads, has_image, is_complete, reaches_past, is_larger};
 
 use crate::looking::contains_trailer_at;
-use gvsp_wire::{LeaderInfo, Packet};
+use gvsp_wire::Packet;
 
 /// How many payloads carry `len` bytes, `p` at a time.
 pub fn count_payloads(p: u32, len: u32) -> u64
@@ -87,13 +87,13 @@ fn contains_image(p: u32, size: u32, len: u32, kept: &[Packet<'_>]) -> bool
     len <= size && contains_trailer_at(n + 1, kept) && contains_payloads(p, len, n, kept)
 }
 
-/// Whether the block is complete.
-pub fn completes(p: u32, size: u32, kept: &[Packet<'_>], leader: Option<LeaderInfo>) -> bool
+/// Whether the block is complete, by the length of its image, where that is known.
+pub fn completes(p: u32, size: u32, kept: &[Packet<'_>], extent: Option<u32>) -> bool
     requires { IsPayloadSize p }
-    ensures { result ≡ is_complete p size (views kept.now) leader }
+    ensures { result ≡ is_complete p size (views kept.now) extent }
 {
-    match leader {
-        Some(info) => contains_image(p, size, info.size, kept),
+    match extent {
+        Some(len) => contains_image(p, size, len, kept),
         None => false,
     }
 }
@@ -124,13 +124,14 @@ fn some_ends_past(p: u32, size: u32, kept: &[Packet<'_>]) -> bool
     false
 }
 
-/// Whether the block has more bytes than the buffer.
-pub fn outgrows(p: u32, size: u32, kept: &[Packet<'_>], leader: Option<LeaderInfo>) -> bool
+/// Whether the block has more bytes than the buffer: its image, or where the length of that isn't
+/// known, some payload.
+pub fn outgrows(p: u32, size: u32, kept: &[Packet<'_>], extent: Option<u32>) -> bool
     requires { IsPayloadSize p }
-    ensures { result ≡ is_larger p size (views kept.now) leader }
+    ensures { result ≡ is_larger p size (views kept.now) extent }
 {
-    match leader {
-        Some(info) => size < info.size,
+    match extent {
+        Some(len) => size < len,
         None => some_ends_past(p, size, kept),
     }
 }

@@ -1,6 +1,12 @@
-use crate::{block_image, kept_packets};
+ghost use Rattle.std.specs.Prelude.{◌≡◌, true};
+ghost use Rattle.gvsp_wire.specs.View.{view, views};
+ghost use Rattle.block_image.specs.KeptFacts.{TellsSize, DoLeadersTellSizes};
+
+use crate::{block_image, kept_packets, tells_its_size};
 use gev_types::{MAX_BUFFER_SIZE, Record};
 use gvsp_wire::{Head, LeaderInfo, Packet};
+use std::alloc::Global;
+use std::process::Abort;
 use std::test::Fail;
 
 /// The smallest payload size of a stream, in bytes.
@@ -37,6 +43,30 @@ fn payload(block: u64, id: u32, bytes: &[u8]) -> Packet<'_> {
 
 fn trailer(block: u64, id: u32, size_y: u32) -> Packet<'static> {
     Packet::Trailer(head(block, id), size_y)
+}
+
+/// Whether the packet, if it is a leader, tells the size of its image.
+fn tells_size(packet: &Packet<'_>) -> bool
+    ensures { result ≡ true → TellsSize (view packet.now) }
+{
+    match *packet {
+        Packet::Leader(_, info) => tells_its_size(info),
+        Packet::Payload(_, _) => true,
+        Packet::Trailer(_, _) => true,
+        Packet::Notice(_) => true,
+    }
+}
+
+/// Whether each leader does.
+fn tell_sizes(packets: &[Packet<'_>]) -> bool
+    ensures { result ≡ true → DoLeadersTellSizes (views packets.now) }
+{
+    for packet in packets {
+        if !tells_size(packet) {
+            return false;
+        }
+    }
+    true
 }
 
 /// Packets that came, a buffer's size, and what they give of block `rec.block` in it.
@@ -183,11 +213,98 @@ fn gives_images(rt: HostRuntime) -> Result<(), Fail> {
         },
     ];
     for case in &cases {
-        assert!(rt; case.size >= 1 && case.size <= MAX_BUFFER_SIZE);
-        let buf = block_image(rt.alloc(), P, case.rec.block, case.size, case.packets)?;
-        assert_eq!(rt; buf.bytes(), case.bytes, "{}", case.name);
-        assert_eq!(rt; buf.rec(), case.rec, "{}", case.name);
+        check_case(&rt, rt.alloc(), case)?;
     }
+    Ok(())
+}
+
+// Lines of 528 bytes, one to a payload. What the trailer tells is the image's length, where it tells
+// one line at least and no more than the leader.
+#[test]
+fn ends_with_the_lines_of_the_trailer(rt: HostRuntime) -> Result<(), Fail> {
+    let [one, two] = [[0x61; 528], [0x62; 528]];
+    let start = leader(1, 528, 2, 1056);
+    let [first, second] = [payload(1, 1, &one), payload(1, 2, &two)];
+    let small = leader(1, 3, 4, 12);
+    let abc = payload(1, 1, b"abc");
+    let cases = [
+        Case {
+            name: "one line of four",
+            packets: &[small, abc, trailer(1, 2, 1)],
+            size: 3,
+            bytes: b"abc",
+            rec: whole(1, 3, 3),
+        },
+        Case {
+            name: "the trailer first",
+            packets: &[trailer(1, 2, 1), abc, small],
+            size: 12,
+            bytes: b"abc\0\0\0\0\0\0\0\0\0",
+            rec: whole(1, 3, 3),
+        },
+        Case {
+            name: "more lines than the leader's",
+            packets: &[leader(1, 3, 1, 3), abc, trailer(1, 2, 9)],
+            size: 3,
+            bytes: b"abc",
+            rec: whole(1, 3, 3),
+        },
+        Case {
+            name: "no line",
+            packets: &[leader(1, 3, 1, 3), abc, trailer(1, 2, 0)],
+            size: 3,
+            bytes: b"abc",
+            rec: whole(1, 3, 3),
+        },
+        Case {
+            name: "one line and a payload less",
+            packets: &[start, first, trailer(1, 2, 1)],
+            size: 528,
+            bytes: &one,
+            rec: whole(1, 528, 528),
+        },
+        Case {
+            name: "no trailer yet",
+            packets: &[start, first],
+            size: 528,
+            bytes: &one,
+            rec: broken(528, 528, true),
+        },
+        Case {
+            name: "a trailer behind the payloads of all lines that tells one",
+            packets: &[start, first, payload(1, 2, &one), trailer(1, 3, 1)],
+            size: 528,
+            bytes: &one,
+            rec: broken(528, 528, false),
+        },
+        Case {
+            name: "a payload past the extent",
+            packets: &[start, trailer(1, 2, 1), first, payload(1, 3, &two)],
+            size: 528,
+            bytes: &one,
+            rec: whole(1, 528, 528),
+        },
+        Case {
+            name: "a first payload that isn't there",
+            packets: &[start, second, trailer(1, 3, 2)],
+            size: 1,
+            bytes: b"\0",
+            rec: broken(1, 0, true),
+        },
+    ];
+    for case in &cases {
+        check_case(&rt, rt.alloc(), case)?;
+    }
+    Ok(())
+}
+
+/// Computes what the case's packets give, and compares.
+fn check_case(rt: &impl Abort, alloc: Global, case: &Case<'_>) -> Result<(), Fail> {
+    assert!(rt; case.size >= 1 && case.size <= MAX_BUFFER_SIZE);
+    assert!(rt; tell_sizes(case.packets));
+    let buf = block_image(alloc, P, case.rec.block, case.size, case.packets)?;
+    assert_eq!(rt; buf.bytes(), case.bytes, "{}", case.name);
+    assert_eq!(rt; buf.rec(), case.rec, "{}", case.name);
     Ok(())
 }
 

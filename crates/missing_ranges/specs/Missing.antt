@@ -1,10 +1,9 @@
 -- Missing ranges: the packet ids of a block that the camera is still to be asked for.
 use Rattle.std.specs.Prelude.{ℕ, ◌+◌, ◌==◌, ◌&&◌, ◌||◌, not, max, List, [], ◌∷◌, Bool, false, Option, Some, None}
-use Rattle.stream_packets.specs.declared.fields.LeaderInfo.{LeaderInfo}
 use Rattle.stream_packets.specs.Packets.{StreamPacket, head_of, is_notice}
 use Rattle.stream_packets.specs.FramePackets.{payload_count}
 use Rattle.block_image.specs.Kept.{kept, has_id}
-use Rattle.block_image.specs.Image.{leader_in}
+use Rattle.block_image.specs.Image.{extent_in}
 use Rattle.id_ranges.specs.Ranges.{holes}
 
 -- The camera says of the packet with id k that it's gone for good. With the status 0x8010 it says that
@@ -27,19 +26,14 @@ abbrev pub highest : List StreamPacket → Option ℕ
 highest [] = None
 highest (x ∷ xs) = Some (higher (head_of x).id (highest xs))
 
--- the length of the image by its leader
-abbrev pub extent_of : Option LeaderInfo → Option ℕ
-extent_of None = None
-extent_of (Some i) = Some i.size
-
--- the last id of a block of whose image this length is known: its trailer's, else the highest that was kept
+-- the last id of a block of whose image this length is known: its trailer's, by the extent, else the highest that was kept
 abbrev pub top_with : ℕ → List StreamPacket → Option ℕ → Option ℕ
 top_with p ks None = highest ks
 top_with p ks (Some len) = Some (payload_count p len + 1)
 
 -- the last id up to which packets may be missing beside those that were kept
 abbrev pub top_of : ℕ → List StreamPacket → Option ℕ
-top_of p ks = top_with p ks (extent_of (leader_in ks))
+top_of p ks = top_with p ks (extent_in ks)
 
 -- The packet with id k needn't be asked for: it was kept, or it's gone.
 abbrev pub is_settled : ℕ → ℕ → List StreamPacket → ℕ → Bool

@@ -19,6 +19,10 @@ sent_payload k = payload (head_with 0 k) (97 ∷ 98 ∷ 99 ∷ [])
 abbrev pub sent_trailer : StreamPacket
 sent_trailer = trailer (head_with 0 5) 4
 
+-- the trailer of the same image of which only two lines came: two payloads, and it has the id 3
+abbrev pub short_trailer : StreamPacket
+short_trailer = trailer (head_with 0 3) 2
+
 abbrev pub sent_notice : ℕ → ℕ → StreamPacket
 sent_notice status k = notice (head_with status k)
 
@@ -40,3 +44,14 @@ pub record MissingIsWorked : Type 0 where
   -- what is gone isn't asked for, and what isn't there yet is
   pub gone : missing 528 7 (three ++ sent_notice 0x800C 3 ∷ []) ≡ (1, 1) ∷ (4, 4) ∷ []
   pub not_yet : missing 528 7 (three ++ sent_notice 0x8010 3 ∷ []) ≡ (1, 1) ∷ (3, 4) ∷ []
+  -- a trailer with fewer lines ends the ids sooner, whenever it comes
+  pub short : missing 528 7 (sent_leader ∷ short_trailer ∷ []) ≡ (1, 2) ∷ []
+  pub short_first : missing 528 7 (short_trailer ∷ sent_payload 1 ∷ sent_leader ∷ []) ≡ (2, 2) ∷ []
+  pub none_short : missing 528 7 (sent_leader ∷ sent_payload 1 ∷ sent_payload 2 ∷ short_trailer ∷ []) ≡ []
+  -- without a leader its lines say nothing
+  pub short_alone : missing 528 7 (short_trailer ∷ []) ≡ (0, 2) ∷ []
+  -- what was kept behind it isn't asked about
+  pub behind : missing 528 7 (sent_leader ∷ sent_payload 4 ∷ short_trailer ∷ []) ≡ (1, 2) ∷ []
+  -- no line, or more than the leader announces, count as the leader's
+  pub no_line : missing 528 7 (sent_leader ∷ trailer (head_with 0 5) 0 ∷ []) ≡ (1, 4) ∷ []
+  pub more_lines : missing 528 7 (sent_leader ∷ trailer (head_with 0 5) 9 ∷ []) ≡ (1, 4) ∷ []

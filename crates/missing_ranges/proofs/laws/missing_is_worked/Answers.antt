@@ -12,4 +12,11 @@ returns c = record {
   none = refl;
   gone = refl;
   not_yet = refl;
+  short = refl;
+  short_first = refl;
+  none_short = refl;
+  short_alone = refl;
+  behind = refl;
+  no_line = refl;
+  more_lines = refl;
 }

@@ -1,21 +1,24 @@
-use Rattle.std.proofs.Common.{arith}
+use Rattle.std.proofs.Common.{subst, sym, arith}
 use Rattle.block_image.specs.Kept.{kept}
-use Rattle.block_assembly.specs.Assembly.{IsSound}
+use Rattle.block_assembly.specs.declared.progress.Progress.{Progress}
+use Rattle.block_assembly.specs.Assembly.{AssemblyStands, IsSound}
 use Rattle.block_assembly.proofs.Accepts.{sound, finished}
 use Rattle.block_assembly.proofs.assembly.Assembly.finish.Goals as goal
 
 pub record-rec-requires : goal.record-rec-requires
-record-rec-requires c = sound c.args.self c.requires
+record-rec-requires c = sound c.self.inside.progress c.self.invariant
 
 pub set_rec-requires-clause-data_len : goal.set_rec-requires-clause-data_len
 set_rec-requires-clause-data_len c =
-    let s : IsSound c.args.self = sound c.args.self c.requires in omega (arith, c.record-rec.ensures.data_len, s.buffer)
+    let s : IsSound c.self.inside.progress = sound c.self.inside.progress c.self.invariant in omega (arith, c.record-rec.ensures.data_len, s.buffer)
 
 pub set_rec-requires-clause-filled : goal.set_rec-requires-clause-filled
 set_rec-requires-clause-filled c =
-    let s : IsSound c.args.self = sound c.args.self c.requires in omega (arith, c.record-rec.ensures.filled, s.buffer)
+    let s : IsSound c.self.inside.progress = sound c.self.inside.progress c.self.invariant in omega (arith, c.record-rec.ensures.filled, s.buffer)
 
 pub returns-clause-image : goal.returns-clause-image
 returns-clause-image c p b size heard s =
-    finished c.args.self c.set_rec.new.self c.record-rec.result p b size heard s c.set_rec.ensures.bytes c.set_rec.ensures.rec
-    (c.record-rec.ensures.value (kept c.args.self.payload_size c.args.self.block heard) s.assembly)
+    let a = c.self.inside.progress in
+    let stood : AssemblyStands a p b size heard = subst (λ (x : Progress). AssemblyStands x p b size heard) (sym c.self.view_is) s in
+    finished a c.set_rec.new.self c.record-rec.result p b size heard stood c.set_rec.ensures.bytes c.set_rec.ensures.rec
+    (c.record-rec.ensures.value (kept a.payload_size a.block heard) stood.assembly)

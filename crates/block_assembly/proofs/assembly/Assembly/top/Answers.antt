@@ -2,4 +2,4 @@ use Rattle.block_assembly.proofs.Accepts.{sound}
 use Rattle.block_assembly.proofs.assembly.Assembly.top.Goals as goal
 
 pub top-requires : goal.top-requires
-top-requires c = sound c.args.self.now c.requires
+top-requires c = sound c.self.inside.progress c.self.invariant
