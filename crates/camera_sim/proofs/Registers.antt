@@ -1,6 +1,6 @@
 -- What writes leave of the registers' invariant.
-use Rattle.std.proofs.Common.{◌≡◌, ℕ, suc, ◌+◌, ◌-◌, ◌*◌, ◌/◌, ◌<◌, ◌≤◌, Bool, true, false, List, [], length, Option, Some, None, refl, ap, sym, ◌∙◌, arith, subst, get_or-set_other, get_or-set_same}
-use Rattle.std.specs.Prelude.{◌≢◌, ◌%◌, ◌^◌, ◌==◌, ◌&&◌, nat_le, nat_lt, if◌then◌else◌, slice_index, slice_set}
+use Rattle.std.proofs.Common.{◌≡◌, ℕ, ◌*◌, ◌/◌, ◌<◌, ◌≤◌, Bool, true, false, List, [], length, Option, Some, None, refl, ap, sym, ◌∙◌, arith, subst, get_or-set_other, get_or-set_same}
+use Rattle.std.specs.Prelude.{◌≢◌, ◌%◌, ◌^◌, ◌==◌, ◌&&◌, nat_le, nat_lt, if◌then◌else◌}
 use Rattle.std.specs.Option.{option_or}
 use Rattle.std.proofs.Math.ListN.{length-set}
 use Rattle.std.proofs.lemmas.Bool.{eqb-true, eqb-false, leb-true}
@@ -143,11 +143,12 @@ released_registers words h =
 -- ---- the camera's invariant
 
 -- a word but the port is written
-pub written_camera : (shape : Shape) (words after : List ℕ) (waiting : List Job) (kept : Option KeptSizes) (command answer : List ℕ) (address value : ℕ)
+pub written_camera : (shape : Shape) (short : Bool) (words after : List ℕ) (waiting : List Job) (kept : Option KeptSizes) (command answer : List ℕ) (address value : ℕ)
     → after ≡ with_word words address value → address_refusal address ≡ None → value_refusal address value ≡ None → address ≢ SCP0
-    → IsCamera shape words waiting kept command answer → IsCamera shape after waiting kept command answer
-written_camera shape words after waiting kept command answer address value is e v other h = record {
+    → IsCamera shape short words waiting kept command answer → IsCamera shape short after waiting kept command answer
+written_camera shape short words after waiting kept command answer address value is e v other h = record {
   image = h.image;
+  lines = h.lines;
   registers = subst AreRegisters (sym is) (written_registers words address value e v h.registers);
   closed = λ z. h.closed (sym (other_word words address value SCP0 e refl other) ∙ sym (ap (λ (ws : List ℕ). word_at ws SCP0) is) ∙ z);
   keeps = h.keeps;
@@ -156,11 +157,12 @@ written_camera shape words after waiting kept command answer address value is e 
 }
 
 -- the port is written, and what waits is dropped where it's 0
-pub port_camera : (shape : Shape) (words after : List ℕ) (waiting left : List Job) (kept : Option KeptSizes) (command answer : List ℕ) (value : ℕ)
+pub port_camera : (shape : Shape) (short : Bool) (words after : List ℕ) (waiting left : List Job) (kept : Option KeptSizes) (command answer : List ℕ) (value : ℕ)
     → after ≡ with_word words SCP0 value → value_refusal SCP0 value ≡ None → (value ≡ 0 → left ≡ [])
-    → IsCamera shape words waiting kept command answer → IsCamera shape after left kept command answer
-port_camera shape words after waiting left kept command answer value is v gone h = record {
+    → IsCamera shape short words waiting kept command answer → IsCamera shape short after left kept command answer
+port_camera shape short words after waiting left kept command answer value is v gone h = record {
   image = h.image;
+  lines = h.lines;
   registers = subst AreRegisters (sym is) (written_registers words SCP0 value refl v h.registers);
   closed = λ z. gone (sym (same_word words SCP0 value refl h.registers.size) ∙ sym (ap (λ (ws : List ℕ). word_at ws SCP0) is) ∙ z);
   keeps = h.keeps;

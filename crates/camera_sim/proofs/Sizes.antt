@@ -1,5 +1,5 @@
 -- The sizes of commands.
-use Rattle.std.proofs.Common.{◌≡◌, ℕ, ◌+◌, ◌*◌, ◌≤◌, List, [], ◌∷◌, ◌++◌, length, refl, ap, ◌∙◌, arith, length-append}
+use Rattle.std.proofs.Common.{◌≡◌, ℕ, ◌+◌, List, [], ◌∷◌, ◌++◌, length, ap, arith, length-append}
 use Rattle.wire_fields.specs.Fields.{HasFields, width_of}
 use Rattle.gvcp_wire.specs.declared.message.CommandHead.{CommandHead}
 use Rattle.gvcp_wire.specs.Codes.{KEY}

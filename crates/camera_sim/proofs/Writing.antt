@@ -1,12 +1,12 @@
 -- Words that are written in order.
-use Rattle.std.proofs.Common.{◌≡◌, ℕ, ◌+◌, ◌-◌, ◌*◌, ◌<◌, Bool, true, false, List, [], ◌∷◌, drop, Option, Some, None, refl, ap, sym, ◌∙◌, arith, subst}
+use Rattle.std.proofs.Common.{◌≡◌, ℕ, ◌+◌, ◌-◌, ◌*◌, ◌<◌, Bool, true, false, List, ◌∷◌, drop, Option, Some, None, refl, ap, sym, ◌∙◌, arith}
 use Rattle.std.specs.Prelude.{◌||◌}
 use Rattle.wire_fields.specs.Fields.{number_at}
 use Rattle.gev_types.specs.declared.peer.Peer.{Peer}
 use Rattle.gvcp_wire.specs.declared.status.Status.{Status}
 use Rattle.camera_machine.specs.Camera.{Camera}
 use Rattle.camera_machine.specs.Access.{Write, Written, refusal_of, written, grants, after_one, ended_by, write_all, pairs_in, words_in}
-use Rattle.camera_sim.specs.Words.{Wrote, wrote, joined}
+use Rattle.camera_sim.specs.Words.{Wrote, joined}
 use Rattle.camera_sim.proofs.Reading.{pairs_at, words_at}
 
 abbrev wrote_by : Camera → Option Status → ℕ → Bool → Wrote

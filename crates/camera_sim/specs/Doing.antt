@@ -1,5 +1,5 @@
 -- What the code says of a register or memory command.
-use Rattle.std.specs.Prelude.{◌≡◌, ℕ, ◌*◌, ◌/◌, ◌≤◌, Bool, ◌||◌, List, [], length, take, Option}
+use Rattle.std.specs.Prelude.{◌≡◌, ℕ, ◌/◌, ◌≤◌, Bool, ◌||◌, List, [], length, take}
 use Rattle.gev_types.specs.declared.peer.Peer.{Peer}
 use Rattle.gvcp_wire.specs.Codes.{MAX_BODY_SIZE}
 use Rattle.gvcp_wire.specs.declared.message.CommandHead.{CommandHead}

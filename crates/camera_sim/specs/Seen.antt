@@ -1,11 +1,11 @@
 -- How the camera's fields stand for the machine's state.
-use Rattle.std.specs.Prelude.{◌≡◌, ℕ, ◌^◌, ◌<◌, ◌≤◌, true, List, [], length, take, Option, Some, None, option_map, IfSome}
+use Rattle.std.specs.Prelude.{◌≡◌, ℕ, ◌^◌, ◌<◌, ◌≤◌, Bool, true, List, [], length, take, Option, Some, None, option_map, IfSome}
 use Rattle.gev_types.specs.declared.frame.Shape.{Shape}
 use Rattle.gev_types.specs.FrameSize.{IsImageSize}
 use Rattle.bootstrap_regs.specs.Addresses.{SCP0, SCPS0, WORDS}
 use Rattle.bootstrap_regs.specs.Registers.{is_packet_size}
 use Rattle.bootstrap_regs.specs.Words.{word_at}
-use Rattle.gev_frames.specs.Frames.{shape_size}
+use Rattle.gev_frames.specs.Frames.{shape_size, MayBeShort}
 use Rattle.camera_machine.specs.Camera.{Kept, Job}
 use Rattle.camera_sim.specs.declared.acknowledge.TheConstants.{MESSAGE_SIZE}
 use Rattle.camera_sim.specs.declared.kept.Kept.{Kept as KeptSizes}
@@ -31,8 +31,9 @@ pub record AreRegisters (words : List ℕ) : Type 0 where
   pub packet_size : is_packet_size (word_at words SCPS0) ≡ true
 
 -- What each camera keeps.
-pub record IsCamera (shape : Shape) (words : List ℕ) (waiting : List Job) (kept : Option KeptSizes) (command answer : List ℕ) : Type 0 where
+pub record IsCamera (shape : Shape) (short : Bool) (words : List ℕ) (waiting : List Job) (kept : Option KeptSizes) (command answer : List ℕ) : Type 0 where
   pub image : IsImageSize (shape_size shape)
+  pub lines : MayBeShort short shape
   pub registers : AreRegisters words
   -- nothing waits while the channel is closed
   pub closed : word_at words SCP0 ≡ 0 → waiting ≡ []

@@ -1,5 +1,5 @@
 -- What the code says of reads and writes of words.
-use Rattle.std.specs.Prelude.{◌≡◌, ℕ, ◌+◌, Bool, ◌||◌, List, ◌++◌, Option, Some, None, Result, Ok, Err}
+use Rattle.std.specs.Prelude.{ℕ, ◌+◌, Bool, ◌||◌, List, ◌++◌, Option, Some, None, Result, Ok, Err}
 use Rattle.gvcp_wire.specs.declared.status.Status.{Status}
 use Rattle.camera_machine.specs.Words.{bytes_of}
 use Rattle.camera_machine.specs.Camera.{Camera}

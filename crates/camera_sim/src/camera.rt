@@ -1,5 +1,6 @@
 mod access;
 mod execute;
+mod fetch;
 mod obey;
 mod words;
 
@@ -10,7 +11,7 @@ use bootstrap_regs::addresses::{HEARTBEAT_TIMEOUT, SCDA0, SCP0, SCPS0};
 use camera_machine::laws::new_words_are_initial;
 use camera_stream::{CameraStream, PACKET_ROOM};
 use control_privilege::Privilege;
-use gev_frames::frame_of;
+use gev_frames::camera_frame;
 use gev_types::{NoMemory, Peer, Shape};
 use gvcp_wire::{ControlError, parse_command};
 use resend_store::SentFrame;
@@ -35,6 +36,7 @@ pub struct Camera {
     answer: [u8; MESSAGE_SIZE],
     stream: CameraStream,
     executed: u64,
+    short: bool,
 }
 
 impl Model for Camera {
@@ -52,9 +54,10 @@ impl Model for Camera {
       shelf = c.stream.shelf;
       waiting = c.stream.waiting;
       executed = c.executed;
+      short = c.short;
     } };
 
-    ghost invariant = { λ c. IsCamera c.shape c.regs c.stream.waiting c.kept c.command c.answer };
+    ghost invariant = { λ c. IsCamera c.shape c.short c.regs c.stream.waiting c.kept c.command c.answer };
 }
 
 impl Camera {
@@ -67,7 +70,7 @@ impl Camera {
     ghost use Rattle.camera_machine.specs.Camera.{new_camera, is_open, stream_peer, released};
     ghost use Rattle.camera_machine.specs.Stream.{payload_size_of, waiting_count, first_waiting};
     ghost use Rattle.camera_machine.specs.Commands.{renewed, commanded};
-    ghost use Rattle.camera_machine.specs.Events.{step, command, tick, make_frame, next_packet};
+    ghost use Rattle.camera_machine.specs.Events.{step, command, tick, make_frame, next_packet, set_short};
     ghost use Rattle.camera_stream.specs.Writing.{packet_size, with_front};
     ghost use Rattle.camera_sim.specs.Seen.{AreRegisters};
     ghost use Rattle.camera_sim.specs.Obeying.{ack_of, FitsMessage};
@@ -93,6 +96,7 @@ impl Camera {
             answer: [0; MESSAGE_SIZE],
             stream,
             executed: 0,
+            short: false,
         })
     }
 
@@ -203,6 +207,16 @@ impl Camera {
         }
     }
 
+    /// The frames that are made from here on are short ones, or whole ones again. While short, block b has
+    /// b modulo 8 lines fewer than the shape, which their leaders go on announcing. What is stored or
+    /// waits stays as it was made.
+    pub fn set_short(&mut self, short: bool)
+        requires lines { 8 ≤ self.old.shape.size_y }
+        ensures { self.new ≡ step self.old (set_short short) }
+    {
+        self.short = short;
+    }
+
     /// Makes the next frame, and lets its packets wait. The answer is its block id, and None exactly
     /// where the stream channel is closed; then nothing is made. Without memory for its bytes nothing
     /// changes.
@@ -219,7 +233,7 @@ impl Camera {
         }
         let block = self.stream.frame_count() + 1;
         let payload_size = self.payload_size();
-        match frame_of(alloc, self.seed, block, self.shape) {
+        match camera_frame(alloc, self.short, self.seed, block, self.shape) {
             Ok(frame) => {
                 self.stream.push_frame(SentFrame {
                     frame,

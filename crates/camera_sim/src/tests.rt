@@ -301,3 +301,37 @@ fn packets_are_sent_again(rt: HostRuntime) -> Result<(), Fail> {
     assert_eq!(rt; camera.executed(), 2);
     Ok(())
 }
+
+// While frames are short block b has b modulo 8 lines fewer than the 48 that its leader announces, and its
+// trailer tells how many there are: lines, and the lengths of the packets. Then they are whole again.
+#[test]
+fn short_frames(rt: HostRuntime) -> Result<(), Fail> {
+    let rows: [(u8, &[usize]); 8] = [
+        (47, &[56, 1472, 1472, 124, 28]),
+        (46, &[56, 1472, 1472, 60, 28]),
+        (45, &[56, 1472, 1448, 28]),
+        (44, &[56, 1472, 1384, 28]),
+        (43, &[56, 1472, 1320, 28]),
+        (42, &[56, 1472, 1256, 28]),
+        (41, &[56, 1472, 1192, 28]),
+        (48, &[56, 1472, 1472, 188, 28]),
+    ];
+    let mut camera = new_camera(rt.alloc())?;
+    camera.set_short(true);
+    converse(&rt, rt.alloc(), &mut camera, &OPENING)?;
+    let mut out = [0; PACKET_ROOM];
+    for (lines, lengths) in rows {
+        assert!(rt; camera.is_idle());
+        assert!(rt; camera.frame(rt.alloc())?.is_some());
+        for len in lengths {
+            let sent = camera.fetch(&mut out).map(|sent| sent.1);
+            assert_eq!(rt; sent, Some(*len), "a frame of {lines} lines");
+        }
+        assert_eq!(rt; out[27], lines);
+    }
+    assert!(rt; camera.fetch(&mut out).is_none());
+    camera.set_short(false);
+    assert_eq!(rt; camera.frame(rt.alloc())?, Some(9));
+    assert_eq!(rt; camera.waiting_count(), 5);
+    Ok(())
+}

@@ -46,16 +46,16 @@ packet_at sent (suc i) h =
     let later : (suc i == 0) ≡ false = eqb-suc-zero i in
     go (nat_le (suc i) (payload_count sent.payload_size (length sent.frame.pixels))) refl
     ∙ ap (λ (b : Bool). Some (if b then leader (sent_head sent.frame (suc i)) (leader_info sent.frame)
-    else (if nat_le (suc i) (payload_count sent.payload_size (length sent.frame.pixels)) then payload (sent_head sent.frame (suc i)) (payload_bytes sent.payload_size sent.frame.pixels (suc i)) else trailer (sent_head sent.frame (suc i)) sent.frame.size_y)))
+    else (if nat_le (suc i) (payload_count sent.payload_size (length sent.frame.pixels)) then payload (sent_head sent.frame (suc i)) (payload_bytes sent.payload_size sent.frame.pixels (suc i)) else trailer (sent_head sent.frame (suc i)) sent.frame.rows)))
     (sym later)
   where
     go : (t : Bool) → nat_le (suc i) (payload_count sent.payload_size (length sent.frame.pixels)) ≡ t
         → slice_get (sent_packets sent) (suc i)
-        ≡ Some (if t then payload (sent_head sent.frame (suc i)) (payload_bytes sent.payload_size sent.frame.pixels (suc i)) else trailer (sent_head sent.frame (suc i)) sent.frame.size_y)
+        ≡ Some (if t then payload (sent_head sent.frame (suc i)) (payload_bytes sent.payload_size sent.frame.pixels (suc i)) else trailer (sent_head sent.frame (suc i)) sent.frame.rows)
     go true t =
         let count : ℕ = payload_count sent.payload_size (length sent.frame.pixels) in
         let low : suc i ≤ count = leb-true (suc i) count t in
-        slice_get_left (payloads_of sent.frame sent.payload_size count) (trailer (sent_head sent.frame (count + 1)) sent.frame.size_y ∷ []) i
+        slice_get_left (payloads_of sent.frame sent.payload_size count) (trailer (sent_head sent.frame (count + 1)) sent.frame.rows ∷ []) i
         (omega (arith, low, length-payloads_of sent.frame sent.payload_size count))
         ∙ payload_at sent.frame sent.payload_size count i (omega (arith, low))
     go false t =
@@ -63,15 +63,15 @@ packet_at sent (suc i) h =
         let high : count < suc i = leb-false (suc i) count t in
         let place : i ≡ length (payloads_of sent.frame sent.payload_size count) = omega (arith, h, high, length-payloads_of sent.frame sent.payload_size count) in
         let same : count + 1 ≡ suc i = omega (arith, h, high) in
-        ap (slice_get (payloads_of sent.frame sent.payload_size count ++ trailer (sent_head sent.frame (count + 1)) sent.frame.size_y ∷ [])) place
-        ∙ (slice_get_here (payloads_of sent.frame sent.payload_size count) [] (trailer (sent_head sent.frame (count + 1)) sent.frame.size_y)
-        ∙ ap (λ (k : ℕ). Some (trailer (sent_head sent.frame k) sent.frame.size_y)) same)
+        ap (slice_get (payloads_of sent.frame sent.payload_size count ++ trailer (sent_head sent.frame (count + 1)) sent.frame.rows ∷ [])) place
+        ∙ (slice_get_here (payloads_of sent.frame sent.payload_size count) [] (trailer (sent_head sent.frame (count + 1)) sent.frame.rows)
+        ∙ ap (λ (k : ℕ). Some (trailer (sent_head sent.frame k) sent.frame.rows)) same)
 
 again_packet : (f : Frame) (p : ℕ) (h : Head) → again (packet_of f p h) ≡ packet_of f p (again_head h)
 again_packet f p h = go (h.id == 0) (nat_le h.id (payload_count p (length f.pixels)))
   where
-    go : (a b : Bool) → again (if a then leader h (leader_info f) else (if b then payload h (payload_bytes p f.pixels h.id) else trailer h f.size_y))
-        ≡ (if a then leader (again_head h) (leader_info f) else (if b then payload (again_head h) (payload_bytes p f.pixels h.id) else trailer (again_head h) f.size_y))
+    go : (a b : Bool) → again (if a then leader h (leader_info f) else (if b then payload h (payload_bytes p f.pixels h.id) else trailer h f.rows))
+        ≡ (if a then leader (again_head h) (leader_info f) else (if b then payload (again_head h) (payload_bytes p f.pixels h.id) else trailer (again_head h) f.rows))
     go true b = refl
     go false true = refl
     go false false = refl

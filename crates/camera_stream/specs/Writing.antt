@@ -17,7 +17,7 @@ abbrev pub packet_of : Frame → ℕ → Head → StreamPacket
 packet_of frame p h =
     if h.id == 0 then leader h (leader_info frame)
     else (if nat_le h.id (payload_count p (length frame.pixels)) then payload h (payload_bytes p frame.pixels h.id)
-    else trailer h frame.size_y)
+    else trailer h frame.rows)
 
 -- that of a frame that is held, under the frame's own block id
 abbrev pub held_packet : Option SentFrame → Head → Option StreamPacket

@@ -4,7 +4,6 @@ ghost use Rattle.std.specs.Prelude.{◌≡◌, ◌≤◌, ◌<◌, ◌++◌, len
 ghost use Rattle.gev_types.specs.FrameSize.{IsFrame};
 ghost use Rattle.gvsp_wire.specs.Wire.{IsNotice};
 ghost use Rattle.gvsp_wire.specs.Plain.{plain};
-ghost use Rattle.stream_packets.specs.FramePackets.{leader_info};
 ghost use Rattle.resend_store.specs.Sent.{trailer_id, IsSentFrame};
 ghost use Rattle.resend_store.specs.Shelf.{held_in};
 ghost use Rattle.camera_machine.specs.Stream.{again_head};
@@ -19,7 +18,7 @@ use gev_types::{Frame, MAX_PAYLOAD_SIZE};
 use gvcp_wire::Status;
 use gvsp_wire::{write_leader, write_notice, write_payload, write_trailer};
 use resend_store::{SentFrame, Store};
-use stream_packets::{Head, LeaderInfo};
+use stream_packets::{Head, leader_info};
 
 // The packet id of the frame's last packet.
 pub fn trailer_id(sent: &SentFrame) -> u32
@@ -29,24 +28,6 @@ pub fn trailer_id(sent: &SentFrame) -> u32
     let len = sent.frame.pixels.as_slice().len();
     let payload_size = sent.payload_size as usize;
     ((len + payload_size - 1) / payload_size + 1) as u32
-}
-
-// What a leader says of the frame.
-fn leader_info(frame: &Frame) -> LeaderInfo
-    requires { IsFrame frame.now }
-    ensures { result ≡ leader_info frame.now }
-{
-    LeaderInfo {
-        timestamp: frame.timestamp,
-        pixel: frame.pixel,
-        size_x: frame.size_x,
-        size_y: frame.size_y,
-        offset_x: frame.offset_x,
-        offset_y: frame.offset_y,
-        padding_x: frame.padding_x,
-        padding_y: frame.padding_y,
-        size: frame.pixels.as_slice().len() as u32,
-    }
 }
 
 // So many bytes from a place on, or all that are there.
@@ -80,7 +61,7 @@ fn write_packet(frame: &Frame, payload_size: u32, head: Head, out: &mut [u8]) ->
     let pixels = frame.pixels.as_slice();
     let start = (head.id - 1) as usize * payload_size as usize;
     if start >= pixels.len() {
-        return write_trailer(out, head, frame.size_y);
+        return write_trailer(out, head, frame.rows);
     }
     write_payload(out, head, part(pixels, start, payload_size as usize))
 }

@@ -7,7 +7,7 @@ use Rattle.gev_report.specs.CameraLines.{frame_line}
 use Rattle.camera_machine.specs.Camera.{Camera, stream_peer}
 use Rattle.camera_machine.specs.Stream.{first_waiting, waiting_count}
 use Rattle.camera_machine.specs.Commands.{commanded}
-use Rattle.camera_machine.specs.Events.{Event, command, tick, make_frame, next_packet, step, after}
+use Rattle.camera_machine.specs.Events.{Event, command, tick, make_frame, next_packet, set_short, step, after}
 use Rattle.camera_trace.specs.Serving.{Serving, local_peer, ack_text, packets_text, next_numbers}
 
 -- A command prints its acknowledge, a frame its numbers, and each call for a packet the packet that is
@@ -17,6 +17,7 @@ printed s (command peer bytes moment) = ack_text peer.port (commanded s peer byt
 printed s (tick moment) = []
 printed s make_frame = frame_line (next_numbers s)
 printed s next_packet = packets_text (stream_peer s).port (option_to_list (first_waiting s.waiting))
+printed s (set_short short) = []
 
 -- what events print from a camera on; the latest of them comes first
 abbrev pub printed_by : Camera → List Event → List ℕ

@@ -57,6 +57,7 @@ in_past s cameras.make_frame ds = go (is_open s)
     go true = refl
     go false = refl
 in_past s cameras.next_packet ds = refl
+in_past s (cameras.set_short short) ds = refl
 
 executions_apart : (seed : ℕ) (shape : Shape) (room : ℕ) (acts : List Act)
     → (after (new_line seed shape room) acts).executed ≡ executions_in (past (new_camera seed shape room) (camera_events acts))

@@ -138,6 +138,12 @@ good_camera peer l cameras.next_packet h few g = record {
   acks = g.acks;
   kept = g.kept;
 }
+good_camera peer l (cameras.set_short short) h few g = record {
+  client = g.client;
+  fits = record { ended = g.fits.ended; state = g.fits.state };
+  acks = g.acks;
+  kept = g.kept;
+}
 
 -- ---- schedules
 

@@ -1,6 +1,6 @@
 -- What a datagram does: a command of the client is executed, or control and the kept command stay; anything else leaves both.
 use Rattle.std.proofs.Common.{◌≡◌, ◌⊎◌, ℕ, Bool, true, false, List, [], ◌∷◌, Option, Some, None, Result, Ok, Err, refl, sym, ◌∙◌, inl, inr, arith}
-use Rattle.std.specs.Prelude.{◌≢◌, ◌==◌, ◌&&◌, ◌++◌, take, nat_lt, if◌then◌else◌}
+use Rattle.std.specs.Prelude.{◌≢◌, ◌==◌, ◌&&◌, take, if◌then◌else◌}
 use Rattle.std.proofs.lemmas.Bool.{eqb-true, eq-eqb}
 use Rattle.gev_types.specs.declared.peer.Peer.{Peer}
 use Rattle.gvcp_wire.specs.Codes.{DISCOVERY_CMD, PACKETRESEND_CMD}
@@ -16,7 +16,7 @@ use Rattle.control_privilege.specs.Control.{is_peer, is_primary, primary_of, ren
 use Rattle.bootstrap_regs.specs.Addresses.{DISCOVERY_WORDS}
 use Rattle.camera_machine.specs.Words.{bytes_of}
 use Rattle.camera_machine.specs.Camera.{Kept, Camera, is_open}
-use Rattle.camera_machine.specs.Stream.{asked_again, reply_count, replies_to, MAX_REPLIES}
+use Rattle.camera_machine.specs.Stream.{asked_again}
 use Rattle.camera_machine.specs.Commands.{Answered, ack_for, only_answered, silent, finished, executed_as, from_primary, same_bytes, is_behind, is_access, resend_in, resent, obeyed, renewed, heard}
 use Rattle.control_session.specs.Schedule.{IsNoAccess}
 use Rattle.control_session.proofs.Sessions.{executes}

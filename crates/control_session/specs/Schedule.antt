@@ -75,12 +75,14 @@ ack_of s (cameras.command peer bytes moment) = (commanded s peer bytes moment).a
 ack_of s (cameras.tick moment) = None
 ack_of s cameras.make_frame = None
 ack_of s cameras.next_packet = None
+ack_of s (cameras.set_short short) = None
 
 abbrev pub execution_of : Camera → cameras.Event → Option Execution
 execution_of s (cameras.command peer bytes moment) = (commanded s peer bytes moment).execution
 execution_of s (cameras.tick moment) = None
 execution_of s cameras.make_frame = None
 execution_of s cameras.next_packet = None
+execution_of s (cameras.set_short short) = None
 
 abbrev pub with_last : {A : Type 0} → List A → Option A → List A
 with_last xs None = xs
@@ -135,6 +137,7 @@ AllowedAtCamera peer l (cameras.command from bytes moment) = IsFromClient l peer
 AllowedAtCamera peer l (cameras.tick moment) = Unit {0}
 AllowedAtCamera peer l cameras.make_frame = Unit {0}
 AllowedAtCamera peer l cameras.next_packet = Unit {0}
+AllowedAtCamera peer l (cameras.set_short short) = Unit {0}
 
 -- The client with this peer hears only what the camera answered, and each register or memory command
 -- that reaches the camera is one that the client sent, from its peer: late, again, in any order, or

@@ -77,3 +77,4 @@ sessions_after s (cameras.command peer bytes moment) z = after_command s peer by
 sessions_after s (cameras.tick moment) z = after_look s moment z
 sessions_after s cameras.make_frame z = z
 sessions_after s cameras.next_packet z = z
+sessions_after s (cameras.set_short short) z = z
