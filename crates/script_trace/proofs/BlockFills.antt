@@ -66,7 +66,7 @@ own_all : (k : ℕ) (es : List Event) → (k == acquirer) ≡ true → own_of ac
 own_all k [] same = refl
 own_all k (e ∷ es) same = ap (λ b. cond b (entry k e ∷ own_of acquirer (entries_of k es)) (own_of acquirer (entries_of k es))) same ∙ ap (λ l. entry k e ∷ l) (own_all k es same)
 
-own_none : (k : ℕ) (es : List Event) → (k == acquirer) ≡ false → own_of acquirer (entries_of k es) ≡ []
+pub own_none : (k : ℕ) (es : List Event) → (k == acquirer) ≡ false → own_of acquirer (entries_of k es) ≡ []
 own_none k [] apart = refl
 own_none k (e ∷ es) apart = ap (λ b. cond b (entry k e ∷ own_of acquirer (entries_of k es)) (own_of acquirer (entries_of k es))) apart ∙ own_none k es apart
 

@@ -13,6 +13,13 @@ pub mod FlushTrees
 pub mod InfoTrees
 pub mod LineTrees
 pub mod OneReport
+pub mod Doing
+pub mod CallsGo
+pub mod InfosGo
+pub mod FlushesGo
+pub mod LyingSized
+pub mod AcquiringGoes
+pub mod LinesGo
 pub mod WorkedLines
 pub mod WorkedBlock
 pub mod WorkedScripts

@@ -1,8 +1,10 @@
 -- What holds of the trace of every replay script.
-use Rattle.std.specs.Prelude.{◌≡◌, ◌≢◌, ⊤, ℕ, ◌+◌, ◌≤◌, List, [], ◌++◌, length, None}
+use Rattle.std.specs.Prelude.{◌≡◌, ◌≢◌, ⊤, ℕ, ◌+◌, ◌≤◌, List, [], ◌++◌, length, None, Ok}
 use Rattle.std.specs.List.{AllByRecursion}
+use Rattle.hex.specs.Hex.{decode_of}
+use Rattle.gev_script.specs.Lines as line
 use Rattle.gev_script.specs.Lines.{ScriptLine}
-use Rattle.gev_script.specs.Spelling.{IsScriptLine}
+use Rattle.gev_script.specs.Spelling.{IsScriptLine, IsStep}
 use Rattle.script_runs.specs.declared.ran.Ran.{Ran}
 use Rattle.script_runs.specs.Runs.{RunsLines, AreLines}
 use Rattle.script_runs.specs.Verdicts.{Judges}
@@ -71,6 +73,35 @@ pub record RunsKeepPromises : Type 0 where
 -- The lines are judged by their numbers and bytes alone.
 abbrev pub LinesAreJudged : Type 0
 LinesAreJudged = Judges ReplayRuns ReplayRefuses replay_verdict IsBehind
+
+-- The line may stand behind a header, as one of the calls, moments and datagrams of a replay script: digits are those
+-- of bytes, and a step is of an actor that scripts have. Other numbers are any.
+abbrev pub IsInPlace : ScriptLine → Type 0
+IsInPlace (line.header config) = ⊥
+IsInPlace (line.announce size) = ⊤
+IsInPlace (line.queue place generation) = ⊤
+IsInPlace (line.revoke place generation) = ⊤
+IsInPlace (line.flush operation) = ⊤
+IsInPlace line.start = ⊤
+IsInPlace (line.stop flags) = ⊤
+IsInPlace (line.tick moment) = ⊤
+IsInPlace (line.datagram digits) = (bytes : List ℕ) × (decode_of digits ≡ Ok bytes)
+IsInPlace line.take = ⊤
+IsInPlace line.kill = ⊤
+IsInPlace line.event_flush = ⊤
+IsInPlace (line.info which) = ⊤
+IsInPlace (line.buffer_info place generation which) = ⊤
+IsInPlace (line.open_child parent index) = ⊤
+IsInPlace (line.close_all serial) = ⊤
+IsInPlace (line.step actor act place) = IsStep actor act place
+IsInPlace line.end_of_script = ⊥
+IsInPlace line.camera_header = ⊥
+IsInPlace (line.command peer digits) = ⊥
+IsInPlace line.frame = ⊥
+
+-- Such lines lead to a trace.
+abbrev pub LinesHaveATrace : Type 0
+LinesHaveATrace = (c : AcqConfig) (lines : List ScriptLine) → 1 ≤ c.window → AllByRecursion IsInPlace lines → (t : Trace) × Leads c opening lines t
 
 -- Lines lead to one trace.
 abbrev pub TraceIsOne : Type 0

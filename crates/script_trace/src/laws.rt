@@ -1,7 +1,7 @@
 //! What the definitions promise: each function here does nothing, and its contract is a law.
 
 ghost use Rattle.script_trace.specs.Worked.{ScriptsAreWorked};
-ghost use Rattle.script_trace.specs.Laws.{TracesKeepPromises, RunsKeepPromises, LinesAreJudged, TraceIsOne, ReportIsOne, TracesRest};
+ghost use Rattle.script_trace.specs.Laws.{TracesKeepPromises, RunsKeepPromises, LinesAreJudged, TraceIsOne, ReportIsOne, TracesRest, LinesHaveATrace};
 
 /// Of every trace: its history is the board machine's, each buffer has one owner at each step of it,
 /// and filled buffers are handed out once, in the order of their fills, none after a close. The
@@ -26,6 +26,12 @@ pub fn traces_rest()
 /// Whether a line is run, ends its script or is refused follows from its number and its bytes alone.
 pub fn lines_are_judged()
     ensures { LinesAreJudged }
+{}
+
+/// Lines behind a header lead to a trace: whatever they ask for, each call on the board has an answer,
+/// and each buffer that the acquisition gives back was in its hands.
+pub fn lines_have_a_trace()
+    ensures { LinesHaveATrace }
 {}
 
 /// Of one script's lines there is one trace: entries, inputs, handles and text.

@@ -11,6 +11,6 @@
 mod laws;
 
 pub use laws::{
-    lines_are_judged, report_is_one, runs_keep_promises, scripts_are_worked, trace_is_one,
-    traces_keep_promises, traces_rest,
+    lines_are_judged, lines_have_a_trace, report_is_one, runs_keep_promises, scripts_are_worked,
+    trace_is_one, traces_keep_promises, traces_rest,
 };

@@ -3,3 +3,4 @@ pub mod Fits
 pub mod Turns
 pub mod Hosts
 pub mod WholeRounds
+pub mod SetFirst

@@ -90,7 +90,7 @@ fits_round run host n acts hs w none f =
 fits_after : {A : Type 0} (run : Run) (host : Host A) (start : A) (n : ℕ) → AsksNoAccess host
     → FitsWorld run n (acts_after run host start n) (world_after run host start n) [] (heard_in (host_acts_after run host start n))
 fits_after run host start zero none = record {
-  schedule = tt;
+  schedule = (tt, tt);
   client = refl;
   camera = refl;
   few = omega arith;

@@ -83,7 +83,7 @@ abbrev pub with_round : {A : Type 0} → Run → Host A → World A → List Act
 with_round run host w before =
     let turn = client_turn run (rises w) in with_rest run host turn.end turn.world (with_client_turn (rises w) before)
 
--- all that so many rounds did
+-- All that so many rounds did. Before the first the camera was told whether its frames are short.
 abbrev pub acts_after : {A : Type 0} → Run → Host A → A → ℕ → List Act
-acts_after run host start zero = []
+acts_after run host start zero = at_camera (cameras.set_short run.short) ∷ []
 acts_after run host start (suc n) = with_round run host (world_after run host start n) (acts_after run host start n)

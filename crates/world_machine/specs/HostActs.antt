@@ -76,6 +76,7 @@ given_by s (cameras.command peer bytes moment) = None
 given_by s (cameras.tick moment) = None
 given_by s cameras.make_frame = None
 given_by s cameras.next_packet = first_waiting s.waiting
+given_by s (cameras.set_short short) = None
 
 abbrev pub given_at : Line → Act → Option StreamPacket
 given_at l (at_client e) = None

@@ -2,7 +2,10 @@
 use Rattle.std.specs.Prelude.{◌≡◌, ℕ, zero, suc, ◌<◌, ◌≤◌, List, [], ◌++◌, length, Some, None}
 use Rattle.std.specs.List.{AllByRecursion, Contains}
 use Rattle.gvcp_wire.specs.Reading.{command_reading}
-use Rattle.control_session.specs.Schedule.{Act, Line, new_line, after, IsNoAccess, IsSchedule}
+use Rattle.camera_machine.specs.Camera.{new_camera}
+use Rattle.camera_machine.specs.Events.{past}
+use Rattle.camera_machine.specs.Sending.{HaveRows, IsSetFirst}
+use Rattle.control_session.specs.Schedule.{Act, Line, new_line, after, IsNoAccess, IsSchedule, camera_events}
 use Rattle.control_session.specs.Laws.{ActOnce}
 use Rattle.world_machine.specs.State.{Host, Run, World, image_shape, STORE_ROOM}
 use Rattle.world_machine.specs.ClientTurn.{End, client_peer}
@@ -70,6 +73,14 @@ RoundSubmitsOne run host start n =
 -- the commands of each session act once, over fewer than 32,767 rounds
 abbrev pub CommandsActOnce : {A : Type 0} → Run → Host A → A → ℕ → Type 0
 CommandsActOnce run host start n = AsksNoAccess host → n < 32767 → ActOnce (after (start_line run) (acts_after run host start n))
+
+-- ---- short frames
+
+-- The first act at the camera tells it whether its frames are short, and no other does; so each frame that it made
+-- has the lines of that.
+pub record ShortnessIsSetFirst {A : Type 0} (run : Run) (host : Host A) (start : A) (n : ℕ) : Type 0 where
+  pub first : IsSetFirst run.short (camera_events (acts_after run host start n))
+  pub rows : HaveRows run.short image_shape (past (new_camera run.seed image_shape STORE_ROOM) (camera_events (acts_after run host start n)))
 
 -- ---- the host
 

@@ -1,5 +1,5 @@
 -- Worked runs over a host that does nothing.
-use Rattle.std.specs.Prelude.{◌≡◌, ℕ, true, [], codes}
+use Rattle.std.specs.Prelude.{◌≡◌, ℕ, true, false, [], codes}
 use Rattle.world_machine.specs.State.{Host, Run}
 use Rattle.world_machine.specs.ClientTurn.{done, no_answer}
 use Rattle.world_machine.specs.Rounds.{world_after}
@@ -18,7 +18,7 @@ idle_host = record {
 
 -- a run over a network that changes nothing, and one over a network that lets nothing through
 abbrev pub run_of : ℕ → ℕ → Run
-run_of frames loss = record { seed = 1; frames = frames; rates = record { loss = loss; repeat = 0; swap = 0 } }
+run_of frames loss = record { seed = 1; frames = frames; rates = record { loss = loss; repeat = 0; swap = 0 }; short = false }
 
 -- Without frames a run ends when the setup is done: at the fourth round, after four commands.
 pub record SetupAlone : Type 0 where

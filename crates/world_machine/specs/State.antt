@@ -5,6 +5,7 @@ use Rattle.lossy_queue.specs.declared.datagram.Datagram.{Datagram}
 use Rattle.lossy_queue.specs.declared.rates.Rates.{Rates}
 use Rattle.client_machine.specs.Machine.{Client, new_client}
 use Rattle.camera_machine.specs.Camera.{Camera, new_camera}
+use Rattle.camera_machine.specs.Events.{step, set_short}
 
 -- What a host counts by the end of a run.
 pub record HostNumbers : Type 0 where
@@ -34,12 +35,13 @@ pub record Host (A : Type 0) : Type 0 where
   pub is_idle : A → Bool
   pub numbers : A → HostNumbers
 
--- What a run is asked for: what its images and its draws are made of, how many frames there are, and
--- how often the network loses, repeats and swaps.
+-- What a run is asked for: what its images and its draws are made of, how many frames there are, how often
+-- the network loses, repeats and swaps, and whether the frames are short ones.
 pub record Run : Type 0 where
   pub seed : ℕ
   pub frames : ℕ
   pub rates : Rates
+  pub short : Bool
 
 pub record World (A : Type 0) : Type 0 where
   -- in milliseconds
@@ -69,13 +71,17 @@ image_shape = record { pixel = 0x01080001; size_x = 64; size_y = 48 }
 abbrev pub STORE_ROOM : ℕ
 STORE_ROOM = 4
 
+-- a camera that was told whether its frames are short, before anything else happens to it
+abbrev pub first_camera : Run → Camera
+first_camera run = step (new_camera run.seed image_shape STORE_ROOM) (set_short run.short)
+
 abbrev pub new_world : {A : Type 0} → Run → A → World A
 new_world run host = record {
   moment = 0;
   x = run.seed;
   to_camera = [];
   to_host = [];
-  camera = new_camera run.seed image_shape STORE_ROOM;
+  camera = first_camera run;
   client = new_client;
   host = host;
   begun = 0;

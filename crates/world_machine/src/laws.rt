@@ -3,7 +3,7 @@
 
 ghost use Rattle.std.specs.Prelude.{ℕ};
 ghost use Rattle.world_machine.specs.State.{Host, Run};
-ghost use Rattle.world_machine.specs.Laws.{HasOneText, EndsInARound, RoundsAreActs, RoundSubmitsOne, CommandsActOnce, HostIsFed};
+ghost use Rattle.world_machine.specs.Laws.{HasOneText, EndsInARound, RoundsAreActs, RoundSubmitsOne, CommandsActOnce, HostIsFed, ShortnessIsSetFirst};
 
 /// A run has one text and one end.
 pub fn run_has_one_text_and_one_end<A>()
@@ -30,6 +30,12 @@ pub fn round_submits_at_most_one<A>()
 /// which the client submitted them, over fewer than 32,767 rounds.
 pub fn commands_of_a_run_act_once<A>()
     ensures { (run : Run) (host : Host A) (start : A) (n : ℕ) → CommandsActOnce run host start n }
+{}
+
+/// The camera is told whether its frames are short before all else, and never again: so all frames that
+/// it makes have the lines of that, whatever comes between.
+pub fn shortness_is_set_first<A>()
+    ensures { (run : Run) (host : Host A) (start : A) (n : ℕ) → ShortnessIsSetFirst run host start n }
 {}
 
 /// The host is what the datagrams, ticks and takes of its rounds made it, and each datagram that it hears

@@ -14,5 +14,6 @@ mod tests;
 pub use laws::{
     commands_of_a_run_act_once, host_hears_what_the_camera_gave, round_submits_at_most_one,
     rounds_are_acts_of_a_session, run_ends_in_a_round, run_has_one_text_and_one_end,
+    shortness_is_set_first,
 };
 pub use rows::{nothing_comes_through, setup_alone_is_a_run};
