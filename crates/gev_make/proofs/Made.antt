@@ -17,6 +17,8 @@ pub opening_are_lines : All IsScriptLine opening_lines
 opening_are_lines =
     All-from_recursion IsScriptLine opening_lines (
       record {
+        version_from = lit≤ tt;
+        version_to = lit≤ tt;
         p_from = lit≤ tt;
         p_to = lit≤ tt;
         window_from = lit≤ tt;

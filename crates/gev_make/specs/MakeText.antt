@@ -29,7 +29,7 @@ block_packets seed b = packets_of (frame_of seed b image_shape) payload_size
 -- buffers that hold an image each
 abbrev pub opening_lines : List ScriptLine
 opening_lines =
-    line.header (record { p = payload_size; window = 2; timeout = 200; age = 20; rounds = 3 })
+    line.header (record { version = 1; p = payload_size; window = 2; timeout = 200; age = 20; rounds = 3 })
     ∷ line.announce 3072 ∷ line.announce 3072 ∷ line.announce 3072 ∷ line.announce 3072
     ∷ line.flush 3 ∷ line.start ∷ []
 

@@ -67,6 +67,7 @@ pub fn write_opening<K: Sink>(alloc: Global, text: &mut Vec<u8>, sink: &mut K) -
         (text_of opening_lines) }
 {
     let header = Line::Header {
+        version: 1,
         p: 1452,
         window: 2,
         timeout: 200,

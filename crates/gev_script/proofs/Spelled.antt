@@ -1,8 +1,8 @@
 -- The spelling of each line is read as that line.
-use Rattle.std.proofs.Common.{◌≡◌, ℕ, ◌<◌, ◌≤◌, ◌^◌, List, [], ◌∷◌, refl, ap, sym, ◌∙◌, arith, false, Option, Some, None, Ok, true}
+use Rattle.std.proofs.Common.{◌≡◌, ℕ, ◌<◌, ◌≤◌, ◌^◌, List, [], ◌∷◌, refl, ap, sym, ◌∙◌, arith, false, Option, Some, None, Ok, true, nat_eq, inl, inr}
 use Rattle.std.specs.Prelude.{decimal, codes}
 use Rattle.std.specs.Str.{bytes_eq}
-use Rattle.std.proofs.lemmas.Bool.{cond-true, cond-false, false_from_ne_true, true≢false}
+use Rattle.std.proofs.lemmas.Bool.{cond-true, cond-false, cases_Bool, false_from_ne_true, true≢false}
 use Rattle.std.proofs.lemmas.Slice.Eq.{bytes_eq-Decides}
 use Rattle.gev_script.specs.declared.act.Act.{Act}
 use Rattle.gev_script.specs.declared.act.Act.TheVariants.{Grab, Lay, Pool, Fill, Claim, Take, SweepPool, SweepOut, Close}
@@ -12,7 +12,7 @@ use Rattle.gev_script.specs.Lines.{ScriptLine, Config}
 use Rattle.gev_script.specs.Words.{refused_as, parts_of}
 use Rattle.gev_script.specs.Tables.{row_of, acts_alone, acts_at_place}
 use Rattle.gev_script.specs.Numbers.{number_in, is_hex, hex_of}
-use Rattle.gev_script.specs.Fields.{most_u32, most_u64, parent_of, id_of, next_number}
+use Rattle.gev_script.specs.Fields.{most_u32, most_u64, parent_of, id_of, next_number, most_p}
 use Rattle.gev_script.specs.Grammar.{line_of, line_of_words, header_fields, times_of, step_of, step_alone, step_at_place}
 use Rattle.gev_script.specs.Spelling.{IsScriptLine, IsConfig, IsId, IsParent, TakesPlace, words_in, spelling, id_word, parent_word, act_word, place_words}
 use Rattle.gev_script.proofs.Bindings.{bound}
@@ -55,10 +55,19 @@ times_are timeout age rounds a b c d e =
     ∙ bound (next_number 1 60000 (decimal age ∷ decimal rounds ∷ [])) (age, decimal rounds ∷ []) _ (next_is 1 60000 age _ (omega arith) c d)
     ∙ bound (next_number 0 8 (decimal rounds ∷ [])) (rounds, []) _ (next_is 0 8 rounds _ (omega arith) (omega arith) e)
 
-header_is : (c : Config) → IsConfig c → header_fields (codes "1" ∷ decimal c.p ∷ decimal c.window ∷ decimal c.timeout ∷ decimal c.age ∷ decimal c.rounds ∷ []) ≡ Ok (line.header c)
+-- p has few bytes in each version
+pub most_p_few : (version : ℕ) → most_p version ≤ 8964
+most_p_few version = elim (cases_Bool (nat_eq version 2)) [
+  | inl two ↦ let is : most_p version ≡ 8964 = cond-true (nat_eq version 2) 8964 8952 two in omega arith
+  | inr one ↦ let is : most_p version ≡ 8952 = cond-false (nat_eq version 2) 8964 8952 one in omega arith
+]
+
+header_is : (c : Config) → IsConfig c → header_fields (decimal c.version ∷ decimal c.p ∷ decimal c.window ∷ decimal c.timeout ∷ decimal c.age ∷ decimal c.rounds ∷ []) ≡ Ok (line.header c)
 header_is c is =
-    bound (next_number 528 8952 (decimal c.p ∷ decimal c.window ∷ decimal c.timeout ∷ decimal c.age ∷ decimal c.rounds ∷ [])) (c.p, decimal c.window ∷ decimal c.timeout ∷ decimal c.age ∷ decimal c.rounds ∷ []) _
-    (next_is 528 8952 c.p _ (omega arith) is.p_from is.p_to)
+    bound (next_number 1 2 (decimal c.version ∷ decimal c.p ∷ decimal c.window ∷ decimal c.timeout ∷ decimal c.age ∷ decimal c.rounds ∷ [])) (c.version, decimal c.p ∷ decimal c.window ∷ decimal c.timeout ∷ decimal c.age ∷ decimal c.rounds ∷ []) _
+    (next_is 1 2 c.version _ (omega arith) is.version_from is.version_to)
+    ∙ bound (next_number 528 (most_p c.version) (decimal c.p ∷ decimal c.window ∷ decimal c.timeout ∷ decimal c.age ∷ decimal c.rounds ∷ [])) (c.p, decimal c.window ∷ decimal c.timeout ∷ decimal c.age ∷ decimal c.rounds ∷ []) _
+    (next_is 528 (most_p c.version) c.p _ (omega (arith, most_p_few c.version)) is.p_from is.p_to)
     ∙ bound (next_number 1 4 (decimal c.window ∷ decimal c.timeout ∷ decimal c.age ∷ decimal c.rounds ∷ [])) (c.window, decimal c.timeout ∷ decimal c.age ∷ decimal c.rounds ∷ []) _
     (next_is 1 4 c.window _ (omega arith) is.window_from is.window_to)
     ∙ bound (times_of (decimal c.timeout ∷ decimal c.age ∷ decimal c.rounds ∷ [])) (c.timeout, c.age, c.rounds) _
@@ -153,13 +162,15 @@ place_lacks Close (Some place) h = absurd h
 -- the spelling's words are the words that it was joined of
 pub words_split : (l : ScriptLine) → IsScriptLine l → parts_of 32 (spelling l) ≡ words_in l
 words_split (line.header c) h =
-    let p : c.p ≤ 8952 = h.p_to in
+    let version : c.version ≤ 2 = h.version_to in
+    let p : c.p ≤ most_p c.version = h.p_to in
+    let few : most_p c.version ≤ 8964 = most_p_few c.version in
     let window : c.window ≤ 4 = h.window_to in
     let timeout : c.timeout ≤ 60000 = h.timeout_to in
     let age : c.age ≤ 60000 = h.age_to in
     let rounds : c.rounds ≤ 8 = h.rounds in
-    split_joined 32 (codes "gevacq") (codes "1" ∷ decimal c.p ∷ decimal c.window ∷ decimal c.timeout ∷ decimal c.age ∷ decimal c.rounds ∷ [])
-    (refl, (refl, (number_lacks_space c.p (omega arith), (number_lacks_space c.window (omega arith), (number_lacks_space c.timeout (omega arith), (number_lacks_space c.age (omega arith), (number_lacks_space c.rounds (omega arith), tt)))))))
+    split_joined 32 (codes "gevacq") (decimal c.version ∷ decimal c.p ∷ decimal c.window ∷ decimal c.timeout ∷ decimal c.age ∷ decimal c.rounds ∷ [])
+    (refl, (number_lacks_space c.version (omega arith), (number_lacks_space c.p (omega arith), (number_lacks_space c.window (omega arith), (number_lacks_space c.timeout (omega arith), (number_lacks_space c.age (omega arith), (number_lacks_space c.rounds (omega arith), tt)))))))
 words_split (line.announce size) h = split_joined 32 (codes "announce") (decimal size ∷ []) (refl, (number_lacks_space size h, tt))
 words_split (line.queue place generation) h = split_joined 32 (codes "queue") (id_word place generation ∷ []) (refl, id_lacks place generation h)
 words_split (line.revoke place generation) h = split_joined 32 (codes "revoke") (id_word place generation ∷ []) (refl, id_lacks place generation h)

@@ -15,7 +15,7 @@ use Rattle.gev_script.specs.Lines.{ScriptLine, Config}
 use Rattle.gev_script.specs.Words.{Read, ◌>>=◌, parts_of, next_of, one_of, two_of, none_left}
 use Rattle.gev_script.specs.Tables.{row_of, names, acts_alone, acts_at_place}
 use Rattle.gev_script.specs.Numbers.{number_in, hex_of}
-use Rattle.gev_script.specs.Fields.{most_u32, most_u64, number_after, next_number, id_of, id_after, parent_of, after_word}
+use Rattle.gev_script.specs.Fields.{most_u32, most_u64, number_after, next_number, id_of, id_after, parent_of, after_word, most_p}
 use Rattle.gev_script.specs.Grammar.{alone, times_of, header_fields, header_line, datagram_line, buffer_info_line, open_child_line, step_alone, step_at_place, step_of, step_line, camera_header_fields, camera_header_line, command_line, line_named, line_of_words, line_of}
 use Rattle.gev_script.specs.Spelling.{IsScriptLine, IsId, IsParent, TakesPlace, words_in, spelling, id_word, parent_word, act_word}
 use Rattle.gev_script.specs.Laws.{Spells}
@@ -139,20 +139,22 @@ times_ok words times h =
 
 header_ok : (words : List (List ℕ)) (l : ScriptLine) → header_line words ≡ Ok l → Says (codes "gevacq" ∷ words) l
 header_ok words l h =
-    let one = bind_ok (after_word (codes "1") words) _ l (refused_ok Header (header_fields words) l h) in
-    let p = bind_ok (next_number 528 8952 one.value) _ l one.gives in
+    let version = bind_ok (next_number 1 2 words) _ l (refused_ok Header (header_fields words) l h) in
+    let p = bind_ok (next_number 528 (most_p version.value.0) version.value.1) _ l version.gives in
     let window = bind_ok (next_number 1 4 p.value.1) _ l p.gives in
     let times = bind_ok (times_of window.value.1) _ l window.gives in
-    let a = next_number_ok 528 8952 one.value p.value p.was in
+    let v = next_number_ok 1 2 words version.value version.was in
+    let a = next_number_ok 528 (most_p version.value.0) version.value.1 p.value p.was in
     let b = next_number_ok 1 4 p.value.1 window.value window.was in
     let c = times_ok window.value.1 times.value times.was in
     says _ _ l times.gives
     (record {
       same =
           ap (λ r. codes "gevacq" ∷ r)
-          (after_word_ok (codes "1") words one.value one.was
-          ∙ ap (λ r. codes "1" ∷ r) (a.is ∙ ap (λ r. decimal p.value.0 ∷ r) (b.is ∙ ap (λ r. decimal window.value.0 ∷ r) c.0)));
+          (v.is ∙ ap (λ r. decimal version.value.0 ∷ r) (a.is ∙ ap (λ r. decimal p.value.0 ∷ r) (b.is ∙ ap (λ r. decimal window.value.0 ∷ r) c.0)));
       is_line = λ _. record {
+        version_from = v.from;
+        version_to = v.to;
         p_from = a.from;
         p_to = a.to;
         window_from = b.from;

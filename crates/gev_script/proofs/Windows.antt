@@ -1,8 +1,8 @@
 -- Lines in a room, and bytes that come behind those that are held.
-use Rattle.std.proofs.Common.{◌≡◌, ℕ, ◌+◌, ◌-◌, ◌<◌, ◌≤◌, List, [], ◌∷◌, ◌++◌, length, get_or, take, drop, Option, Some, None, refl, ap, sym, ◌∙◌, subst, arith, inl, inr, length-drop, length-take, get_or-take, append_assoc}
+use Rattle.std.proofs.Common.{◌≡◌, ℕ, ◌+◌, ◌-◌, ◌<◌, ◌≤◌, List, [], ◌∷◌, ◌++◌, length, get_or, take, drop, Option, Some, None, refl, ap, sym, ◌∙◌, subst, arith, inl, inr, length-drop, length-take, length-append, get_or-take, append_assoc}
 use Rattle.std.specs.List.{between}
 use Rattle.std.proofs.lemmas.Bool.{eq-eqb, eqb-true, cases_lt}
-use Rattle.std.proofs.lemmas.List.{append-nil, take-append-drop, get_or-drop, take-take, drop-drop, drop-take, take_rest, drop-append-le, nil_from_length}
+use Rattle.std.proofs.lemmas.List.{append-nil, take-append-drop, get_or-drop, get_or_append_left, take-take, drop-drop, drop-take, take_rest, drop-append-le, nil_from_length}
 use Rattle.std.proofs.lemmas.List.Edits.{length-between}
 use Rattle.std.proofs.lemmas.Slice.{between_is}
 use Rattle.memchr.specs.Find.{IsFirstByte, is_byte}
@@ -123,20 +123,29 @@ pub came_none : (held : List ℕ) (left : Option (List ℕ)) → Came held held 
 came_none held left = record {
   more = [];
   given = Gives-same left;
-  prompt = record { before = []; piece = []; parts = refl; open_before = inl refl };
+  prompt = inl refl;
   is = sym (append-nil held);
+}
+
+-- what begins bytes without a whole line has none either
+open_front : (front more : List ℕ) → IsOpen (front ++ more) → IsOpen front
+open_front front more h = record {
+  no_feed = λ i low e. h.no_feed i (omega (arith, length-append front more)) (get_or_append_left front more 0 i low ∙ e);
+  short = omega (arith, length-append front more, h.short);
 }
 
 pub came_more : (held now after : List ℕ) (l m n : Option (List ℕ)) (count : ℕ) → Came held now l m → IsOpen now → Holds count now after m n → Came held after l n
 came_more held now after l m n count c is_open h = record {
   more = c.more ++ h.piece;
   given = Gives-append l m n c.more h.piece c.given h.given;
-  prompt = record { before = c.more; piece = h.piece; parts = refl; open_before = inr (subst IsOpen c.is is_open) };
+  prompt = inr (open_front held c.more (subst IsOpen c.is is_open));
   is = h.is ∙ ap (λ t. t ++ h.piece) c.is ∙ append_assoc held c.more h.piece;
 }
 
-pub reads_on : (held now : List ℕ) (l m : Option (List ℕ)) (P : List ℕ → Type 0) → Came held now l m → P now → ReadsOn held l m P
-reads_on held now l m P c p = record { more = c.more; given = c.given; prompt = c.prompt; holds = subst P c.is p }
+pub reads_on : (held now : List ℕ) (l m : Option (List ℕ)) (P : List ℕ → Type 0) → Came held now l m → length now ≤ 32768 → P now → ReadsOn held l m P
+reads_on held now l m P c few p =
+    let Few : List ℕ → Type 0 = λ bytes. length bytes ≤ 32768 in
+    record { more = c.more; given = c.given; prompt = c.prompt; few = subst Few c.is few; holds = subst P c.is p }
 
 -- nothing came
 pub open_still : (now after : List ℕ) (l m : Option (List ℕ)) → IsOpen now → Holds 0 now after l m → IsOpen after

@@ -1,5 +1,5 @@
 -- The fields of lines: a number, a buffer id, and the others that the words after the first say.
-use Rattle.std.specs.Prelude.{ℕ, ◌^◌, ◌-◌, List, codes, Option, Some, None, Ok, Err, if◌then◌else◌}
+use Rattle.std.specs.Prelude.{ℕ, ◌^◌, ◌-◌, ◌==◌, List, codes, Option, Some, None, Ok, Err, if◌then◌else◌}
 use Rattle.std.specs.Str.{bytes_eq}
 use Rattle.gev_script.specs.declared.kind.ScriptKind.TheVariants.{Word, Number}
 use Rattle.gev_script.specs.Words.{Read, ◌>>=◌, refused_as, parts_of, next_of, one_of, two_of}
@@ -14,6 +14,11 @@ most_u32 = 2 ^ 32 - 1
 
 abbrev pub most_u64 : ℕ
 most_u64 = 2 ^ 64 - 1
+
+-- the most bytes of a payload packet in a script of this version: packets of 9000 bytes, less the headers
+-- of IP, UDP and the stream, of which the last has 20 bytes in version 1 and may have 8 in version 2
+abbrev pub most_p : ℕ → ℕ
+most_p version = if version == 2 then 8964 else 8952
 
 -- the one word that is left, as a number of at most so much
 abbrev pub number_after : ℕ → List (List ℕ) → Read ℕ

@@ -10,7 +10,7 @@ use Rattle.gev_script.specs.Lines.{ScriptLine}
 use Rattle.gev_script.specs.Words.{Read, ◌>>=◌, refused_as, words_of, none_left, next_of, one_of, two_of}
 use Rattle.gev_script.specs.Tables.{row_of, names, acts_alone, acts_at_place}
 use Rattle.gev_script.specs.Numbers.{number_in, hex_of}
-use Rattle.gev_script.specs.Fields.{most_u32, most_u64, number_after, next_number, id_of, id_after, parent_of, after_word}
+use Rattle.gev_script.specs.Fields.{most_u32, most_u64, number_after, next_number, id_of, id_after, parent_of, after_word, most_p}
 
 -- a line of its first word alone
 abbrev pub alone : ScriptLine → List (List ℕ) → Read ScriptLine
@@ -29,13 +29,13 @@ times_of words = do
 
 abbrev pub header_fields : List (List ℕ) → Read ScriptLine
 header_fields words = do
-  numbers ← after_word (codes "1") words
-  p ← next_number 528 8952 numbers
+  version ← next_number 1 2 words
+  p ← next_number 528 (most_p version.0) version.1
   window ← next_number 1 4 p.1
   times ← times_of window.1
-  Ok (line.header (record { p = p.0; window = window.0; timeout = times.0; age = times.1; rounds = times.2 }))
+  Ok (line.header (record { version = version.0; p = p.0; window = window.0; timeout = times.0; age = times.1; rounds = times.2 }))
 
--- `gevacq 1 <p> <window> <timeout> <age> <rounds>`
+-- `gevacq <version> <p> <window> <timeout> <age> <rounds>`
 abbrev pub header_line : List (List ℕ) → Read ScriptLine
 header_line words = refused_as Header (header_fields words)
 

@@ -7,6 +7,8 @@ use Rattle.gev_script.specs.declared.line.Line.TheVariants.{Header, Announce, Qu
 
 -- the numbers of a replay script's header
 pub record Config : Type 0 where
+  -- of the script's form: in version 2 datagrams may have standard headers
+  pub version : ℕ
   -- the most bytes of a payload packet
   pub p : ℕ
   -- the most blocks that are open at once
@@ -43,7 +45,7 @@ pub data ScriptLine : Type 0 where
   frame : ScriptLine
 
 abbrev pub view : Line → ScriptLine
-view (Header p window timeout age rounds) = header (record { p = p; window = window; timeout = timeout; age = age; rounds = rounds })
+view (Header version p window timeout age rounds) = header (record { version = version; p = p; window = window; timeout = timeout; age = age; rounds = rounds })
 view (Announce size) = announce size
 view (Queue place generation) = queue place generation
 view (Revoke place generation) = revoke place generation

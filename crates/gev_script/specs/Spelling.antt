@@ -6,6 +6,7 @@ use Rattle.gev_script.specs.declared.act.Act.TheVariants.{Grab, Lay, Pool, Fill,
 use Rattle.gev_script.specs.Lines as line
 use Rattle.gev_script.specs.Lines.{ScriptLine, Config}
 use Rattle.gev_script.specs.Numbers.{is_hex}
+use Rattle.gev_script.specs.Fields.{most_p}
 
 abbrev pub id_word : ℕ → ℕ → List ℕ
 id_word place generation = decimal place ++ 46 ∷ decimal generation
@@ -32,7 +33,7 @@ place_words (Some place) = decimal place ∷ []
 -- the words of a line
 abbrev pub words_in : ScriptLine → List (List ℕ)
 words_in (line.header c) =
-    codes "gevacq" ∷ codes "1" ∷ decimal c.p ∷ decimal c.window ∷ decimal c.timeout ∷ decimal c.age ∷ decimal c.rounds ∷ []
+    codes "gevacq" ∷ decimal c.version ∷ decimal c.p ∷ decimal c.window ∷ decimal c.timeout ∷ decimal c.age ∷ decimal c.rounds ∷ []
 words_in (line.announce size) = codes "announce" ∷ decimal size ∷ []
 words_in (line.queue place generation) = codes "queue" ∷ id_word place generation ∷ []
 words_in (line.revoke place generation) = codes "revoke" ∷ id_word place generation ∷ []
@@ -59,8 +60,10 @@ abbrev pub spelling : ScriptLine → List ℕ
 spelling l = join_with_byte 32 (words_in l)
 
 pub record IsConfig (c : Config) : Type 0 where
+  pub version_from : 1 ≤ c.version
+  pub version_to : c.version ≤ 2
   pub p_from : 528 ≤ c.p
-  pub p_to : c.p ≤ 8952
+  pub p_to : c.p ≤ most_p c.version
   pub window_from : 1 ≤ c.window
   pub window_to : c.window ≤ 4
   pub timeout_from : 1 ≤ c.timeout

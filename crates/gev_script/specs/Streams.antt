@@ -25,18 +25,17 @@ pub record IsLine (bytes line rest : List ℕ) : Type 0 where
   pub no_feed : HasNoFeed line
   pub short : length line ≤ 20000
 
--- Some bytes came, and the last of them only while those before had no whole line and weren't too long.
-pub record IsPrompt (held more : List ℕ) : Type 0 where
-  pub before : List ℕ
-  pub piece : List ℕ
-  pub parts : more ≡ before ++ piece
-  pub open_before : (piece ≡ []) ⊎ IsOpen (held ++ before)
+-- Bytes came only where those that were held had no whole line and weren't too long.
+abbrev pub IsPrompt : List ℕ → List ℕ → Type 0
+IsPrompt held more = (more ≡ []) ⊎ IsOpen held
 
--- These bytes were held or came, no sooner than they were wanted, and this holds of all of them.
+-- These bytes were held or came, no sooner than they were wanted and no more than there is room for, and this
+-- holds of all of them. Where they begin with a line, its line feed and what is held behind it are among them.
 pub record ReadsOn (held : List ℕ) (left left_after : Option (List ℕ)) (P : List ℕ → Type 0) : Type 0 where
   pub more : List ℕ
   pub given : Gives left left_after more
   pub prompt : IsPrompt held more
+  pub few : length (held ++ more) ≤ 32768
   pub holds : P (held ++ more)
 
 -- how many lines were given, the last of them, the bytes that are held, and the first refusal
@@ -62,8 +61,9 @@ Nexts (Err end) old new left left_after faults faults_after =
     (new.given ≡ old.given) × (new.refusal ≡ Some end)
     × ReadsOn old.held left left_after (λ bytes. CauseOfEnd end old.given bytes new.held left_after faults faults_after)
 
--- A refusal is kept: it's given again, and nothing is read.
-pub record Keeps (end : LineEnd) (result : Result ℕ LineEnd) (old new : LinesState) (left left_after : Option (List ℕ)) : Type 0 where
+-- A refusal is kept: it's given again, nothing is read, and no call is made that could fail.
+pub record Keeps (end : LineEnd) (result : Result ℕ LineEnd) (old new : LinesState) (left left_after : Option (List ℕ)) (faults faults_after : ℕ) : Type 0 where
   pub again : result ≡ Err end
   pub same : new ≡ old
   pub unread : left_after ≡ left
+  pub faultless : faults_after ≡ faults

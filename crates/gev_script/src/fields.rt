@@ -1,7 +1,7 @@
 ghost use Rattle.std.specs.Prelude.{◌≡◌, ◌≤◌, option_map, IfOk};
 ghost use Rattle.std.specs.Str.{bytes_eq};
 ghost use Rattle.gev_script.specs.Words.{read_map, refused_as, parts_of, parts_after};
-ghost use Rattle.gev_script.specs.Fields.{most_u32, most_u64, number_after, next_number, id_parts, id_of, id_after, parent_of, after_word};
+ghost use Rattle.gev_script.specs.Fields.{most_u32, most_u64, number_after, next_number, id_parts, id_of, id_after, parent_of, after_word, most_p};
 
 use crate::kind::ScriptKind;
 use crate::numbers::{number_in, u8_in, u32_of};
@@ -15,6 +15,14 @@ pub fn is(word: &[u8], wanted: &[u8]) -> bool
     ensures { result ≡ bytes_eq word.now wanted.now }
 {
     word == wanted
+}
+
+/// The most bytes of a payload packet in a script of this version.
+pub fn most_p(version: u64) -> u64
+    ensures value { result ≡ most_p version }
+    ensures few { result ≤ 8964 }
+{
+    if version == 2 { 8964 } else { 8952 }
 }
 
 /// The one word that is left, as a number.

@@ -6,7 +6,7 @@ ghost use Rattle.gev_script.specs.Grammar.{alone, times_of, header_fields, heade
 
 use crate::act::Act;
 use crate::fields::{
-    SPACE, after_word, id_after, id_of, is, next_number, number_after, parent_of, u32_after,
+    SPACE, after_word, id_after, id_of, is, most_p, next_number, number_after, parent_of, u32_after,
 };
 use crate::kind::ScriptKind;
 use crate::line::Line;
@@ -27,11 +27,12 @@ fn times_of(rest: Option<&[u8]>) -> Result<(u32, u32, u8), ScriptKind>
 fn header_fields(rest: Option<&[u8]>) -> Result<Line<'_>, ScriptKind>
     ensures { seen result ≡ header_fields (parts_after 32 (option_map (λ r. r.now) rest.entry)) }
 {
-    let rest = after_word(b"1", rest)?;
-    let (p, rest) = next_number(528, 8952, rest)?;
+    let (version, rest) = next_number(1, 2, rest)?;
+    let (p, rest) = next_number(528, most_p(version), rest)?;
     let (window, rest) = next_number(1, 4, rest)?;
     let (timeout, age, rounds) = times_of(rest)?;
     Ok(Line::Header {
+        version: version as u8,
         p: p as u32,
         window: window as u8,
         timeout,
@@ -40,7 +41,7 @@ fn header_fields(rest: Option<&[u8]>) -> Result<Line<'_>, ScriptKind>
     })
 }
 
-/// `gevacq 1 <p> <window> <timeout> <age> <rounds>`
+/// `gevacq <version> <p> <window> <timeout> <age> <rounds>`
 pub fn header_line(rest: Option<&[u8]>) -> Result<Line<'_>, ScriptKind>
     ensures { seen result ≡ header_line (parts_after 32 (option_map (λ r. r.now) rest.entry)) }
 {

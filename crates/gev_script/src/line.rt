@@ -3,9 +3,11 @@ use crate::act::Act;
 /// One line of a script. Hex digits are lent from the line; they are lower-case, two for each byte.
 #[derive(Clone, Copy, Debug, PartialEq, Eq)]
 pub enum Line<'a> {
-    /// `gevacq 1 <p> <window> <timeout> <age> <rounds>`
+    /// `gevacq <version> <p> <window> <timeout> <age> <rounds>`
     Header {
-        /// The most bytes of a payload packet, 528 to 8952.
+        /// Of the script's form, 1 or 2: in version 2 datagrams may have standard headers.
+        version: u8,
+        /// The most bytes of a payload packet, 528 to 8952, in version 2 to 8964.
         p: u32,
         /// The most blocks that are open at once, 1 to 4.
         window: u8,

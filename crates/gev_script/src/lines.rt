@@ -49,7 +49,7 @@ impl Lines {
     /// memory, and reads only where the bytes that are held have no whole line and aren't too long.
     /// A refusal is given again at each further call, which reads nothing.
     pub fn next<S: Source>(&mut self, source: &mut S) -> Result<u32, LineEnd>
-        ensures kept { (end : LineEnd) → self.old.refusal ≡ Some end → Keeps end result self.old self.new (S.left source.old) (S.left source.new) }
+        ensures kept { (end : LineEnd) → self.old.refusal ≡ Some end → Keeps end result self.old self.new (S.left source.old) (S.left source.new) (S.faults source.old) (S.faults source.new) }
         ensures next { self.old.refusal ≡ None → Nexts result self.old self.new (S.left source.old) (S.left source.new) (S.faults source.old) (S.faults source.new) }
         ensures steady { result ≢ Err LineEnd.ReadFault → S.faults source.new ≡ S.faults source.old }
         ensures never_falls { S.faults source.old ≤ S.faults source.new }

@@ -34,11 +34,23 @@ fn each_form_of_line(rt: HostRuntime) -> Result<(), Fail> {
         (
             "gevacq 1 528 3 1000 100 2",
             Line::Header {
+                version: 1,
                 p: 528,
                 window: 3,
                 timeout: 1000,
                 age: 100,
                 rounds: 2,
+            },
+        ),
+        (
+            "gevacq 2 8964 1 60000 1 8",
+            Line::Header {
+                version: 2,
+                p: 8964,
+                window: 1,
+                timeout: 60_000,
+                age: 1,
+                rounds: 8,
             },
         ),
         (
@@ -121,7 +133,12 @@ fn each_form_of_line(rt: HostRuntime) -> Result<(), Fail> {
 fn each_kind_of_refusal(rt: HostRuntime) -> Result<(), Fail> {
     let headers = [
         "gevacq",
-        "gevacq 2 528 1 1000 100 2",
+        "gevacq 0 528 1 1000 100 2",
+        "gevacq 3 528 1 1000 100 2",
+        "gevacq 02 528 1 1000 100 2",
+        "gevacq 2",
+        "gevacq 2 527 1 1000 100 2",
+        "gevacq 2 8965 1 1000 100 2",
         "gevacq 1 527 1 1000 100 2",
         "gevacq 1 8953 1 1000 100 2",
         "gevacq 1 528 5 1000 100 2",

@@ -55,11 +55,12 @@ fn add_times(out: &mut Vec<u8>, timeout: u32, age: u32, rounds: u8) -> Result<()
     add_number(out, b" ", u64::from(rounds))
 }
 
-fn add_sizes(out: &mut Vec<u8>, p: u32, window: u8) -> Result<(), NoMemory>
-    ensures added { OnOk result (out.new.items ≡ out.old.items ++ (codes "gevacq 1 " ++ decimal p ++ 32 ∷ decimal window)) }
+fn add_sizes(out: &mut Vec<u8>, version: u8, p: u32, window: u8) -> Result<(), NoMemory>
+    ensures added { OnOk result (out.new.items ≡ out.old.items ++ (codes "gevacq " ++ decimal version ++ 32 ∷ decimal p ++ 32 ∷ decimal window)) }
     ensures grown { IsGrown out.old.items out.new.items }
 {
-    add_number(out, b"gevacq 1 ", u64::from(p))?;
+    add_number(out, b"gevacq ", u64::from(version))?;
+    add_number(out, b" ", u64::from(p))?;
     add_number(out, b" ", u64::from(window))
 }
 
@@ -107,13 +108,14 @@ fn add_line(out: &mut Vec<u8>, line: &Line<'_>) -> Result<(), NoMemory>
 {
     match *line {
         Line::Header {
+            version,
             p,
             window,
             timeout,
             age,
             rounds,
         } => {
-            add_sizes(out, p, window)?;
+            add_sizes(out, version, p, window)?;
             add_times(out, timeout, age, rounds)
         }
         Line::Announce { size } => add_number(out, b"announce ", size),

@@ -1,5 +1,5 @@
 -- What a script has read and written, from what its run has.
-use Rattle.std.proofs.Common.{ℕ, List, [], length, Option, Some, None, refl, sym, ap, append-nil, arith, inl}
+use Rattle.std.proofs.Common.{ℕ, List, [], length, Option, Some, None, refl, sym, ap, append-nil, arith}
 use Rattle.gev_links.specs.Told.{Gives, Appends}
 use Rattle.script_runs.specs.declared.ran.Ran.TheVariants.{Ended}
 use Rattle.script_runs.specs.declared.ending.Ending.{Ending}
@@ -34,7 +34,7 @@ ends_well moves refuses Keeps Says first kept ending left left_after reads reads
   given = h.given;
   are = h.are;
   counted = h.counted;
-  prompt = h.prompt;
+  few = h.few;
   ran = lines_well moves Keeps Says first kept h.lines h.text h.now h.are h.ran;
   holds = record {
     keeps = kept.so_far h.lines h.text h.now h.are h.ran;
@@ -79,7 +79,7 @@ unbegun moves refuses Keeps Says first kept left reads written writes = record {
   given = gives_none left;
   are = tt;
   counted = omega arith;
-  prompt = record { held = []; more = []; parts = refl; prompt = record { before = []; piece = []; parts = refl; open_before = inl refl } };
+  few = omega arith;
   ran = (refl, refl);
   holds = record { keeps = kept.so_far [] [] first tt (refl, refl); said = kept.said [] [] first (refl, refl); ends = appends_none written };
 }

@@ -70,7 +70,6 @@ last_well runs Keeps Says first kept lines text now ran rest P are led h = recor
   final = h.final;
   report = h.report;
   is_line = h.is_line;
-  few = h.few;
   counted = h.counted;
   run = record { runs = h.run; keeps = kept.last lines text h.line h.report ran now h.final are h.is_line.short led h.run };
   holds = h.holds;

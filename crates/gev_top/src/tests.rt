@@ -8,6 +8,7 @@ mod board;
 mod cameras;
 mod faults;
 mod handles;
+mod large_images;
 mod making;
 mod refusals;
 mod second_reading;

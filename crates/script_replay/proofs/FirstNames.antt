@@ -10,7 +10,7 @@ use Rattle.gev_script.specs.Lines.{ScriptLine}
 use Rattle.gev_script.specs.Words.{Read, ◌>>=◌, refused_as, words_of, next_of, one_of, two_of, none_left}
 use Rattle.gev_script.specs.Tables.{row_of, names, acts_alone, acts_at_place}
 use Rattle.gev_script.specs.Numbers.{number_in, hex_of}
-use Rattle.gev_script.specs.Fields.{most_u32, most_u64, number_after, next_number, id_of, id_after, parent_of, after_word}
+use Rattle.gev_script.specs.Fields.{most_u32, most_u64, number_after, next_number, id_of, id_after, parent_of, after_word, most_p}
 use Rattle.gev_script.specs.Grammar.{alone, times_of, header_fields, step_of, camera_header_fields, line_named, line_of_words, line_of, name_of_words, first_name}
 
 abbrev pub name_of_line : ScriptLine → Name
@@ -68,7 +68,7 @@ gives_step_of actor act (place ∷ words) =
 gives_named : (n : Name) (words : List (List ℕ)) → Gives (Is n) (line_named n words)
 gives_named name.Header words =
     gives_refused (Is name.Header) kinds.Header (header_fields words)
-    (gives_bind (Is name.Header) (after_word (codes "1") words) _ (λ numbers. gives_bind (Is name.Header) (next_number 528 8952 numbers) _
+    (gives_bind (Is name.Header) (next_number 1 2 words) _ (λ version. gives_bind (Is name.Header) (next_number 528 (most_p version.0) version.1) _
     (λ p. gives_bind (Is name.Header) (next_number 1 4 p.1) _ (λ window. gives_bind (Is name.Header) (times_of window.1) _ (λ times. refl)))))
 gives_named name.Announce words = gives_bind (Is name.Announce) (number_after most_u64 words) _ (λ size. refl)
 gives_named name.Queue words = gives_bind (Is name.Queue) (id_after words) _ (λ id. refl)

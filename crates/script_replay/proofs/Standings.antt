@@ -47,7 +47,7 @@ begun board acq tree stream config is_config left ready stands same fills reques
 -- a header was run
 pub begins_on : (new : Running) (text : List ℕ) (n : ℕ) → Begins text new → RunsAs None n text GoesOn [] (Some new)
 begins_on new text n begins first stands =
-    (running (config_from begins.config) opening, record { config = begins.config; read = begins.read; silent = refl; after = refl }, (begins.same, begins.stands))
+    (running (config_from begins.config) opening, record { config = begins.config; read = begins.read; version = begins.version; silent = refl; after = refl }, (begins.same, begins.stands))
 begins_on new text n begins (running c t) stands = absurd stands
 
 -- a later line was run

@@ -16,7 +16,7 @@ use Rattle.script_trace.specs.Trace.{Trace, Part, grown}
 use Rattle.script_trace.specs.Adding.{AddsPart, Leads}
 use Rattle.script_trace.specs.Opening.{opening}
 use Rattle.script_trace.specs.Ending.{filled_blocks, as_count, end_text}
-use Rattle.script_trace.specs.Standing.{Standing, first, running, config_of as config_from, later_kind, ReplayRuns, ReplayRefuses}
+use Rattle.script_trace.specs.Standing.{Standing, first, running, config_of as config_from, run_version, later_kind, ReplayRuns, ReplayRefuses}
 use Rattle.script_replay.specs.Acquiring.{IsAtRest, IsBehindTrace}
 use Rattle.script_replay.specs.declared.running.Running.{Running}
 
@@ -93,18 +93,19 @@ IsCall _ = ⊥
 
 -- ---- a line by its bytes
 
--- The bytes are a header, and this stands behind it.
+-- The bytes are a header of a version that is run, and this stands behind it.
 pub record Begins (text : List ℕ) (new : Running) : Type 0 where
   pub config : Config
   pub read : line_of text ≡ Ok (line.header config)
+  pub version : config.version ≡ run_version
   pub same : config_of new.acq ≡ config_from config
   pub stands : StandsAt new opening
   pub keeps : IsReplaying new
 
--- The bytes are no header.
+-- The bytes are no header of a version that is run.
 pub record IsNoHeader (text : List ℕ) (kind : ScriptKind) : Type 0 where
   pub kind_is : kind ≡ kinds.Header
-  pub none : (c : Config) → line_of text ≢ Ok (line.header c)
+  pub none : (c : Config) → c.version ≡ run_version → line_of text ≢ Ok (line.header c)
 
 -- It is the last line, and this is what it tells.
 pub record Ends (l : ScriptLine) (old : Running) (said : List ℕ) (new : Running) : Type 0 where

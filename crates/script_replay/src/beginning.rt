@@ -42,7 +42,10 @@ pub fn begin(alloc: Global, config: AcqConfig) -> Result<Running, NoMemory>
     })
 }
 
-/// Runs the first line, which has to be a header.
+/// The version of the scripts that are run.
+const RUN_VERSION: u8 = 1;
+
+/// Runs the first line, which has to be a header of a version that is run.
 pub(crate) fn first_line(alloc: Global, line: &[u8]) -> Result<Running, Stop>
     requires short { length line.now ≤ 20000 }
     ensures { MatchResult result (λ r. Begins line.now r) (λ stop. IfRefused stop (λ kind. IsNoHeader line.now kind)) }
@@ -50,6 +53,7 @@ pub(crate) fn first_line(alloc: Global, line: &[u8]) -> Result<Running, Stop>
     match parse_line(line) {
         Ok(
             Line::Header {
+                version,
                 p,
                 window,
                 timeout,
@@ -57,6 +61,9 @@ pub(crate) fn first_line(alloc: Global, line: &[u8]) -> Result<Running, Stop>
                 rounds,
             },
         ) => {
+            if version != RUN_VERSION {
+                return Err(Stop::Refused(ScriptKind::Header));
+            }
             let config = AcqConfig {
                 p,
                 window,

@@ -1,5 +1,5 @@
 -- A script that goes on, turn by turn, and how it ends.
-use Rattle.std.proofs.Common.{◌≡◌, ℕ, ◌+◌, ◌≤◌, List, [], ◌∷◌, ◌++◌, length, Option, Some, None, refl, ap, sym, ◌∙◌, subst, arith, append_assoc, length-append, inl}
+use Rattle.std.proofs.Common.{◌≡◌, ℕ, ◌+◌, ◌≤◌, List, [], ◌∷◌, ◌++◌, length, Option, Some, None, refl, ap, sym, ◌∙◌, subst, arith, append_assoc, length-append}
 use Rattle.std.proofs.lemmas.List.{append-nil}
 use Rattle.gev_links.specs.Told.{Gives, Appends}
 use Rattle.gev_script.specs.Streams.{HasNoFeed, IsLine, ReadsOn}
@@ -112,14 +112,13 @@ last_map runs now n ran rest P Q f h = record {
   final = h.final;
   report = h.report;
   is_line = h.is_line;
-  few = h.few;
   counted = h.counted;
   run = h.run;
   holds = f h.report h.holds;
 }
 
 front_map : (P Q : List ℕ → Type 0) → ((t : List ℕ) → P t → Q t) → (t : List ℕ) → WroteFront P t → WroteFront Q t
-front_map P Q f t h = record { front = h.front; more = h.more; parts = h.parts; wrote = f h.front h.wrote }
+front_map P Q f t h = record { front = h.front; more = h.more; parts = h.parts; some_left = h.some_left; wrote = f h.front h.wrote }
 
 pub ends_map : {M : Type 0} (runs : Running M) (refuses : Refusing M) (now : M) (n : ℕ) (rest : List ℕ) (ending : Ending) (left : Option (List ℕ))
     (reads reads_after writes writes_after : ℕ) (P Q : List ℕ → Type 0) → ((t : List ℕ) → P t → Q t)
@@ -146,7 +145,7 @@ module _ {M : Type 0} (runs : Running M) (refuses : Refusing M) (m now : M) (giv
         (Gives-append left left_now left_after (lines_text s.lines ++ held) read.more s.came read.given);
     are = s.are;
     counted = s.counted;
-    prompt = record { held = held; more = read.more; parts = refl; prompt = read.prompt };
+    few = read.few;
     ran = s.ran;
     holds =
         let W : List ℕ → Type 0 = Appends written_now written_after in
@@ -169,7 +168,7 @@ run_none runs refuses m left written reads writes = record {
   given = Gives-same left;
   are = tt;
   counted = omega arith;
-  prompt = record { held = []; more = []; parts = refl; prompt = record { before = []; piece = []; parts = refl; open_before = inl refl } };
+  few = omega arith;
   ran = (refl, refl);
   holds = Appends-same written;
 }

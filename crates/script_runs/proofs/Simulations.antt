@@ -28,7 +28,6 @@ module _ {M S : Type 0} (runs : Running M) (refuses : Refusing M) (runs_as : Run
         final = after.0;
         report = h.report;
         is_line = h.is_line;
-        few = h.few;
         counted = h.counted;
         run = after.1;
         holds = h.holds;
@@ -39,7 +38,6 @@ module _ {M S : Type 0} (runs : Running M) (refuses : Refusing M) (runs_as : Run
     line = h.line;
     held = h.held;
     is_line = h.is_line;
-    few = h.few;
     refused = elim h.refused [ inl many ↦ inl many | inr cause ↦ inr (cause.0, refusal now s (n + 1) h.line kind st cause.1) ];
   }
 
@@ -65,7 +63,7 @@ module _ {M S : Type 0} (runs : Running M) (refuses : Refusing M) (runs_as : Run
         given = h.given;
         are = h.are;
         counted = h.counted;
-        prompt = h.prompt;
+        few = h.few;
         ran = ran.1;
         holds = ends_at_as h.now ran.0 (length h.lines) h.rest ending left_after reads reads_after writes writes_after _ ran.2 h.holds;
       }

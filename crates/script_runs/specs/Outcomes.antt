@@ -1,5 +1,5 @@
 -- What a run of a script has read and written, by how it ended.
-use Rattle.std.specs.Prelude.{◌≡◌, ◌⊎◌, ℕ, ◌+◌, ◌≤◌, List, [], ◌++◌, length, Option}
+use Rattle.std.specs.Prelude.{◌≡◌, ◌≢◌, ◌⊎◌, ℕ, ◌+◌, ◌≤◌, List, [], ◌++◌, Option}
 use Rattle.gev_links.specs.Faults.{Rose}
 use Rattle.gev_links.specs.Told.{IsSpent, Appends}
 use Rattle.gev_script.specs.declared.kind.ScriptKind.{ScriptKind}
@@ -11,15 +11,14 @@ use Rattle.script_runs.specs.declared.ending.Ending.{Ending}
 use Rattle.script_runs.specs.declared.ending.Ending.TheVariants.{Done, BadLine, ReadFault, WriteFault, NoMemory}
 use Rattle.script_runs.specs.Runs.{Running, Refusing, RunTo}
 
--- The bytes begin with a line, the one after n others, which is run with a report of which P holds. At
--- most 32,768 bytes were read behind it.
+-- The bytes begin with a line, the one after n others, which is run with a report of which P holds. What is
+-- held was read behind it.
 pub record RunsLast {M : Type 0} (runs : Running M) (now : M) (n : ℕ) (ran : Ran) (rest : List ℕ) (P : List ℕ → Type 0) : Type 0 where
   pub line : List ℕ
   pub held : List ℕ
   pub final : M
   pub report : List ℕ
   pub is_line : IsLine rest line held
-  pub few : length held ≤ 32768
   pub counted : n + 1 ≤ 4294967295
   pub run : runs now (n + 1) line ran report final
   pub holds : P report
@@ -39,14 +38,14 @@ pub record RefusesLine {M : Type 0} (refuses : Refusing M) (now : M) (n : ℕ) (
   pub line : List ℕ
   pub held : List ℕ
   pub is_line : IsLine rest line held
-  pub few : length held ≤ 32768
   pub refused : ((kind ≡ kinds.Many) × (n ≡ 4294967295)) ⊎ ((n + 1 ≤ 4294967295) × refuses now (n + 1) line kind)
 
--- Of a report this front was written.
+-- Of a report this front was written, and something of it wasn't.
 pub record WroteFront (Wrote : List ℕ → Type 0) (report : List ℕ) : Type 0 where
   pub front : List ℕ
   pub more : List ℕ
   pub parts : report ≡ front ++ more
+  pub some_left : more ≢ []
   pub wrote : Wrote front
 
 -- Behind n lines the run ends so, with these bytes read behind them; `Wrote` says of a text that it was

@@ -1,7 +1,7 @@
 -- Runs of lines by a machine, whose states are of some type.
 use Rattle.std.specs.Prelude.{◌≡◌, ⊤, ℕ, ◌+◌, ◌≤◌, List, [], ◌∷◌, ◌++◌, length, Option}
 use Rattle.gev_script.specs.declared.kind.ScriptKind.{ScriptKind}
-use Rattle.gev_script.specs.Streams.{HasNoFeed, IsPrompt}
+use Rattle.gev_script.specs.Streams.{HasNoFeed}
 use Rattle.gev_links.specs.Told.{Gives}
 use Rattle.script_runs.specs.declared.ran.Ran.{Ran}
 use Rattle.script_runs.specs.declared.ran.Ran.TheVariants.{GoesOn}
@@ -40,16 +40,8 @@ abbrev pub AreLines : List (List ℕ) → Type 0
 AreLines [] = ⊤
 AreLines (line ∷ lines) = HasNoFeed line × (length line ≤ 20000) × AreLines lines
 
--- Behind the lines stand these bytes, and the last of them were read only while those before them had
--- no whole line and weren't too long.
-pub record IsReadPromptly (rest : List ℕ) : Type 0 where
-  pub held : List ℕ
-  pub more : List ℕ
-  pub parts : rest ≡ held ++ more
-  pub prompt : IsPrompt held more
-
--- A script was run over lines that go on, bytes were read behind them, and this holds of the state then,
--- the number of the lines, these bytes, and the report of the lines.
+-- A script was run over lines that go on, a bounded number of bytes was read behind them, and this holds of
+-- the state then, the number of the lines, these bytes, and the report of the lines.
 pub record RunTo {M : Type 0} (runs : Running M) (m : M) (left left_after : Option (List ℕ)) (P : M → ℕ → List ℕ → List ℕ → Type 0) : Type 0 where
   pub now : M
   pub lines : List (List ℕ)
@@ -58,6 +50,6 @@ pub record RunTo {M : Type 0} (runs : Running M) (m : M) (left left_after : Opti
   pub given : Gives left left_after (lines_text lines ++ rest)
   pub are : AreLines lines
   pub counted : length lines ≤ 4294967295
-  pub prompt : IsReadPromptly rest
+  pub few : length rest ≤ 32768
   pub ran : RunsLines runs m 0 lines text now
   pub holds : P now (length lines) rest text

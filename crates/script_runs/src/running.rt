@@ -101,6 +101,7 @@ fn run_lines<S: Source, K: Sink, M: Machine>(
 
 /// Runs the script that the source gives. Each line is run as it's read, and its report is written
 /// before the next line is read; the source is read only where no whole line is held.
+#[tactic(auto, using(crate::proofs::Looping::run_none))]
 pub fn run_script<S: Source, K: Sink, M: Machine>(
     alloc: Global,
     source: &mut S,

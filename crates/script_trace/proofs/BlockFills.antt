@@ -32,34 +32,9 @@ use Rattle.script_trace.specs.HandleLines.{ClosesHandle, ClosesStream}
 use Rattle.script_trace.specs.StepLines.{StepBy, StepInHand, FillStep, is_in_hand}
 use Rattle.script_trace.specs.Adding.{Spells, Leads}
 use Rattle.script_trace.specs.Opening.{opening}
-use Rattle.script_trace.specs.Fills.{tried_by, tried, tried_blocks, item_of, retired_items}
-
--- ---- lists
-
-pub tried-append : (g h : List Entry) → tried (g ++ h) ≡ tried g ++ tried h
-tried-append [] h = refl
-tried-append (e ∷ g) h =
-    ap (λ l. tried_by e.event ++ l) (tried-append g h) ∙ sym (append_assoc (tried_by e.event) (tried g) (tried h))
-
-pub fills-append : (p : ℕ) (rs qs : List Retirement) → fills p (rs ++ qs) ≡ fills p rs ++ fills p qs
-fills-append p [] qs = refl
-fills-append p (r ∷ rs) qs =
-    ap (λ l. fill_of p r.was r.was.given ++ l) (fills-append p rs qs)
-    ∙ sym (append_assoc (fill_of p r.was r.was.given) (fills p rs) (fills p qs))
-
-pub items-append : (xs ys : List Retired) → map item_of (xs ++ ys) ≡ map item_of xs ++ map item_of ys
-items-append [] ys = refl
-items-append (x ∷ xs) ys = ap (λ l. item_of x ∷ l) (items-append xs ys)
-
--- what these inputs retire from this state, as items
-abbrev items_from : AcqConfig → State → List Input → List Item
-items_from c s q = map item_of (fills c.p (retired_from c s q))
-
-items_from-append : (c : AcqConfig) (s : State) (q r : List Input) → items_from c s (q ++ r) ≡ items_from c s q ++ items_from c (after_from c s q) r
-items_from-append c s q r =
-    ap (λ l. map item_of (fills c.p l)) (retired_from-append c s q r)
-    ∙ (ap (λ l. map item_of l) (fills-append c.p (retired_from c s q) (retired_from c (after_from c s q) r))
-    ∙ items-append (fills c.p (retired_from c s q)) (fills c.p (retired_from c (after_from c s q) r)))
+use Rattle.block_fills.specs.Fills.{tried_by, tried, item_of, retired_items}
+use Rattle.block_fills.proofs.Tries.{tried-append, fills-append, items-append, items_from, items_from-append, entries-append, retired_tried}
+use Rattle.script_trace.specs.Fills.{tried_blocks}
 
 -- entries of one actor
 own_all : (k : ℕ) (es : List Event) → (k == acquirer) ≡ true → own_of acquirer (entries_of k es) ≡ entries_of k es
@@ -78,29 +53,11 @@ pub own_caller : (es : List Event) → own_of acquirer (entries_of caller es) �
 own_caller [] = refl
 own_caller (e ∷ es) = own_caller es
 
-entries-append : (k : ℕ) (es fs : List Event) → entries_of k (es ++ fs) ≡ entries_of k es ++ entries_of k fs
-entries-append k [] fs = refl
-entries-append k (e ∷ es) fs = ap (λ l. entry k e ∷ l) (entries-append k es fs)
-
 -- ---- one part
 
 -- what the part fills is what its inputs retire
 abbrev pub FillsAgree : AcqConfig → Trace → Part → Type 0
 FillsAgree c t part = tried (own_of acquirer part.entries) ≡ items_from c (After c t.inputs) part.inputs
-
-filled_tried : (x : Retired) (filled : Bool) → tried (entries_of acquirer (filled_or_laid x.place x.buf filled)) ≡ item_of x ∷ []
-filled_tried x true = refl
-filled_tried x false = refl
-
-retired_tried : (xs : List Retired) (es : List Event) → FillsRetired xs es → tried (entries_of acquirer es) ≡ map item_of xs
-retired_tried [] es is = ap (λ l. tried (entries_of acquirer l)) is
-retired_tried (x ∷ xs) es (filled, rest, is, more) =
-    let first : List Event = filled_or_laid x.place x.buf filled in
-    ap (λ l. tried (entries_of acquirer l)) is
-    ∙ (ap tried (entries-append acquirer first rest)
-    ∙ (tried-append (entries_of acquirer first) (entries_of acquirer rest)
-    ∙ (ap (λ l. l ++ tried (entries_of acquirer rest)) (filled_tried x filled)
-    ∙ ap (λ l. item_of x ∷ l) (retired_tried xs rest more))))
 
 acts_agree : (c : AcqConfig) (t : Trace) (k : ℕ) (es : List Event) (said : List ℕ) (part : Part) → (k == acquirer) ≡ false → part ≡ acts t k es said → FillsAgree c t part
 acts_agree c t k es said part apart is =
@@ -121,7 +78,7 @@ one_retired c s i = ap (λ l. map item_of (fills c.p l)) (sym (append-nil (step 
 settles_agree : (c : AcqConfig) (t : Trace) (calls : List Event) (i : Input) (said : List ℕ) (part : Part) → Settles c t calls i said part → FillsAgree c t part
 settles_agree c t calls i said part s =
     subst (FillsAgree c t) (sym s.is)
-    (both_tried calls s.events ∙ (retired_tried (retired_by c t.inputs i) s.events s.filled ∙ one_retired c (After c t.inputs) i))
+    (both_tried calls s.events ∙ (retired_tried acquirer (retired_by c t.inputs i) s.events s.filled ∙ one_retired c (After c t.inputs) i))
 
 -- a datagram that retires something, a claim's outcome, which doesn't, and the datagram again
 twice_retired : (c : AcqConfig) (s : State) (first second third : Input) → (step c (step c s first).after second).retired ≡ [] → map item_of (fills c.p (step c s first).retired) ++ map item_of (fills c.p (step c (step c (step c s first).after second).after third).retired) ≡ items_from c s (first ∷ second ∷ third ∷ [])
@@ -145,8 +102,8 @@ again_agrees c t bytes part h =
     subst (FillsAgree c t) (sym h.is)
     (ap tried (own_acquirer events)
     ∙ (all_tried
-    ∙ (ap (λ l. l ++ tried (entries_of acquirer h.second)) (retired_tried (retired_by c t.inputs (datagram bytes)) h.first h.displaced)
-    ∙ (ap (λ l. map item_of (retired_by c t.inputs (datagram bytes)) ++ l) (retired_tried (retired_by c later (datagram bytes)) h.second h.filled ∙ second_retired)
+    ∙ (ap (λ l. l ++ tried (entries_of acquirer h.second)) (retired_tried acquirer (retired_by c t.inputs (datagram bytes)) h.first h.displaced)
+    ∙ (ap (λ l. map item_of (retired_by c t.inputs (datagram bytes)) ++ l) (retired_tried acquirer (retired_by c later (datagram bytes)) h.second h.filled ∙ second_retired)
     ∙ twice_retired c s (datagram bytes) told (datagram bytes) refl))))
 
 -- ---- each line

@@ -20,7 +20,7 @@ use Rattle.script_trace.specs.Trace.{Trace, grown, acquirer}
 use Rattle.script_trace.specs.Contents.{contents_of, FillsAsLay, FillsFrom}
 use Rattle.script_trace.specs.Adding.{Leads}
 use Rattle.script_trace.specs.Opening.{opening}
-use Rattle.script_trace.specs.Fills.{tried_by, tried}
+use Rattle.block_fills.specs.Fills.{tried_by, tried}
 
 -- a fill is the acquisition's, or has the empty record
 abbrev pub FillsEmpty : ℕ → Event → Type 0

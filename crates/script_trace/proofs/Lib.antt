@@ -1,7 +1,6 @@
 pub mod Histories
 pub mod BlockFills
 pub mod RunWord
-pub mod Acquisitions
 pub mod Starting
 pub mod Handing
 pub mod Between

@@ -16,7 +16,7 @@ use Rattle.script_trace.specs.Fills.{tried_blocks, retired_items, IsRetired, IsH
 use Rattle.script_trace.specs.Laws.{KeepsPromises, TracesKeepPromises}
 use Rattle.script_trace.proofs.Histories.{opening_runs, leads_run}
 use Rattle.script_trace.proofs.BlockFills.{IsByOther, leads_agree, opening_agrees}
-use Rattle.script_trace.proofs.Acquisitions.{retired_blocks}
+use Rattle.block_fills.proofs.Acquisitions.{retired_blocks}
 use Rattle.script_trace.proofs.Starting.{leads_clean, opening_clean}
 use Rattle.script_trace.proofs.Handing.{leads_empty, opening_empty, filled_all, handed_all}
 

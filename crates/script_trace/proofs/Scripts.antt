@@ -1,8 +1,8 @@
 -- Runs of lines lead to traces.
-use Rattle.std.proofs.Common.{◌≡◌, ◌≢◌, ℕ, ◌+◌, ◌≤◌, List, [], ◌∷◌, ◌++◌, length, refl, sym, ap, subst, ◌∙◌, append_assoc, append-nil, arith}
+use Rattle.std.proofs.Common.{◌≡◌, ◌≢◌, ℕ, ◌+◌, ◌≤◌, List, [], ◌∷◌, ◌++◌, length, refl, sym, ap, subst, ◌∙◌, append_assoc, append-nil, arith, nat_eq}
 use Rattle.std.specs.Prelude.{Ok, Err, if◌then◌else◌}
 use Rattle.std.specs.List.{AllByRecursion}
-use Rattle.std.proofs.lemmas.Bool.{ne_eqb}
+use Rattle.std.proofs.lemmas.Bool.{ne_eqb, cond-false}
 use Rattle.gev_script.specs.declared.kind.ScriptKind.{ScriptKind}
 use Rattle.gev_script.specs.declared.kind.ScriptKind.TheVariants as kinds
 use Rattle.gev_script.specs.Lines as line
@@ -19,7 +19,7 @@ use Rattle.acquisition_machine.specs.declared.config.AcqConfig.{AcqConfig}
 use Rattle.script_trace.specs.Trace.{Trace, Part, grown}
 use Rattle.script_trace.specs.Adding.{Spells, Leads}
 use Rattle.script_trace.specs.Opening.{opening}
-use Rattle.script_trace.specs.Standing.{Standing, first, running, config_of, later_kind, first_verdict, last_or_not, later_verdict, replay_verdict, IsBehind, RunsLater, ReplayRuns, ReplayRefuses}
+use Rattle.script_trace.specs.Standing.{Standing, first, running, config_of, later_kind, run_version, header_verdict, first_verdict, last_or_not, later_verdict, replay_verdict, IsBehind, RunsLater, ReplayRuns, ReplayRefuses}
 use Rattle.script_trace.specs.Laws.{StandsWell, HasSaid, RunsKeepPromises, LinesAreJudged}
 use Rattle.script_trace.proofs.Promises.{traces_keep}
 
@@ -159,8 +159,14 @@ other_line : (c : AcqConfig) (t : Trace) (l : ScriptLine) (part : Part) → Spel
 other_line c t line.end_of_script part s = absurd s
 other_line c t _ part s = refl
 
-first_refused : (r : Read ScriptLine) → ((c : Config) → r ≢ Ok (line.header c)) → first_verdict r ≡ bad kinds.Header
-first_refused (Ok (line.header c)) other = absurd (other c refl)
+header_runs : (version : ℕ) → version ≡ run_version → header_verdict version ≡ goes_on
+header_runs version is = ap header_verdict is
+
+header_refused : (version : ℕ) → version ≢ run_version → header_verdict version ≡ bad kinds.Header
+header_refused version other = cond-false (nat_eq version run_version) goes_on (bad kinds.Header) (ne_eqb version run_version other)
+
+first_refused : (r : Read ScriptLine) → ((c : Config) → c.version ≡ run_version → r ≢ Ok (line.header c)) → first_verdict r ≡ bad kinds.Header
+first_refused (Ok (line.header c)) other = header_refused c.version (λ is. other c is refl)
 first_refused (Ok _) other = refl
 first_refused (Err _) other = refl
 
@@ -177,7 +183,7 @@ behind_running c t n new is = let more : 1 ≤ n + 1 = omega arith in subst (λ 
 
 goes : (m new : Standing) (n : ℕ) (text report : List ℕ) → IsBehind m n → ReplayRuns m (n + 1) text GoesOn report new → (replay_verdict (n + 1) text ≡ goes_on) × IsBehind new (n + 1)
 goes first new n text report behind runs =
-    (verdict_first n text behind ∙ ap first_verdict runs.read, behind_running (config_of runs.config) opening n new runs.after)
+    (verdict_first n text behind ∙ ap first_verdict runs.read ∙ header_runs runs.config.version runs.version, behind_running (config_of runs.config) opening n new runs.after)
 goes (running c t) new n text report behind runs = (
   verdict_later n text behind ∙ (ap (λ k. later_verdict k (line_of text)) runs.in_place ∙ (ap last_or_not runs.read ∙ other_line c t runs.says runs.part runs.adds.spells)),
   behind_running c (grown t runs.part) n new runs.after,

@@ -32,7 +32,8 @@ use Rattle.script_trace.specs.Opening.{opening}
 use Rattle.script_trace.proofs.RunWord.{KeepRun, run_kept, along, retired_keep, announces_keep, queues_keep, borrows_keep, revokes_keep, discards_keep, kills_keep, closes_keep, gets_keep, starts_keep, stops_keep, flushes_keep, infos_keep, buffer_infos_keep}
 use Rattle.acquisition_machine.proofs.Order.{all_append}
 use Rattle.script_trace.proofs.RunWord.{KeepsRun}
-use Rattle.script_trace.proofs.Acquisitions.{StartsClean, starts-append}
+use Rattle.block_fills.specs.Laws.{StartsClean}
+use Rattle.block_fills.proofs.Acquisitions.{starts-append}
 
 -- ---- the machine without an open block
 

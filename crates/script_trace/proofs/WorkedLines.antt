@@ -31,7 +31,7 @@ begins lines rest new more = (
   running config opening,
   [],
   rest,
-  record { config = record { p = 528; window = 1; timeout = 1000; age = 100; rounds = 2 }; read = refl; silent = refl; after = refl },
+  record { config = record { version = 1; p = 528; window = 1; timeout = 1000; age = 100; rounds = 2 }; read = refl; version = refl; silent = refl; after = refl },
   more,
   refl,
 )

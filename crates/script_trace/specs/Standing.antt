@@ -44,9 +44,16 @@ kind_of_read (Err kind) = Some kind
 abbrev pub later_kind : List ℕ → Option ScriptKind
 later_kind text = if is_out_of_place (first_name text) then Some kinds.Word else kind_of_read (line_of text)
 
+-- Scripts of this version alone are run. A header of the other is refused as one that is no header.
+abbrev pub run_version : ℕ
+run_version = 1
+
+abbrev pub header_verdict : ℕ → Verdict
+header_verdict version = if version == run_version then goes_on else bad kinds.Header
+
 -- a first line that isn't a header is refused
 abbrev pub first_verdict : Read ScriptLine → Verdict
-first_verdict (Ok (line.header c)) = goes_on
+first_verdict (Ok (line.header c)) = header_verdict c.version
 first_verdict _ = bad kinds.Header
 
 abbrev pub last_or_not : Read ScriptLine → Verdict
@@ -82,6 +89,7 @@ pub record RunsLater (c : AcqConfig) (t : Trace) (text report : List ℕ) (new :
 pub record RunsFirst (text report : List ℕ) (new : Standing) : Type 0 where
   pub config : Config
   pub read : line_of text ≡ Ok (line.header config)
+  pub version : config.version ≡ run_version
   pub silent : report ≡ []
   pub after : new ≡ running (config_of config) opening
 
@@ -101,5 +109,5 @@ ReplayRuns (running c t) n text Ended report new = RunsEnd c t text report new
 
 -- Here the line with this number is refused for this cause.
 abbrev pub ReplayRefuses : Standing → ℕ → List ℕ → ScriptKind → Type 0
-ReplayRefuses first n text kind = (kind ≡ kinds.Header) × ((c : Config) → line_of text ≢ Ok (line.header c))
+ReplayRefuses first n text kind = (kind ≡ kinds.Header) × ((c : Config) → c.version ≡ run_version → line_of text ≢ Ok (line.header c))
 ReplayRefuses (running c t) n text kind = later_kind text ≡ Some kind

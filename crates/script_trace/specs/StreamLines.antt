@@ -8,7 +8,7 @@ use Rattle.board_machine.specs.declared.events.Event.TheVariants.{Claim}
 use Rattle.board_machine.specs.Machine.{Board, word_at}
 use Rattle.board_machine.specs.Adding.{entries_of}
 use Rattle.board_calls.specs.Calls.{Starts, Stops}
-use Rattle.board_calls.specs.Rounds.{filled_or_laid}
+pub use Rattle.block_fills.specs.Fills.{FillsRetired}
 use Rattle.acquisition_machine.specs.declared.config.AcqConfig.{AcqConfig}
 use Rattle.acquisition_machine.specs.declared.retired.Retired.{Retired}
 use Rattle.acquisition_machine.specs.Blocks.{Given, fills}
@@ -19,12 +19,6 @@ use Rattle.script_trace.specs.Trace.{Trace, Part, board, caller, acquirer, acts}
 use Rattle.script_trace.specs.Answers.{refused_text, done_text}
 
 -- ---- what retires
-
--- Each of these is filled into the output, in order, and laid where the close mark stands.
-abbrev pub FillsRetired : List Retired → List Event → Type 0
-FillsRetired [] events = events ≡ []
-FillsRetired (x ∷ xs) events =
-    (filled : Bool) × (rest : List Event) × (events ≡ filled_or_laid x.place x.buf filled ++ rest) × FillsRetired xs rest
 
 -- what retires with a buffer as this input comes after these
 abbrev pub retired_by : AcqConfig → List Input → Input → List Retired

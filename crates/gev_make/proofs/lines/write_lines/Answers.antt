@@ -16,7 +16,7 @@ returns-in_err-write_one g c =
 pub loop-line-preserved : goal.loop-line-preserved
 loop-line-preserved g c = record {
   leads = leads_on _ _ _ _ _ _ _ _ _ _ c.loop-line.invariant.leads (lines_turn c.args.lines.now c.loop-line.line-index _ c.loop-line-test.true) c.in_ok-write_one.ensures;
-  lines = others_are_lines c.args.lines.now c.loop-line.line-index (Header 0 0 0 0 0) c.loop-line-test.true c.loop-line.invariant.lines;
+  lines = others_are_lines c.args.lines.now c.loop-line.line-index (Header 0 0 0 0 0 0) c.loop-line-test.true c.loop-line.invariant.lines;
 }
 
 pub returns : goal.returns

@@ -1,6 +1,6 @@
 -- Each block that retires belongs to one acquisition, whose datagrams alone it holds.
 use Rattle.std.proofs.Common.{◌≡◌, inl, inr, ℕ, ◌≤◌, List, [], ◌∷◌, ◌++◌, map, refl, sym, ap, subst, ◌∙◌, append_assoc, append-nil}
-use Rattle.std.specs.Prelude.{⊤, Option, Some, None}
+use Rattle.std.specs.Prelude.{Option, Some, None}
 use Rattle.std.specs.List.{AllByRecursion}
 use Rattle.gev_types.specs.declared.frame.Frame.{Frame}
 use Rattle.block_image.specs.OneBlock.{AreSent}
@@ -15,8 +15,9 @@ use Rattle.acquisition_machine.proofs.Joining.{after_from-append}
 use Rattle.acquisition_machine.proofs.Order.{all_append, all_both, all_weaker}
 use Rattle.acquisition_machine.proofs.Frames.{fills_keep_frames}
 use Rattle.acquisition_machine.proofs.Since.{retired_heard_what_came}
-use Rattle.script_trace.specs.Fills.{item_of, retired_items, IsBeginning, IsAmong, IsRetired}
-use Rattle.script_trace.proofs.BlockFills.{items-append, fills-append}
+use Rattle.block_fills.specs.Fills.{item_of, retired_items, IsBeginning, IsAmong, IsRetired}
+use Rattle.block_fills.specs.Laws.{StartsClean}
+use Rattle.block_fills.proofs.Tries.{items-append, fills-append}
 
 -- ---- lists
 
@@ -54,17 +55,6 @@ no_restarts (claimed given ∷ q) r a b = no_restarts q r a b
 no_restarts (tick moment ∷ q) r a b = no_restarts q r a b
 no_restarts (stop ∷ q) r a b = no_restarts q r a b
 no_restarts (restart ∷ q) r a b = absurd a
-
--- ---- starts
-
--- where these inputs come on this state, no block is open at a restart
-abbrev pub StartsClean : AcqConfig → State → List Input → Type 0
-StartsClean c s [] = ⊤
-StartsClean c s (datagram bytes ∷ q) = StartsClean c (step c s (datagram bytes)).after q
-StartsClean c s (claimed given ∷ q) = StartsClean c (step c s (claimed given)).after q
-StartsClean c s (tick moment ∷ q) = StartsClean c (step c s (tick moment)).after q
-StartsClean c s (stop ∷ q) = StartsClean c (step c s stop).after q
-StartsClean c s (restart ∷ q) = (s.opens ≡ []) × StartsClean c (step c s restart).after q
 
 pub starts-append : (c : AcqConfig) (s : State) (q r : List Input) → StartsClean c s q → StartsClean c (after_from c s q) r → StartsClean c s (q ++ r)
 starts-append c s [] r a b = b
