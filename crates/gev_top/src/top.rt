@@ -27,8 +27,9 @@ use std::alloc::Global;
 /// to the sink.
 ///
 /// `soak` with the same numbers runs a camera, a network and a host as one machine, and writes a line for
-/// each buffer that the host takes, and what it counted. Memory grows with the rates, not with the number of
-/// frames.
+/// each buffer that the host takes, and what it counted. With the further word `short` the camera's images
+/// have up to seven lines fewer than their leaders announce. Memory grows with the rates, not with the
+/// number of frames.
 pub fn gevacq_top<S: Source, K: Sink>(
     alloc: Global,
     words: &[String],
@@ -92,6 +93,7 @@ fn run_command<S: Source, K: Sink>(
             seed,
             frames,
             rates,
-        } => soak(alloc, seed, frames, rates, sink),
+            short,
+        } => soak(alloc, seed, frames, rates, short, sink),
     }
 }

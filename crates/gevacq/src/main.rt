@@ -15,7 +15,7 @@ const HELP: &str = "\
 usage: gevacq replay
 usage: gevacq camera
 usage: gevacq make <seed> <frames> <loss> <repeat> <swap>
-usage: gevacq soak <seed> <frames> <loss> <repeat> <swap>
+usage: gevacq soak <seed> <frames> <loss> <repeat> <swap> [short]
 ";
 
 /// The program's name and version.
