@@ -5,7 +5,7 @@ use Rattle.gev_types.specs.Filling.{Filling}
 use Rattle.stream_packets.specs.Packets.{StreamPacket, is_notice}
 use Rattle.block_image.specs.Kept.{fits}
 use Rattle.block_image.specs.Image.{image}
-use Rattle.block_assembly.specs.declared.assembly.Assembly.{Assembly}
+use Rattle.block_assembly.specs.declared.progress.Progress.{Progress}
 use Rattle.block_assembly.specs.declared.verdict.Verdict.TheVariants.{Kept as is_kept, Repeat as is_repeat, Misfit as is_misfit, Notice as is_refused}
 use Rattle.block_assembly.specs.Assembly.{AssemblyStands}
 use Rattle.block_assembly.specs.Verdicts.{verdict_of}
@@ -29,22 +29,22 @@ verdict_step false false false = refl
 verdict_need : (p : ℕ) (o : Open) (x : StreamPacket) → need_of_verdict (verdict_of p o.block o.heard x) ≡ need_with p o x
 verdict_need p o x = verdict_step (is_notice x) (not (fits p x)) (is_new p o x)
 
-need_filling : (p : ℕ) (o : Open) (x : StreamPacket) (place : ℕ) (a : Assembly) (given : Option Given) (need : Need) → HoldsFor p o.block (With place a) given o.heard → ((q b size : ℕ) (heard : List StreamPacket) → AssemblyStands a q b size heard → need ≡ need_of_verdict (verdict_of q b heard x)) → need ≡ need_given p o given x
+need_filling : (p : ℕ) (o : Open) (x : StreamPacket) (place : ℕ) (a : Progress) (given : Option Given) (need : Need) → HoldsFor p o.block (With place a) given o.heard → ((q b size : ℕ) (heard : List StreamPacket) → AssemblyStands a q b size heard → need ≡ need_of_verdict (verdict_of q b heard x)) → need ≡ need_given p o given x
 need_filling p o x place a None need h f = absurd h
 need_filling p o x place a (Some g) need h f = f p o.block g.size o.heard h.stands ∙ verdict_need p o x
 
 -- the answer to a packet of a block with a buffer
-pub need_stands : (p : ℕ) (slot : Slot) (o : Open) (x : StreamPacket) (place : ℕ) (a : Assembly) (need : Need) → SlotStands p slot o → slot.hold ≡ With place a → ((q b size : ℕ) (heard : List StreamPacket) → AssemblyStands a q b size heard → need ≡ need_of_verdict (verdict_of q b heard x)) → need ≡ need_in p o x
+pub need_stands : (p : ℕ) (slot : Slot) (o : Open) (x : StreamPacket) (place : ℕ) (a : Progress) (need : Need) → SlotStands p slot o → slot.hold ≡ With place a → ((q b size : ℕ) (heard : List StreamPacket) → AssemblyStands a q b size heard → need ≡ need_of_verdict (verdict_of q b heard x)) → need ≡ need_in p o x
 need_stands p slot o x place a need s e f =
     need_filling p o x place a o.given need (subst (λ h. HoldsFor p o.block h o.given o.heard) e s.hold) f
 
-fill_filling : (p : ℕ) (o : Open) (place : ℕ) (a : Assembly) (given : Option Given) (buf : Filling) (old new : List Retired) → HoldsFor p o.block (With place a) given o.heard → ((q b size : ℕ) (heard : List StreamPacket) → AssemblyStands a q b size heard → buf ≡ image q b size heard) → new ≡ old ++ record { place = place; buf = buf } ∷ [] → new ≡ old ++ fill_of p o given
+fill_filling : (p : ℕ) (o : Open) (place : ℕ) (a : Progress) (given : Option Given) (buf : Filling) (old new : List Retired) → HoldsFor p o.block (With place a) given o.heard → ((q b size : ℕ) (heard : List StreamPacket) → AssemblyStands a q b size heard → buf ≡ image q b size heard) → new ≡ old ++ record { place = place; buf = buf } ∷ [] → new ≡ old ++ fill_of p o given
 fill_filling p o place a None buf old new h f e = absurd h
 fill_filling p o place a (Some g) buf old new h f e =
     e ∙ ap (λ k. old ++ record { place = k; buf = buf } ∷ []) h.place
     ∙ ap (λ b. old ++ record { place = g.place; buf = b } ∷ []) (f p o.block g.size o.heard h.stands)
 
 -- what a block with a buffer gives back
-pub release_fills : (p : ℕ) (hold : Hold) (o : Open) (place : ℕ) (a : Assembly) (buf : Filling) (old new : List Retired) → HoldsFor p o.block hold o.given o.heard → hold ≡ With place a → ((q b size : ℕ) (heard : List StreamPacket) → AssemblyStands a q b size heard → buf ≡ image q b size heard) → new ≡ old ++ record { place = place; buf = buf } ∷ [] → new ≡ old ++ fill_of p o o.given
+pub release_fills : (p : ℕ) (hold : Hold) (o : Open) (place : ℕ) (a : Progress) (buf : Filling) (old new : List Retired) → HoldsFor p o.block hold o.given o.heard → hold ≡ With place a → ((q b size : ℕ) (heard : List StreamPacket) → AssemblyStands a q b size heard → buf ≡ image q b size heard) → new ≡ old ++ record { place = place; buf = buf } ∷ [] → new ≡ old ++ fill_of p o o.given
 release_fills p hold o place a buf old new s e f is =
     fill_filling p o place a o.given buf old new (subst (λ h. HoldsFor p o.block h o.given o.heard) e s) f is

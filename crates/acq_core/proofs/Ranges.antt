@@ -8,7 +8,7 @@ use Rattle.id_ranges.proofs.HoleLemmas.{holes_ask_within}
 use Rattle.missing_ranges.specs.Missing.{has_gone, is_settled, top_of, missing_to, missing}
 use Rattle.packet_bitmap.specs.Bits.{has}
 use Rattle.gap_requests.specs.Either.{in_either}
-use Rattle.block_assembly.specs.declared.assembly.TheConstants.{PACKET_IDS}
+use Rattle.block_assembly.specs.declared.progress.TheConstants.{PACKET_IDS}
 
 both_same : (a b c d : Bool) → a ≡ c → b ≡ d → (a || b) ≡ (c || d)
 both_same a b c d e f = rw (e, f) refl

@@ -4,9 +4,9 @@ use Rattle.std.specs.List.{AllZip, AllByRecursion}
 use Rattle.std.specs.Vec.{vec_len, vec_capacity}
 use Rattle.stream_packets.specs.Packets.{StreamPacket}
 use Rattle.block_image.specs.Sizes.{IsPayloadSize}
-use Rattle.block_assembly.specs.declared.assembly.Assembly.{Assembly}
+use Rattle.block_assembly.specs.declared.progress.Progress.{Progress}
 use Rattle.block_assembly.specs.Assembly.{AssemblyStands}
-use Rattle.block_assembly.specs.declared.assembly.TheConstants.{PACKET_IDS}
+use Rattle.block_assembly.specs.declared.progress.TheConstants.{PACKET_IDS}
 use Rattle.acquisition_machine.specs.declared.config.AcqConfig.{AcqConfig}
 use Rattle.acquisition_machine.specs.declared.counts.Counts.{Counts}
 use Rattle.acquisition_machine.specs.Blocks.{Given, Open}
@@ -25,7 +25,7 @@ pub record IsWide (spare : Spare) : Type 0 where
   pub refused : length spare.refused ≡ PACKET_IDS
 
 -- the buffer of this place, in the assembly of the packets that were heard
-pub record IsFilling (p b : ℕ) (at : ℕ) (assembly : Assembly) (g : Given) (heard : List StreamPacket) : Type 0 where
+pub record IsFilling (p b : ℕ) (at : ℕ) (assembly : Progress) (g : Given) (heard : List StreamPacket) : Type 0 where
   pub place : at ≡ g.place
   pub stands : AssemblyStands assembly p b g.size heard
 

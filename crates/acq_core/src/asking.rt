@@ -3,7 +3,7 @@
 ghost use Rattle.std.specs.Prelude.{◌≡◌, ℕ, ◌==◌, ◌&&◌, ◌||◌, ◌-◌, nat_lt, nat_le, [], List, take};
 ghost use Rattle.stream_packets.specs.Packets.{StreamPacket};
 ghost use Rattle.missing_ranges.specs.Missing.{missing};
-ghost use Rattle.block_assembly.specs.Assembly.{AssemblyStands, StandsForSome};
+ghost use Rattle.block_assembly.specs.Assembly.{AssemblyStands};
 ghost use Rattle.acquisition_machine.specs.Blocks.{Open, ranges_asked};
 ghost use Rattle.acq_core.specs.Standing.{SlotStands, IsSlot};
 
@@ -30,7 +30,6 @@ fn is_time(slot: &Slot, config: AcqConfig, moment: u64) -> bool
 
 /// The first eight missing ranges of a block.
 fn missing(assembly: &Assembly, out: &mut Ranges)
-    requires { StandsForSome assembly.now }
     ensures { (p b size : ℕ) (heard : List StreamPacket) → AssemblyStands assembly.now p b size heard
         → out.new.items ≡ take 8 (missing p b heard) }
 {

@@ -3,3 +3,4 @@ pub mod ReplayLines
 pub mod StepLine
 pub mod CameraLines
 pub mod SoakLine
+pub mod LiveLine

@@ -5,6 +5,7 @@
 
 mod camera_lines;
 mod end_counts;
+mod live_lines;
 mod piece;
 mod replay_lines;
 mod soak_lines;
@@ -16,6 +17,7 @@ mod writing;
 
 pub use camera_lines::{line_ack, line_executed, line_frame, line_stream};
 pub use end_counts::EndCounts;
+pub use live_lines::line_live;
 pub use replay_lines::{
     line_end, line_id, line_number, line_request, line_result, line_step, line_take, line_value,
 };

@@ -183,8 +183,9 @@ fn last_lines(rt: HostRuntime) -> Result<(), Fail> {
     };
     line_end(alloc, &counts, &mut out)?;
     line_soak(alloc, &numbers, &mut out)?;
+    line_live(alloc, 20, 0, &mut out)?;
     let wanted =
-        "end taken=1 fills=2 complete=3 underrun=4 requests=5 foreign=6 late=7 repeat=8 misfit=9 starved=10 notice=11 idle=18446744073709551615\nsoak frames=3 taken=3 complete=2 incomplete=1 underrun=0 requests=5 commands=4\n";
+        "end taken=1 fills=2 complete=3 underrun=4 requests=5 foreign=6 late=7 repeat=8 misfit=9 starved=10 notice=11 idle=18446744073709551615\nsoak frames=3 taken=3 complete=2 incomplete=1 underrun=0 requests=5 commands=4\nlive frames=20 taken=0\n";
     assert_eq!(rt; out.as_slice(), wanted.as_bytes());
     Ok(())
 }

@@ -8,14 +8,13 @@ use Rattle.lossy_queue.specs.declared.datagram.Channel.TheVariants.{Stream}
 use Rattle.lossy_queue.specs.declared.datagram.Datagram.{Datagram}
 use Rattle.client_machine.specs.Machine.{Asked, Told, to_send, taken, ticked}
 use Rattle.camera_machine.specs.Camera.{Camera, is_open}
-use Rattle.camera_machine.specs.Stream.{framed, with_frame, next_frame}
 use Rattle.camera_machine.specs.Events.{Turn, command_turn, tick_turn, frame_turn}
 use Rattle.soak_host.specs.Receiver.{Receiver}
 use Rattle.world_machine.specs.State.{Run, World}
 use Rattle.world_machine.specs.Queues.{to_host, sent_to_camera, ack_to_host, packets_to_host}
 use Rattle.world_machine.specs.ClientTurn.{client_peer, submits, begins, setup_commands, stream_peer, client_turn}
 use Rattle.world_machine.specs.CameraTurn.{turned, obeys, obeys_all, looks, camera_turn, is_due, makes}
-use Rattle.gev_world.proofs.FrameCounts.{Counts, counts_looked, counts_commanded}
+use Rattle.camera_machine.proofs.FrameCounts.{Counts, counts_looked, counts_commanded, counts_framed}
 
 -- ---- what goes into the queues changes nothing else
 
@@ -76,13 +75,6 @@ pub record RestsAfter (begun : ℕ) (w : World Receiver) : Type 0 where
   pub idle : w.camera.waiting ≡ []
   pub counts : w.camera.shelf.count ≤ w.made
   pub begun_is : w.begun ≡ begun
-
-counts_framed : (s : Camera) (n : ℕ) → Counts n s → Counts (n + 1) (framed s)
-counts_framed s n h = go (is_open s)
-  where
-    go : (b : Bool) → Counts (n + 1) (if b then with_frame s (next_frame s) else s)
-    go true = omega (arith, h)
-    go false = omega (arith, h)
 
 after_rests : (begun made : ℕ) (w : World Receiver) → Rests begun made w → RestsAfter begun w
 after_rests begun made w h = record { idle = h.idle; counts = subst (λ n. w.camera.shelf.count ≤ n) (sym h.made_is) h.counts; begun_is = h.begun_is }

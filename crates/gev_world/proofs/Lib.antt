@@ -1,4 +1,3 @@
-pub mod FrameCounts
 pub mod Composing
 pub mod Steps
 pub mod Between

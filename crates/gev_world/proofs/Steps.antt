@@ -7,6 +7,7 @@ use Rattle.lossy_queue.specs.declared.datagram.Channel.TheVariants.{Control, Str
 use Rattle.camera_machine.specs.Camera.{Camera, Job}
 use Rattle.camera_machine.specs.Commands.{commanded}
 use Rattle.camera_machine.specs.Stream.{first_waiting, without_first, given, all_waiting, emptied}
+use Rattle.camera_machine.proofs.Order.{first_and_rest}
 use Rattle.soak_host.specs.Receiver.{Receiver, start}
 use Rattle.world_machine.specs.State.{Run, World}
 use Rattle.world_machine.specs.Queues.{to_host, ack_to_host, packets_to_host}
@@ -47,17 +48,6 @@ acked old new camera bytes answer e told d =
     }
 
 -- ---- what waits
-
--- the packet that waits first, and the others
-pub first_and_rest : (jobs : List Job) (x : StreamPacket) → first_waiting jobs ≡ Some x → all_waiting jobs ≡ x ∷ all_waiting (without_first jobs)
-first_and_rest [] x e = absurd (cc)
-first_and_rest (job ∷ jobs) x e = go job.packets e
-  where
-    go : (packets : List StreamPacket) → first_waiting (record job { packets = packets } ∷ jobs) ≡ Some x
-        → all_waiting (record job { packets = packets } ∷ jobs) ≡ x ∷ all_waiting (without_first (record job { packets = packets } ∷ jobs))
-    go [] e = absurd (cc)
-    go (y ∷ []) e = let same : y ≡ x = cc in ap (λ (v : StreamPacket). v ∷ all_waiting jobs) same
-    go (y ∷ z ∷ ys) e = let same : y ≡ x = cc in ap (λ (v : StreamPacket). v ∷ z ∷ ys ++ all_waiting jobs) same
 
 camera_after : (old new : Stage) (c : CarriesOne old new) → new.camera ≡ given old.camera
 camera_after old new c = ap (λ (w : World Receiver). w.camera) (c.does.world start)

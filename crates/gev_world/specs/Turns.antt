@@ -35,23 +35,6 @@ abbrev pub commanded_by : Run → List ℕ → World Receiver → World Receiver
 commanded_by run bytes w =
     ack_to_host run (record w { camera = (commanded w.camera client_peer bytes w.moment).camera }) (commanded w.camera client_peer bytes w.moment).ack
 
--- The packet that waited first was fetched: it's so many bytes of these.
-pub record FetchesOne (len : ℕ) (old : Camera) (bytes : List ℕ) (new : Camera) : Type 0 where
-  pub packet : StreamPacket
-  pub first : first_waiting old.waiting ≡ Some packet
-  pub fits : len ≤ length bytes
-  pub spelled : take len bytes ≡ plain packet
-  pub rest : new ≡ given old
-
--- Nothing waits.
-pub record FetchesNone (old new : Camera) : Type 0 where
-  pub none : old.waiting ≡ []
-  pub same : new ≡ old
-
-abbrev pub Fetches : Option ℕ → Camera → List ℕ → Camera → Type 0
-Fetches None old bytes new = FetchesNone old new
-Fetches (Some len) old bytes new = FetchesOne len old bytes new
-
 -- A packet was given, and is on its way.
 pub record CarriesOne (old new : Stage) : Type 0 where
   pub packet : StreamPacket

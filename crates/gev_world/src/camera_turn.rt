@@ -5,11 +5,11 @@ ghost use Rattle.lossy_queue.specs.declared.datagram.Datagram.{Datagram};
 ghost use Rattle.camera_machine.specs.Stream.{all_waiting};
 ghost use Rattle.world_machine.specs.CameraTurn.{obeys, obeys_all, looks, camera_turn, makes};
 ghost use Rattle.gev_world.specs.Seen.{Does};
-ghost use Rattle.gev_world.specs.Turns.{drains, commanded_by, Fetches, Carries};
+ghost use Rattle.gev_world.specs.Turns.{drains, commanded_by, Carries};
 
 use crate::network::{put_ack, put_packet};
 use crate::stage::Stage;
-use camera_sim::{Camera, MESSAGE_SIZE, PACKET_ROOM};
+use camera_sim::{MESSAGE_SIZE, PACKET_ROOM};
 use control_client::SETUP_SIZE;
 use gev_types::{NoMemory, Peer};
 use lossy_queue::{Datagram, LossyQueue};
@@ -28,22 +28,12 @@ pub struct Rooms {
     pub packet: [u8; PACKET_ROOM],
 }
 
-/// Fetches the packet that waits first, if one does: its length.
-fn fetch(camera: &mut Camera, packet: &mut [u8; PACKET_ROOM]) -> Option<usize>
-    ensures { Fetches result camera.old packet.new camera.new }
-{
-    match camera.next_packet(packet) {
-        Some((_peer, len)) => Some(len),
-        None => None,
-    }
-}
-
 /// Puts the packet that waits first into the host's queue, and tells whether one waited.
 fn carry_next(stage: &mut Stage, packet: &mut [u8; PACKET_ROOM]) -> Result<bool, NoMemory>
     ensures { IfOk result (λ one. Carries one stage.old stage.new) }
 {
-    match fetch(&mut stage.camera, packet) {
-        Some(len) => {
+    match stage.camera.fetch(packet) {
+        Some((_peer, len)) => {
             put_packet(stage, &packet[..len])?;
             Ok(true)
         }
