@@ -8,8 +8,8 @@ use Rattle.script_trace.specs.Laws.{StandsWell, HasSaid}
 use Rattle.camera_trace.specs.Standing as camera
 use Rattle.camera_trace.specs.Laws.{IsTold}
 use Rattle.gev_make.specs.MakeText.{make_text}
-use Rattle.gev_top.specs.declared.status.Status.{Status}
-use Rattle.gev_top.specs.declared.status.Status.TheVariants.{Done, Usage, BadScript, ReadFault, WriteFault, NoMemory, NoAnswer, Refused}
+use Rattle.gev_status.specs.declared.status.Status.{Status}
+use Rattle.gev_status.specs.declared.status.Status.TheVariants.{Done, Usage, BadScript, ReadFault, WriteFault, NoMemory, NoAnswer, Refused}
 use Rattle.gev_top.specs.declared.command.Command.{Command}
 use Rattle.gev_top.specs.declared.command.Command.TheVariants.{Replay, Camera, Make, Soak}
 use Rattle.gev_top.specs.Scripts.{Ends, IfEnded, AnswersContent}

@@ -1,12 +1,8 @@
 //! `gevacq`, a host for GigE Vision cameras: the command line, standard input and standard output.
 #![tactic(auto)]
 
-mod standard_input;
-mod standard_output;
-
+use gev_real::{StandardInput, StandardOutput};
 use gev_top::{Status, gevacq_top};
-use standard_input::StandardInput;
-use standard_output::StandardOutput;
 use std::process::ExitCode;
 use std::{env, io};
 
