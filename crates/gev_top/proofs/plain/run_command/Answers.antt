@@ -1,6 +1,6 @@
 use Rattle.std.proofs.Common.{refl, sym, subst}
 use Rattle.gev_top.specs.Answers.{Answers}
-use Rattle.gev_top.proofs.top.run_command.Goals as goal
+use Rattle.gev_top.proofs.plain.run_command.Goals as goal
 
 pub returns-in-Make-clause-cause : goal.returns-in-Make-clause-cause
 returns-in-Make-clause-cause g c =

@@ -1,7 +1,7 @@
 -- The exit status of the program for each answer.
 use Rattle.std.specs.Prelude.{ℕ}
-use Rattle.gev_top.specs.declared.status.Status.{Status}
-use Rattle.gev_top.specs.declared.status.Status.TheVariants.{Done, Usage, BadScript, ReadFault, WriteFault, NoMemory, NoAnswer, Refused}
+use Rattle.gev_status.specs.declared.status.Status.{Status}
+use Rattle.gev_status.specs.declared.status.Status.TheVariants.{Done, Usage, BadScript, ReadFault, WriteFault, NoMemory, NoAnswer, Refused}
 
 abbrev pub exit_status : Status → ℕ
 exit_status Done = 0

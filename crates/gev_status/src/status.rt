@@ -1,5 +1,5 @@
 ghost use Rattle.std.specs.Prelude.{◌≡◌};
-ghost use Rattle.gev_top.specs.ExitStatus.{exit_status};
+ghost use Rattle.gev_status.specs.ExitStatus.{exit_status};
 
 use gev_script::ScriptKind;
 use std::fmt;
