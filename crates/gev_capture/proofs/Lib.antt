@@ -1,0 +1,3 @@
+mod Resolving
+pub mod Pieces
+pub mod OneCapture

@@ -1,0 +1,71 @@
+-- What an answer of the code stands for.
+use Rattle.std.specs.Prelude.{◌≡◌, ℕ, ◌+◌, ◌<◌, ◌≤◌, length, slice_get, List, [], ◌∷◌, ◌++◌, Option, Some, None, option_map}
+use Rattle.gev_capture.specs.declared.form.Face.{Face}
+use Rattle.gev_capture.specs.declared.form.Form.{Form}
+use Rattle.gev_capture.specs.declared.form.Form.TheVariants as form
+use Rattle.gev_capture.specs.declared.step.Slot.{Slot}
+use Rattle.gev_capture.specs.declared.step.Change.{Change}
+use Rattle.gev_capture.specs.declared.step.Change.TheVariants.{Same, Cleared, More}
+use Rattle.gev_capture.specs.declared.step.Found.{Found}
+use Rattle.gev_capture.specs.declared.step.Step.{Step}
+use Rattle.gev_capture.specs.declared.step.Step.TheVariants.{Wants, Refused, Record}
+use Rattle.gev_capture.specs.Files.{Packet, packet_at, Format, fresh, classic, section, Told, wants, refused, given}
+
+abbrev pub format_of : Form → List Face → Format
+format_of form.Fresh faces = fresh
+format_of (form.Classic order parts link) faces = classic order parts link
+format_of (form.Section order time) faces = section order faces time
+
+abbrev pub faces_after : Change → List Face → List Face
+faces_after Same faces = faces
+faces_after Cleared faces = []
+faces_after (More face) faces = faces ++ face ∷ []
+
+abbrev pub slot_packet : List ℕ → Slot → Packet
+slot_packet bytes slot = packet_at slot.time slot.link slot.at slot.count bytes
+
+abbrev pub told_by : List Face → List ℕ → Step → Told
+told_by faces bytes (Wants n) = wants n
+told_by faces bytes (Refused kind) = refused kind
+told_by faces bytes (Record found) =
+    given found.size (format_of found.form (faces_after found.change faces)) (option_map (slot_packet bytes) found.packet)
+
+-- a second has parts
+abbrev pub HasParts : Form → Type 0
+HasParts form.Fresh = Unit {0}
+HasParts (form.Classic order parts link) = 1 ≤ parts
+HasParts (form.Section order time) = Unit {0}
+
+-- one more interface, where there is room for one
+abbrev pub MayChange : List Face → Change → Type 0
+MayChange faces Same = Unit {0}
+MayChange faces Cleared = Unit {0}
+MayChange faces (More face) = (length faces < 256) × (1 ≤ face.parts)
+
+-- the packet stands within its record
+abbrev pub StandsWithin : ℕ → Option Slot → Type 0
+StandsWithin size None = Unit {0}
+StandsWithin size (Some slot) = slot.at + slot.count ≤ size
+
+-- the record is among the bytes, and may be told of
+pub record IsFound (faces : List Face) (bytes : List ℕ) (found : Found) : Type 0 where
+  pub some : 1 ≤ found.size
+  pub within : found.size ≤ length bytes
+  pub form : HasParts found.form
+  pub change : MayChange faces found.change
+  pub packet : StandsWithin found.size found.packet
+
+-- No answer wants more bytes than a block may have.
+abbrev pub IsStep : List Face → List ℕ → Step → Type 0
+IsStep faces bytes (Wants n) = (length bytes < n) × (n ≤ 1048576)
+IsStep faces bytes (Refused kind) = Unit {0}
+IsStep faces bytes (Record found) = IsFound faces bytes found
+
+-- each interface of a section divides a second
+abbrev pub HaveParts : List Face → Type 0
+HaveParts faces = (k : ℕ) (face : Face) → slice_get faces k ≡ Some face → 1 ≤ face.parts
+
+-- the answer that was found, or else the next one
+abbrev pub or_next : Option Told → Told → Told
+or_next None next = next
+or_next (Some answer) next = answer

@@ -1,0 +1,13 @@
+//! Laws over the definitions, each the contract of a function with nothing to do.
+
+ghost use Rattle.gev_capture.specs.Laws.{PiecesTell, CapturesAreOne};
+
+/// What the bytes of a capture so far tell is what all its bytes tell.
+pub fn pieces_tell()
+    ensures { PiecesTell }
+{}
+
+/// Any bytes are a capture in exactly one way: its packets, and how it ends.
+pub fn captures_are_one()
+    ensures { CapturesAreOne }
+{}
