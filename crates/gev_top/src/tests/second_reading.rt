@@ -8,7 +8,8 @@ use clap::builder::ValueParser;
 use clap::error::ErrorKind;
 use clap::{Arg, ArgMatches, Error};
 use lossy_queue::Rates;
-use std::alloc::{AllocError, Global};
+use std::alloc::{AllocError, AllocGlobal, Global};
+use std::process::Abort;
 use std::test::Fail;
 
 /// The words of a command line.
@@ -281,18 +282,22 @@ fn both_read_words_alone(rt: HostRuntime) -> Result<(), Fail> {
     Ok(())
 }
 
-#[test]
-fn both_read_words_and_numbers(rt: HostRuntime) -> Result<(), Fail> {
-    for table in [made(), soaked()] {
-        for (words, command) in table {
-            assert_eq!(rt;
-                readings(rt.alloc(), words)?,
-                [Some(command); 2],
-                "{words:?}"
-            );
-        }
+/// Both read these words as these commands.
+fn both_read(rt: &(impl Abort + AllocGlobal), table: &[(Words, Command)]) -> Result<(), Fail> {
+    for (words, command) in table {
+        assert_eq!(rt;
+            readings(rt.alloc(), words)?,
+            [Some(*command); 2],
+            "{words:?}"
+        );
     }
     Ok(())
+}
+
+#[test]
+fn both_read_words_and_numbers(rt: HostRuntime) -> Result<(), Fail> {
+    both_read(&rt, made().as_slice())?;
+    both_read(&rt, soaked().as_slice())
 }
 
 #[test]
