@@ -1,18 +1,13 @@
 //! `gevacq`, a host for GigE Vision cameras: the command line, standard input and standard output.
 #![tactic(auto)]
 
+mod help;
+
+use crate::help::{HELP, USAGE};
 use gev_real::{StandardInput, StandardOutput};
 use gev_top::{Status, gevacq_top};
 use std::process::ExitCode;
 use std::{env, io};
-
-/// A line for each command line.
-const HELP: &str = "\
-usage: gevacq replay
-usage: gevacq camera
-usage: gevacq make <seed> <frames> <loss> <repeat> <swap>
-usage: gevacq soak <seed> <frames> <loss> <repeat> <swap> [short]
-";
 
 /// The program's name and version.
 const VERSION: &str = "gevacq 0.2.0\n";
@@ -42,10 +37,10 @@ fn words(rt: &HostRuntime) -> Result<Vec<String>, Status> {
     Ok(words)
 }
 
-/// Answers `--help` and `--version`, and hands every other command line on.
+/// Answers `--help`, `-h` and `--version`, and hands every other command line on.
 fn run(rt: &HostRuntime, words: &[String]) -> Status {
     if let [word] = words {
-        if word.as_str() == "--help" {
+        if word.as_str() == "--help" || word.as_str() == "-h" {
             return print(rt, HELP);
         }
         if word.as_str() == "--version" {
@@ -65,14 +60,14 @@ fn print(rt: &HostRuntime, text: &str) -> Status {
     }
 }
 
-/// Prints the text of a fault on standard error, and the help where the words weren't understood.
+/// Prints the text of a fault on standard error, and the command lines where the words weren't understood.
 fn report(rt: &HostRuntime, status: Status) -> io::Result<()> {
     if status == Status::Done {
         return Ok(());
     }
     eprintln!(rt; "gevacq: {status}")?;
     if let Status::Usage { place: _ } = status {
-        eprint!(rt; "{HELP}")?;
+        eprint!(rt; "{USAGE}")?;
     }
     Ok(())
 }

@@ -1,0 +1,46 @@
+//! The texts of the help.
+
+/// What each command does, reads and writes, with the ranges of its words.
+pub(crate) const HELP: &str = "\
+gevacq: images of a GigE Vision camera from its datagrams, in GenTL buffers
+
+gevacq replay
+    Runs a script of buffer calls, datagrams and moments: reads it from standard
+    input and writes its report, line by line, to standard output.
+
+gevacq camera
+    Runs a script of control messages on a simulated camera: reads it from
+    standard input and writes what the camera answers and sends.
+
+gevacq make <seed> <frames> <loss> <repeat> <swap>
+    Writes a replay script of so many test images behind a network that loses,
+    repeats and swaps so many packets of a thousand. Reads nothing.
+
+gevacq soak <seed> <frames> <loss> <repeat> <swap> [short]
+    Runs a camera, such a network, a client and a receiver as one machine, and
+    writes a line for each buffer that is taken, and at last what was counted.
+    Reads nothing. With `short` the image of block b lacks its last b mod 8
+    lines.
+
+gevacq --help, gevacq -h
+    Prints this text.
+
+gevacq --version
+    Prints the name and the version.
+
+<seed>                      0 to 18446744073709551615
+<frames>                    0 to 100000
+<loss>, <repeat>, <swap>    0 to 1000, of a thousand packets
+
+Numbers are decimal, without a sign and without a leading zero. The lines of
+scripts and reports, the wire formats and the exit statuses are described in
+docs/FORMATS.md.
+";
+
+/// A line for each command line, printed behind the text of words that weren't understood.
+pub(crate) const USAGE: &str = "\
+usage: gevacq replay
+usage: gevacq camera
+usage: gevacq make <seed> <frames> <loss> <repeat> <swap>
+usage: gevacq soak <seed> <frames> <loss> <repeat> <swap> [short]
+";
