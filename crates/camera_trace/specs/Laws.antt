@@ -9,6 +9,7 @@ use Rattle.script_runs.specs.Verdicts.{Judges}
 use Rattle.camera_machine.specs.Camera.{Camera}
 use Rattle.camera_machine.specs.Stream.{waiting_count, packets_given, after_given}
 use Rattle.camera_machine.specs.Events.{Event, Turn, turn_of, after}
+use Rattle.camera_machine.specs.Sending.{IsNeverSet}
 use Rattle.camera_trace.specs.Serving.{Serving, Part, script_camera, Does}
 use Rattle.camera_trace.specs.Standing.{Standing, first, running, later_kind, IsCameraLine, CameraRuns, CameraRefuses, camera_verdict, IsBehind}
 use Rattle.camera_trace.specs.Printing.{printed_by, ComesTo}
@@ -66,11 +67,13 @@ LinesAreEvents =
     (past : List Event) (s : Serving) (l : ScriptLine) (part : Part) → s.camera ≡ after script_camera past
     → Does s l part → IsOfEvents past s l part
 
--- The camera of a script came of events that printed the report so far, and nothing waits.
+-- The camera of a script came of events that printed the report so far, and nothing waits. None of them
+-- makes frames short, so all its frames are whole.
 pub record IsToldBy (text : List ℕ) (s : Serving) : Type 0 where
   pub events : List Event
   pub camera : s.camera ≡ after script_camera events
   pub report : text ≡ printed_by script_camera events
+  pub whole : IsNeverSet events
   pub rests : s.camera.waiting ≡ []
 
 abbrev pub IsTold : List ℕ → Standing → Type 0

@@ -6,7 +6,7 @@ use Rattle.gentl_types.specs.declared.errors.GcError.{GcError}
 use Rattle.gentl_types.specs.declared.errors.GcError.TheVariants.{InvalidHandle, Timeout, Abort}
 use Rattle.gentl_types.specs.declared.errors.Shown.TheVariants as shown
 use Rattle.board_machine.specs.declared.events.Event.{Event}
-use Rattle.gev_links.specs.Moments.{Tells}
+use Rattle.gev_links.specs.Moments.{Tells, TellsEach}
 use Rattle.buffer_words.specs.Passes.{Token, lifted, SameHands}
 use Rattle.buffer_words.specs.Loans.{Lent}
 use Rattle.buffer_words.specs.Several.{EntersEach, EntersOf, EntersThen}

@@ -29,16 +29,16 @@ payloads_more start now after frame p k bytes h e b = rw add-one (
 pub packets_are : (old first now after : Network) (frame : Frame) (p n : ℕ)
     → first ≡ carried old (plain (leader (sent_head frame 0) (leader_info frame)))
     → now ≡ all_carried first (payloads_of frame p n) → n ≡ payload_count p (length frame.pixels)
-    → after ≡ carried now (plain (trailer (sent_head frame (n + 1)) frame.size_y))
+    → after ≡ carried now (plain (trailer (sent_head frame (n + 1)) frame.rows))
     → after ≡ all_carried old (packets_of frame p)
 packets_are old first now after frame p n f h c e =
-    let whole : after ≡ all_carried first (payloads_of frame p n ++ trailer (sent_head frame (n + 1)) frame.size_y ∷ []) =
-    e ∙ (ap (λ (m : Network). carried m (plain (trailer (sent_head frame (n + 1)) frame.size_y))) h
-    ∙ sym (all_carried-append first (payloads_of frame p n) (trailer (sent_head frame (n + 1)) frame.size_y ∷ []))) in
-    let at : all_carried first (payloads_of frame p n ++ trailer (sent_head frame (n + 1)) frame.size_y ∷ [])
-    ≡ all_carried (carried old (plain (leader (sent_head frame 0) (leader_info frame)))) (payloads_of frame p n ++ trailer (sent_head frame (n + 1)) frame.size_y ∷ []) =
-    ap (λ (m : Network). all_carried m (payloads_of frame p n ++ trailer (sent_head frame (n + 1)) frame.size_y ∷ [])) f in
-    whole ∙ (at ∙ ap (λ (m : ℕ). all_carried (carried old (plain (leader (sent_head frame 0) (leader_info frame)))) (payloads_of frame p m ++ trailer (sent_head frame (m + 1)) frame.size_y ∷ [])) c)
+    let whole : after ≡ all_carried first (payloads_of frame p n ++ trailer (sent_head frame (n + 1)) frame.rows ∷ []) =
+    e ∙ (ap (λ (m : Network). carried m (plain (trailer (sent_head frame (n + 1)) frame.rows))) h
+    ∙ sym (all_carried-append first (payloads_of frame p n) (trailer (sent_head frame (n + 1)) frame.rows ∷ []))) in
+    let at : all_carried first (payloads_of frame p n ++ trailer (sent_head frame (n + 1)) frame.rows ∷ [])
+    ≡ all_carried (carried old (plain (leader (sent_head frame 0) (leader_info frame)))) (payloads_of frame p n ++ trailer (sent_head frame (n + 1)) frame.rows ∷ []) =
+    ap (λ (m : Network). all_carried m (payloads_of frame p n ++ trailer (sent_head frame (n + 1)) frame.rows ∷ [])) f in
+    whole ∙ (at ∙ ap (λ (m : ℕ). all_carried (carried old (plain (leader (sent_head frame 0) (leader_info frame)))) (payloads_of frame p m ++ trailer (sent_head frame (m + 1)) frame.rows ∷ [])) c)
 
 take_whole : (xs : List ℕ) (n : ℕ) → length xs ≤ n → take n xs ≡ xs
 take_whole xs n h =

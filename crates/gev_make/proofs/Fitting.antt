@@ -133,7 +133,7 @@ packets_fit frame small =
     let n : ℕ = payload_count payload_size (length frame.pixels) in
     All-cons IsPlain _ _ (fields_fit (sent_head frame 0) leader_format (leader_fields 0 0 image_payload (leader_info frame)) (lit≤ tt))
     (All-append IsPlain (payloads_of frame payload_size n) _ (payloads_fit frame n small)
-    (All-cons IsPlain _ [] (fields_fit (sent_head frame (n + 1)) trailer_format (trailer_fields 0 image_payload frame.size_y) (lit≤ tt)) (All-nil IsPlain)))
+    (All-cons IsPlain _ [] (fields_fit (sent_head frame (n + 1)) trailer_format (trailer_fields 0 image_payload frame.rows) (lit≤ tt)) (All-nil IsPlain)))
 
 -- ---- the network
 

@@ -9,7 +9,7 @@ ghost use Rattle.gev_make.specs.Network.{carried, all_carried};
 use crate::network::{Network, carry};
 use gev_types::{Frame, NoMemory};
 use gvsp_wire::{write_leader, write_payload, write_trailer};
-use stream_packets::{Head, LeaderInfo};
+use stream_packets::{Head, leader_info};
 
 /// The bytes of a payload, where a packet has 1500 with all its headers.
 pub const PAYLOAD_SIZE: usize = 1452;
@@ -34,40 +34,23 @@ fn head(block: u64, id: u32) -> Head
     }
 }
 
-fn info(frame: &Frame) -> LeaderInfo
-    requires { IsFrame frame.now }
-    ensures { result ≡ leader_info frame.now }
-{
-    LeaderInfo {
-        timestamp: frame.timestamp,
-        pixel: frame.pixel,
-        size_x: frame.size_x,
-        size_y: frame.size_y,
-        offset_x: frame.offset_x,
-        offset_y: frame.offset_y,
-        padding_x: frame.padding_x,
-        padding_y: frame.padding_y,
-        size: frame.pixels.as_slice().len() as u32,
-    }
-}
-
 fn carry_leader(network: &mut Network, frame: &Frame) -> Result<(), NoMemory>
     requires valid { IsFrame frame.now }
     requires block { 1 ≤ frame.now.block }
     ensures { OnOk result (network.new ≡ carried network.old (plain (leader (sent_head frame.now 0) (leader_info frame.now)))) }
 {
     let mut packet = [0; LEADER_SIZE];
-    let len = write_leader(&mut packet, head(frame.block, 0), info(frame));
+    let len = write_leader(&mut packet, head(frame.block, 0), leader_info(frame));
     carry(network, &packet[..len])
 }
 
-fn carry_trailer(network: &mut Network, block: u64, id: u32, size_y: u32) -> Result<(), NoMemory>
+fn carry_trailer(network: &mut Network, block: u64, id: u32, lines: u32) -> Result<(), NoMemory>
     requires block { 1 ≤ block }
     requires id { 1 ≤ id }
-    ensures { OnOk result (network.new ≡ carried network.old (plain (trailer (record { status = 0; flags = 0; block = block; id = id }) size_y))) }
+    ensures { OnOk result (network.new ≡ carried network.old (plain (trailer (record { status = 0; flags = 0; block = block; id = id }) lines))) }
 {
     let mut packet = [0; TRAILER_SIZE];
-    let len = write_trailer(&mut packet, head(block, id), size_y);
+    let len = write_trailer(&mut packet, head(block, id), lines);
     carry(network, &packet[..len])
 }
 
@@ -121,5 +104,5 @@ pub fn carry_frame(network: &mut Network, frame: &Frame) -> Result<(), NoMemory>
             payload_at(frame.pixels.as_slice(), id),
         )?;
     }
-    carry_trailer(network, frame.block, payloads + 1, frame.size_y)
+    carry_trailer(network, frame.block, payloads + 1, frame.rows)
 }

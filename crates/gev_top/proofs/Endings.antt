@@ -8,8 +8,8 @@ use Rattle.script_runs.specs.Runs.{Running, Refusing, RunsLines, AreLines}
 use Rattle.script_runs.specs.Outcomes.{EndsAt, RunEnds}
 use Rattle.script_runs.specs.Verdicts as runs
 use Rattle.script_runs.specs.Verdicts.{Outcome, whole, refused, IfTold}
-use Rattle.gev_top.specs.declared.status.Status.{Status}
-use Rattle.gev_top.specs.declared.status.Status.TheVariants as statuses
+use Rattle.gev_status.specs.declared.status.Status.{Status}
+use Rattle.gev_status.specs.declared.status.Status.TheVariants as statuses
 use Rattle.gev_top.specs.Scripts.{RunsWell, Ends, IfEnded, status_of, AnswersContent}
 use Rattle.gev_top.proofs.Keeping.{IsKept, lines_well, last_well}
 

@@ -7,8 +7,8 @@ use Rattle.script_trace.proofs.Scripts.{runs_keep}
 use Rattle.camera_trace.specs.Standing as camera
 use Rattle.camera_trace.specs.Laws.{IsTold}
 use Rattle.camera_trace.proofs.Telling.{reports_told}
-use Rattle.gev_top.specs.declared.status.Status.{Status}
-use Rattle.gev_top.specs.declared.status.Status.TheVariants as statuses
+use Rattle.gev_status.specs.declared.status.Status.{Status}
+use Rattle.gev_status.specs.declared.status.Status.TheVariants as statuses
 use Rattle.gev_top.specs.Scripts.{Ends, IfEnded}
 use Rattle.gev_top.specs.Answers.{Replays, Serves, StandsAnyhow}
 use Rattle.gev_top.proofs.Keeping.{IsKept}

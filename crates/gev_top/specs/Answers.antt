@@ -8,8 +8,8 @@ use Rattle.script_trace.specs.Laws.{StandsWell, HasSaid}
 use Rattle.camera_trace.specs.Standing as camera
 use Rattle.camera_trace.specs.Laws.{IsTold}
 use Rattle.gev_make.specs.MakeText.{make_text}
-use Rattle.gev_top.specs.declared.status.Status.{Status}
-use Rattle.gev_top.specs.declared.status.Status.TheVariants.{Done, Usage, BadScript, ReadFault, WriteFault, NoMemory, NoAnswer, Refused}
+use Rattle.gev_status.specs.declared.status.Status.{Status}
+use Rattle.gev_status.specs.declared.status.Status.TheVariants.{Done, Usage, BadScript, ReadFault, WriteFault, NoMemory, NoAnswer, Refused}
 use Rattle.gev_top.specs.declared.command.Command.{Command}
 use Rattle.gev_top.specs.declared.command.Command.TheVariants.{Replay, Camera, Make, Soak}
 use Rattle.gev_top.specs.Scripts.{Ends, IfEnded, AnswersContent}
@@ -61,11 +61,11 @@ abbrev pub Answers : Command → Status → Option (List ℕ) → Option (List �
 Answers Replay = Replays
 Answers Camera = Serves
 Answers (Make seed frames rates) = Makes (make_text seed frames rates)
-Answers (Soak seed frames rates) = Soaks (record { seed = seed; frames = frames; rates = rates })
+Answers (Soak seed frames rates short) = Soaks (record { seed = seed; frames = frames; rates = rates; short = short })
 
 -- the answer where a source holds these bytes, but for faults and want of memory
 abbrev pub IsDecided : Command → Status → List ℕ → Type 0
 IsDecided Replay status content = AnswersContent status (outcome replay.replay_verdict content)
 IsDecided Camera status content = AnswersContent status (outcome camera.camera_verdict content)
 IsDecided (Make seed frames rates) status content = ⊤
-IsDecided (Soak seed frames rates) status content = ⊤
+IsDecided (Soak seed frames rates short) status content = ⊤

@@ -7,8 +7,8 @@ use Rattle.script_runs.specs.declared.ending.Ending.TheVariants as endings
 use Rattle.script_runs.specs.Runs.{Running, Refusing, RunTo}
 use Rattle.script_runs.specs.Outcomes.{EndsAt}
 use Rattle.script_runs.specs.Verdicts.{Outcome, whole, refused}
-use Rattle.gev_top.specs.declared.status.Status.{Status}
-use Rattle.gev_top.specs.declared.status.Status.TheVariants.{Done, Usage, BadScript, ReadFault, WriteFault, NoMemory, NoAnswer, Refused}
+use Rattle.gev_status.specs.declared.status.Status.{Status}
+use Rattle.gev_status.specs.declared.status.Status.TheVariants.{Done, Usage, BadScript, ReadFault, WriteFault, NoMemory, NoAnswer, Refused}
 
 -- The line is run from one state to another, of which this holds.
 pub record RunsWell {M : Type 0} (moves : Running M) (Keeps : M → Type 0) (m : M) (n : ℕ) (line : List ℕ) (ran : Ran) (report : List ℕ) (new : M) : Type 0 where

@@ -4,8 +4,8 @@ use Rattle.world_machine.specs.State.{Run}
 use Rattle.gev_world.specs.declared.soak_end.SoakEnd.{SoakEnd}
 use Rattle.gev_world.specs.declared.soak_end.SoakEnd.TheVariants as soaks
 use Rattle.gev_world.specs.Runs.{RunsSoak}
-use Rattle.gev_top.specs.declared.status.Status.{Status}
-use Rattle.gev_top.specs.declared.status.Status.TheVariants.{Done, WriteFault, NoMemory, NoAnswer, Refused}
+use Rattle.gev_status.specs.declared.status.Status.{Status}
+use Rattle.gev_status.specs.declared.status.Status.TheVariants.{Done, WriteFault, NoMemory, NoAnswer, Refused}
 
 -- the answer of a run by how it ended
 abbrev pub status_after : SoakEnd → Status

@@ -1,5 +1,5 @@
 -- The words of the command line: the command that they are, or the first with which no command line goes on.
-use Rattle.std.specs.Prelude.{ℕ, ◌^◌, ◌-◌, List, [], ◌∷◌, codes, Option, Some, None, Result, Ok, Err, slice_get, if◌then◌else◌}
+use Rattle.std.specs.Prelude.{ℕ, ◌^◌, ◌-◌, Bool, true, false, List, [], ◌∷◌, codes, Option, Some, None, Result, Ok, Err, slice_get, if◌then◌else◌}
 use Rattle.std.specs.Str.{bytes_eq}
 use Rattle.gev_script.specs.Words.{Read}
 use Rattle.gev_script.specs.Numbers.{number_in}
@@ -59,26 +59,36 @@ camera_of words = do
   done ← none_at 1 words
   Ok Camera
 
+-- whether this word is `short`, or its place; none is wanted
+abbrev pub short_of : ℕ → Option (List ℕ) → Said Bool
+short_of place None = Ok false
+short_of place (Some word) = if bytes_eq word (codes "short") then Ok true else Err place
+
+abbrev pub short_at : ℕ → List (List ℕ) → Said Bool
+short_at place words = short_of place (slice_get words place)
+
 -- `<seed> <frames> <loss> <repeat> <swap>`, behind the command's name
 abbrev pub numbers_of : List (List ℕ) → Said Numbers
 numbers_of words = do
   seed ← number_at 0 (2 ^ 64 - 1) 1 words
   frames ← number_at 0 100000 2 words
   rates ← rates_of words
-  done ← none_at 6 words
   Ok (record { seed = seed; frames = frames; rates = rates })
 
 -- `make` with these numbers
 abbrev pub make_of : List (List ℕ) → Said Command
 make_of words = do
   n ← numbers_of words
+  done ← none_at 6 words
   Ok (Make n.seed n.frames n.rates)
 
--- `soak` with these numbers
+-- `soak` with these numbers, and the word `short` or none
 abbrev pub soak_of : List (List ℕ) → Said Command
 soak_of words = do
   n ← numbers_of words
-  Ok (Soak n.seed n.frames n.rates)
+  short ← short_at 6 words
+  done ← none_at 7 words
+  Ok (Soak n.seed n.frames n.rates short)
 
 -- the words of which the first is this name
 abbrev pub named : List ℕ → List (List ℕ) → Said Command

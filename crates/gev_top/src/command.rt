@@ -24,5 +24,7 @@ pub enum Command {
         frames: u32,
         /// How often the network loses, repeats and swaps datagrams, each from 0 to 1,000 in thousandths.
         rates: Rates,
+        /// Whether the images are short ones.
+        short: bool,
     },
 }

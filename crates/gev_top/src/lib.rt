@@ -8,14 +8,15 @@
 mod command;
 mod making;
 mod numbers;
+mod plain;
 mod scripts;
 mod soaking;
-mod status;
 #[cfg(test)]
 mod tests;
 mod top;
 mod usage;
 
 pub use command::Command;
-pub use status::Status;
+pub use gev_status::Status;
+pub use plain::plain_top;
 pub use top::gevacq_top;

@@ -2,7 +2,7 @@ ghost use Rattle.std.specs.Prelude.{◌≡◌, ◌≢◌};
 ghost use Rattle.gev_make.specs.MakeText.{make_text};
 ghost use Rattle.gev_top.specs.Answers.{Writes};
 
-use crate::status::Status;
+use gev_status::Status;
 use gev_links::Sink;
 use gev_make::{MakeEnd, make};
 use lossy_queue::Rates;

@@ -5,7 +5,7 @@ ghost use Rattle.gev_top.specs.Answers.{Replays, Serves, IsDecided};
 ghost use Rattle.gev_top.specs.Scripts.{status_of, IfEnded, AnswersContent};
 ghost use Rattle.gev_top.specs.declared.command.Command.TheVariants as commands;
 
-use crate::status::Status;
+use gev_status::Status;
 use camera_replay::CameraRun;
 use gev_links::{Sink, Source};
 use gev_types::NoMemory;

@@ -12,6 +12,7 @@ mod large_images;
 mod making;
 mod refusals;
 mod second_reading;
+mod short_frames;
 mod soaking;
 mod waiting;
 mod words;
@@ -68,6 +69,7 @@ fn replay(alloc: Global, script: &str) -> Result<(Status, Vec<u8>), Fail> {
 fn reports(rt: HostRuntime) -> Result<(), Fail> {
     let tables = [
         blocks::BLOCKS,
+        short_frames::SHORT,
         waiting::WAITING,
         waiting::FEW_BUFFERS,
         board::CALLS,

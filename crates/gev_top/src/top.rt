@@ -5,16 +5,12 @@ ghost use Rattle.gev_top.specs.declared.command.Command.{Command};
 ghost use Rattle.gev_top.specs.Answers.{Answers, IsDecided};
 ghost use Rattle.gev_top.specs.Usage.{command_of, usage_fault};
 
-use crate::command::Command;
-use crate::making::make_script;
-use crate::scripts::{camera, replay};
-use crate::soaking::soak;
-use crate::status::Status;
-use crate::usage::read_words;
+use crate::plain::plain_top;
 use gev_links::{Sink, Source};
+use gev_status::Status;
 use std::alloc::Global;
 
-/// Does what the words say.
+/// Does what the words say. This is what `main` calls.
 ///
 /// `replay` runs the replay script that the source gives, and writes its report to the sink. Each line is
 /// run as it's read, and its report is written before the next line is read. Memory doesn't grow with the
@@ -27,8 +23,9 @@ use std::alloc::Global;
 /// to the sink.
 ///
 /// `soak` with the same numbers runs a camera, a network and a host as one machine, and writes a line for
-/// each buffer that the host takes, and what it counted. Memory grows with the rates, not with the number of
-/// frames.
+/// each buffer that the host takes, and what it counted. With the further word `short` the camera's images
+/// have up to seven lines fewer than their leaders announce. Memory grows with the rates, not with the
+/// number of frames.
 pub fn gevacq_top<S: Source, K: Sink>(
     alloc: Global,
     words: &[String],
@@ -60,38 +57,5 @@ pub fn gevacq_top<S: Source, K: Sink>(
     ensures reads_steady { result ≢ Status.ReadFault → S.faults source.new ≡ S.faults source.old }
     ensures writes_steady { result ≢ Status.WriteFault → K.faults sink.new ≡ K.faults sink.old }
 {
-    match read_words(words) {
-        Ok(command) => run_command(alloc, command, source, sink),
-        Err(place) => Status::Usage { place },
-    }
-}
-
-/// Does what the command says.
-fn run_command<S: Source, K: Sink>(
-    alloc: Global,
-    command: Command,
-    source: &mut S,
-    sink: &mut K,
-) -> Status
-    ensures understood { (place : ℕ) → result ≢ Status.Usage place }
-    ensures cause { Answers command result (S.left source.old) (S.left source.new) (S.faults source.old) (S.faults source.new)
-        (K.written sink.old) (K.written sink.new) (K.faults sink.old) (K.faults sink.new) }
-    ensures exact { IfTold (S.left source.old) (λ content. IsDecided command result content) }
-    ensures reads_steady { result ≢ Status.ReadFault → S.faults source.new ≡ S.faults source.old }
-    ensures writes_steady { result ≢ Status.WriteFault → K.faults sink.new ≡ K.faults sink.old }
-{
-    match command {
-        Command::Replay => replay(alloc, source, sink),
-        Command::Camera => camera(alloc, source, sink),
-        Command::Make {
-            seed,
-            frames,
-            rates,
-        } => make_script(alloc, seed, frames, rates, sink),
-        Command::Soak {
-            seed,
-            frames,
-            rates,
-        } => soak(alloc, seed, frames, rates, sink),
-    }
+    plain_top(alloc, words, source, sink)
 }

@@ -1,7 +1,7 @@
 ghost use Rattle.std.specs.Prelude.{◌≡◌, ◌≤◌, map, IfOk};
 ghost use Rattle.std.specs.String.{string_bytes};
 ghost use Rattle.std.specs.Str.{bytes_eq};
-ghost use Rattle.gev_top.specs.Usage.{number_at, none_at, rates_of, replay_of, camera_of, make_of, soak_of, numbers_of, named, command_of};
+ghost use Rattle.gev_top.specs.Usage.{number_at, none_at, short_at, rates_of, replay_of, camera_of, make_of, soak_of, numbers_of, named, command_of};
 
 use crate::command::Command;
 use crate::numbers::Numbers;
@@ -63,6 +63,7 @@ fn read_make(words: &[String]) -> Result<Command, u32>
         frames,
         rates,
     } = read_numbers(words)?;
+    none_at(6, words)?;
     Ok(Command::Make {
         seed,
         frames,
@@ -70,7 +71,7 @@ fn read_make(words: &[String]) -> Result<Command, u32>
     })
 }
 
-/// The same numbers follow `soak`.
+/// The same numbers follow `soak`, and then the word `short` or none.
 fn read_soak(words: &[String]) -> Result<Command, u32>
     ensures { result ≡ soak_of (map (λ word. string_bytes word) words.now) }
 {
@@ -79,21 +80,23 @@ fn read_soak(words: &[String]) -> Result<Command, u32>
         frames,
         rates,
     } = read_numbers(words)?;
+    let short = short_at(6, words)?;
+    none_at(7, words)?;
     Ok(Command::Soak {
         seed,
         frames,
         rates,
+        short,
     })
 }
 
-/// The numbers behind `make` and `soak`, and no word more.
+/// The numbers behind `make` and `soak`.
 fn read_numbers(words: &[String]) -> Result<Numbers, u32>
     ensures { result ≡ numbers_of (map (λ word. string_bytes word) words.now) }
 {
     let seed = number_at(0, 18_446_744_073_709_551_615, 1, words)?;
     let frames = number_at(0, 100_000, 2, words)? as u32;
     let rates = read_rates(words)?;
-    none_at(6, words)?;
     Ok(Numbers {
         seed,
         frames,
@@ -122,6 +125,22 @@ fn number_at(low: u64, high: u64, place: u32, words: &[String]) -> Result<u64, u
             Err(_) => Err(place),
         },
         None => Err(place),
+    }
+}
+
+/// Whether the word `short` stands at this place; another word is refused by the place.
+fn short_at(place: u32, words: &[String]) -> Result<bool, u32>
+    ensures { result ≡ short_at place (map (λ word. string_bytes word) words.now) }
+{
+    match words.get(place as usize) {
+        Some(word) => {
+            if is(word.as_bytes(), b"short") {
+                Ok(true)
+            } else {
+                Err(place)
+            }
+        }
+        None => Ok(false),
     }
 }
 

@@ -30,7 +30,7 @@ soak_hears : (run : Run) (text : List ℕ) (e : End) (last : ℕ) → run.frames
 soak_hears run text e last short ends = record {
   generated = record {
     same = λ b f is. (frame_of_block run b f is).0;
-    valid = λ size. (hears_its_frames run).frames;
+    valid = λ size lines. (hears_its_frames run).frames;
   };
   payload_size = record { at_least = omega arith; at_most = omega arith };
   heard = λ bytes among.

@@ -58,10 +58,10 @@ events_of run last = events_after run soak_host soak_application start (suc last
 
 -- The receiver's history is a run of the board machine: each buffer has one owner at each step, and filled
 -- buffers are handed out once, in the order of their fills, none after a close. A buffer holds what came of its
--- block's frame, and where it's marked complete, the generator's image.
+-- block's frame, and where it's marked complete, the generator's image, short in a short run.
 pub record TraceHolds (run : Run) (t : Trace) : Type 0 where
   pub promises : KeepsPromises soak_config t
-  pub images : HasGeneratedImages run.seed image_shape (soak_frames run) soak_config t
+  pub images : HasGeneratedImages run.short run.seed image_shape (soak_frames run) soak_config t
 
 -- A run with this text and end is a schedule of a world. It ends in this round, which is one of a bounded
 -- number. Of its text, each take line with `complete=1` has the digest of the image that the generator makes.

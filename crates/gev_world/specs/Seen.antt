@@ -7,7 +7,7 @@ use Rattle.gev_world.specs.declared.stage.Stage.{Stage}
 
 -- what the run is asked for
 abbrev pub run_of : Stage → Run
-run_of s = record { seed = s.seed; frames = s.frames; rates = s.rates }
+run_of s = record { seed = s.seed; frames = s.frames; rates = s.rates; short = s.short }
 
 -- the world with this host
 abbrev pub world_of : Stage → Receiver → World Receiver

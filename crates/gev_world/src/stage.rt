@@ -12,6 +12,8 @@ pub struct Stage {
     pub frames: u32,
     /// How often the network loses, repeats and swaps, each in thousandths.
     pub rates: Rates,
+    /// Whether the camera's frames are short ones.
+    pub short: bool,
     /// The generator of both queues.
     pub generator: Lcg,
     /// What is on its way to the camera's control port.

@@ -13,6 +13,7 @@ struct Run {
     loss: u16,
     repeat: u16,
     swap: u16,
+    short: bool,
 }
 
 /// Runs a world into a sink that takes at most 1000 bytes in a call, and some calls of which fail.
@@ -24,7 +25,9 @@ fn check_run(
     text: &[u8],
 ) -> Result<(), Fail> {
     let alloc = rt.alloc();
-    let mut world = World::new(alloc, run.seed, run.frames, run.loss, run.repeat, run.swap)?;
+    let mut world = World::new(
+        alloc, run.seed, run.frames, run.loss, run.repeat, run.swap, run.short,
+    )?;
     let mut sink = MemorySink::new(alloc, 1000, failing);
     assert_eq!(rt; world.run(alloc, &mut sink), end);
     assert_eq!(rt; sink.written(), text);
@@ -37,6 +40,7 @@ const NO_FRAMES: Run = Run {
     loss: 0,
     repeat: 0,
     swap: 0,
+    short: false,
 };
 
 const THREE_FRAMES: Run = Run {
@@ -45,6 +49,7 @@ const THREE_FRAMES: Run = Run {
     loss: 0,
     repeat: 0,
     swap: 0,
+    short: false,
 };
 
 #[test]
@@ -74,6 +79,7 @@ fn lossy_network(rt: HostRuntime) -> Result<(), Fail> {
         loss: 80,
         repeat: 20,
         swap: 500,
+        short: false,
     };
     let text =
         b"take 0.1 block=1 complete=1 larger=0 leader=1 len=3072 filled=3072 sha256=90e8768f7ceae6decd4a90becc79a34af2d6ac2b86ac132c41cadcaa2e2ddfe5
@@ -88,6 +94,32 @@ soak frames=7 taken=7 complete=6 incomplete=1 underrun=0 requests=3 commands=4
     check_run(&rt, &run, &[], SoakEnd::Done, text)
 }
 
+// Blocks of 41 to 47 lines, and one of all 48. Of a hundred datagrams eight are lost.
+#[test]
+fn short_frames(rt: HostRuntime) -> Result<(), Fail> {
+    let run = Run {
+        seed: 92_712_541,
+        frames: 9,
+        loss: 80,
+        repeat: 0,
+        swap: 0,
+        short: true,
+    };
+    let text =
+        b"take 0.1 block=1 complete=1 larger=0 leader=1 len=3008 filled=3008 sha256=13372586d18d0be4530c1d004b6042cf1fa9c44390701affa8584414a8263227
+take 1.1 block=2 complete=1 larger=0 leader=1 len=2944 filled=2944 sha256=7dbe3a906977a5ab9138a3df3c0c46a4f8153f8d5efa3513cf857f02ac75764a
+take 2.1 block=3 complete=1 larger=0 leader=1 len=2880 filled=2880 sha256=b3ecb8559ee750a942369a0b9f6bac90507ac7f555f07d4b623ecc6f0d8da714
+take 0.1 block=4 complete=1 larger=0 leader=1 len=2816 filled=2816 sha256=12be3aea6d56f57c47ffa020d29e12e40c32ee852387494833a5d8af355bfff9
+take 0.1 block=5 complete=0 larger=0 leader=1 len=2752 filled=1452 sha256=cd9ee4ba2ed37359d041c94b1aa1fa60ef686afa0eec2625d45e97fe4c4d2270
+take 1.1 block=6 complete=1 larger=0 leader=1 len=2688 filled=2688 sha256=111c32cd500fcacdb25d11adf0a1587a9174085d4b57ba464a8e89bac298570f
+take 2.1 block=7 complete=1 larger=0 leader=1 len=2624 filled=2624 sha256=df9099a2e28252e130d5178632df51e076193324e0513a73d0eba709e80a5cf0
+take 0.1 block=8 complete=1 larger=0 leader=1 len=3072 filled=3072 sha256=a467cb414f29d3e04a376179f379e2ea9aa7ef83d59525df3608eca44be555e0
+take 0.1 block=9 complete=1 larger=0 leader=1 len=3008 filled=3008 sha256=f501f282e6768627e72ef131d6019313ca379e455d42c3f61f00054d421149f5
+soak frames=9 taken=9 complete=8 incomplete=1 underrun=0 requests=2 commands=4
+";
+    check_run(&rt, &run, &[], SoakEnd::Done, text)
+}
+
 #[test]
 fn all_lost(rt: HostRuntime) -> Result<(), Fail> {
     let run = Run {
@@ -96,6 +128,7 @@ fn all_lost(rt: HostRuntime) -> Result<(), Fail> {
         loss: 1000,
         repeat: 0,
         swap: 0,
+        short: false,
     };
     check_run(&rt, &run, &[], SoakEnd::NoAnswer(1), &[])
 }
@@ -109,6 +142,7 @@ fn setup_unanswered(rt: HostRuntime) -> Result<(), Fail> {
         loss: 400,
         repeat: 0,
         swap: 30,
+        short: false,
     };
     check_run(&rt, &run, &[], SoakEnd::NoAnswer(4), &[])
 }

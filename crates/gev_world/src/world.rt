@@ -42,17 +42,26 @@ pub struct World {
 }
 
 /// All but the host, at the start.
-fn new_stage(alloc: Global, seed: u64, frames: u32, rates: Rates) -> Result<Stage, NoMemory>
-    ensures { IfOk result (λ stage. IsNewStage (record { seed = seed; frames = frames; rates = rates }) stage) }
+fn new_stage(
+    alloc: Global,
+    seed: u64,
+    frames: u32,
+    rates: Rates,
+    short: bool,
+) -> Result<Stage, NoMemory>
+    ensures { IfOk result (λ stage. IsNewStage (record { seed = seed; frames = frames; rates = rates; short = short }) stage) }
 {
+    let mut camera = Camera::new(alloc, seed, IMAGE, STORE_ROOM)?;
+    camera.set_short(short);
     Ok(Stage {
         seed,
         frames,
         rates,
+        short,
         generator: Lcg::new(seed),
         to_camera: LossyQueue::new(alloc),
         to_host: LossyQueue::new(alloc),
-        camera: Camera::new(alloc, seed, IMAGE, STORE_ROOM)?,
+        camera,
         client: Client::new(),
         moment: 0,
         begun: 0,
@@ -99,7 +108,8 @@ fn stopped(stop: Stop) -> SoakEnd
 
 impl World {
     /// A world in which nothing happened yet. Images and network are those of the seed; of 1000
-    /// datagrams so many are lost, repeated, and swapped with the one behind.
+    /// datagrams so many are lost, repeated, and swapped with the one behind. In a short world the image
+    /// of block `b` has `b % 8` lines fewer than its leader announces.
     pub fn new(
         alloc: Global,
         seed: u64,
@@ -107,11 +117,13 @@ impl World {
         loss: u16,
         repeat: u16,
         swap: u16,
+        short: bool,
     ) -> Result<World, NoMemory>
-        ensures { IfOk result (λ world. BeginsRun (record { seed = seed; frames = frames; rates = record { loss = loss; repeat = repeat; swap = swap } }) world) }
+        ensures { IfOk result (λ world. BeginsRun
+            (record { seed = seed; frames = frames; rates = record { loss = loss; repeat = repeat; swap = swap }; short = short }) world) }
     {
         let rates = Rates { loss, repeat, swap };
-        let stage = new_stage(alloc, seed, frames, rates)?;
+        let stage = new_stage(alloc, seed, frames, rates, short)?;
         let host = SoakReceiver::new(alloc)?;
         Ok(World {
             stage,

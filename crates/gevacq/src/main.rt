@@ -1,12 +1,8 @@
 //! `gevacq`, a host for GigE Vision cameras: the command line, standard input and standard output.
 #![tactic(auto)]
 
-mod standard_input;
-mod standard_output;
-
+use gev_real::{StandardInput, StandardOutput};
 use gev_top::{Status, gevacq_top};
-use standard_input::StandardInput;
-use standard_output::StandardOutput;
 use std::process::ExitCode;
 use std::{env, io};
 
@@ -15,7 +11,7 @@ const HELP: &str = "\
 usage: gevacq replay
 usage: gevacq camera
 usage: gevacq make <seed> <frames> <loss> <repeat> <swap>
-usage: gevacq soak <seed> <frames> <loss> <repeat> <swap>
+usage: gevacq soak <seed> <frames> <loss> <repeat> <swap> [short]
 ";
 
 /// The program's name and version.

@@ -9,6 +9,9 @@ use crate::writing::{EXTENDED_ID, STANDARD_SIZE, write_wide};
 use std::marker::Model;
 use wire_fields::u16_at;
 
+/// The block id that no packet has.
+const NO_BLOCK: u16 = 0;
+
 /// Gives datagrams of a stream with standard identifiers extended ones. Contracts see the greatest
 /// block given so far, 0 before the first.
 #[derive(Debug, Drop)]
@@ -66,7 +69,7 @@ impl Widener {
             return Err(StdError::Extended);
         }
         let id = u16_at(bytes, 2);
-        if id == 0 {
+        if id == NO_BLOCK {
             return Err(StdError::Zero);
         }
         let Some(block) = chosen(self.top, id) else {

@@ -4,19 +4,26 @@ ghost use Rattle.buffer_words.specs.Boards.{board_id};
 ghost use Rattle.buffer_words.specs.Passes.{IsEmptyHanded};
 
 use super::*;
-use buffer_words::{Board, Pass, State, Word};
+use buffer_words::{Board, Pass, State, Tried, Word};
 use gev_types::Buf;
 use std::alloc::Global;
 use std::sync::Wait;
 use std::test::Fail;
 use std::thread;
 use std::thread::Threads;
+use std::time::{Clock, Duration};
 
 const HELD: Word = Word {
     state: State::Held,
     size: 3,
     generation: 1,
 };
+
+/// How often two threads meet.
+const ROUNDS: u32 = 2000;
+
+/// How often a thread looks for the others before it sleeps.
+const LOOKS: u32 = 5000;
 
 const AWAY: Word = Word {
     state: State::Away,
@@ -95,8 +102,38 @@ fn places_come_lowest_first(rt: HostRuntime) -> Result<(), Fail> {
     Ok(())
 }
 
-/// Claims the pool's lowest place and gives it to the application.
-fn claim_one<R: Wait>(rt: &R, board: &Board, pass: &mut Pass) -> Option<u8>
+/// What a thread did.
+#[derive(Drop)]
+struct Worked {
+    pass: Pass,
+    /// How often it claimed each place.
+    claimed: [u8; 15],
+    /// How often the other thread changed the pool between a look and the claim.
+    lost: u64,
+    /// Whether the pool was empty at the thread's first claim.
+    empty_first: bool,
+}
+
+/// Tries to claim the pool's lowest place, and claims it where that try was lost: the place, and whether a
+/// try was lost. The application has the buffer then.
+fn claim_one<R: Wait>(rt: &R, board: &Board, pass: &mut Pass) -> (Option<u8>, bool)
+    requires table { pass.old.table ≡ board_id board.now }
+    requires empty { IsEmptyHanded pass.old }
+    ensures table { pass.new.table ≡ pass.old.table }
+    ensures empty { IsEmptyHanded pass.new }
+    ensures in_range { IfSome result.0 (λ place. place < place_count) }
+{
+    match board.try_claim(pass) {
+        Tried::Did(Some(place)) => {
+            board.lay(pass, place);
+            (Some(place), false)
+        }
+        Tried::Did(None) => (None, false),
+        Tried::Lost { .. } => (claim_again(rt, board, pass), true),
+    }
+}
+
+fn claim_again<R: Wait>(rt: &R, board: &Board, pass: &mut Pass) -> Option<u8>
     requires table { pass.old.table ≡ board_id board.now }
     requires empty { IsEmptyHanded pass.old }
     ensures table { pass.new.table ≡ pass.old.table }
@@ -121,47 +158,101 @@ fn queue_all(board: &Board, pass: &mut Pass, first: u8, end: u8)
     }
 }
 
-/// Claims until the pool is empty: how often it claimed each place.
-fn claim_all<R: Wait>(rt: &R, board: &Board, pass: &mut Pass) -> [u8; 15]
-    requires table { pass.old.table ≡ board_id board.now }
-    requires empty { IsEmptyHanded pass.old }
-    ensures table { pass.new.table ≡ pass.old.table }
-    ensures empty { IsEmptyHanded pass.new }
+/// Claims until the pool is empty.
+fn claim_all<R: Wait>(rt: &R, board: &Board, mut pass: Pass, empty_first: bool) -> Worked
+    requires table { pass.table ≡ board_id board.now }
+    requires empty { IsEmptyHanded pass }
+    ensures table { result.pass.table ≡ board_id board.now }
+    ensures empty { IsEmptyHanded result.pass }
 {
     let mut claimed = [0u8; 15];
+    let mut lost = 0u64;
     'claims: for _ in rt.forever() {
-        match claim_one(rt, board, pass) {
+        let (found, was_lost) = claim_one(rt, board, &mut pass);
+        lost = lost.saturating_add(u64::from(was_lost));
+        match found {
             Some(place) => {
                 let i = place as usize;
                 claimed[i] = claimed[i].saturating_add(1);
             }
-            None => return claimed,
+            None => {
+                return Worked {
+                    pass,
+                    claimed,
+                    lost,
+                    empty_first,
+                };
+            }
         }
     }
     unreachable!()
 }
 
-/// What a thread did.
-#[derive(Drop)]
-struct Worked {
-    pass: Pass,
-    claimed: [u8; 15],
+/// Looks so many times whether the run word is this one: whether it was.
+fn look_for(board: &Board, pass: &mut Pass, run: u8) -> bool
+    requires table { pass.old.table ≡ board_id board.now }
+    requires empty { IsEmptyHanded pass.old }
+    ensures table { pass.new.table ≡ pass.old.table }
+    ensures empty { IsEmptyHanded pass.new }
+{
+    'looks: for _ in 0..LOOKS {
+        if board.look_run(pass) == run {
+            return true;
+        }
+        std::hint::spin_loop();
+    }
+    false
 }
 
-/// A thread's work: it queues its places, then claims until the pool is empty.
-fn work<R: Wait>(rt: &R, board: &Board, mut pass: Pass, first: u8, end: u8) -> Worked
+/// Looks at the run word until it is this one. Where the other thread isn't there soon it lets it run.
+fn wait_for<R: Wait + Clock>(rt: &R, board: &Board, pass: &mut Pass, run: u8)
+    requires table { pass.old.table ≡ board_id board.now }
+    requires empty { IsEmptyHanded pass.old }
+    ensures table { pass.new.table ≡ pass.old.table }
+    ensures empty { IsEmptyHanded pass.new }
+{
+    'waits: for _ in rt.forever() {
+        if look_for(board, pass, run) {
+            return;
+        }
+        thread::sleep(rt, Duration::from_micros(20));
+    }
+    unreachable!()
+}
+
+/// The one thread's work: it starts the acquisition to tell that it's there, and once that is stopped it
+/// queues its places and claims until the pool is empty.
+fn work_low<R: Wait + Clock>(rt: &R, board: &Board, mut pass: Pass) -> Worked
     requires table { pass.table ≡ board_id board.now }
     requires empty { IsEmptyHanded pass }
-    requires in_range { end ≤ place_count }
     ensures table { result.pass.table ≡ board_id board.now }
     ensures empty { IsEmptyHanded result.pass }
 {
-    queue_all(board, &mut pass, first, end);
-    let claimed = claim_all(rt, board, &mut pass);
-    Worked { pass, claimed }
+    let _ = board.start(&mut pass);
+    wait_for(rt, board, &mut pass, 2);
+    queue_all(board, &mut pass, 0, 8);
+    claim_all(rt, board, pass, false)
 }
 
-fn work_both<R: Threads + Wait + Sync>(
+/// The other thread's work: once the first one is there it claims once, stops the acquisition, which lets
+/// both begin, queues its places and claims until the pool is empty.
+///
+/// Nobody has queued a buffer when it claims first, since the first thread waits for the stop: so this try
+/// is sure to find the pool empty.
+fn work_high<R: Wait + Clock>(rt: &R, board: &Board, mut pass: Pass) -> Worked
+    requires table { pass.table ≡ board_id board.now }
+    requires empty { IsEmptyHanded pass }
+    ensures table { result.pass.table ≡ board_id board.now }
+    ensures empty { IsEmptyHanded result.pass }
+{
+    wait_for(rt, board, &mut pass, 1);
+    let (found, _) = claim_one(rt, board, &mut pass);
+    let _ = board.stop(&mut pass, true);
+    queue_all(board, &mut pass, 8, 15);
+    claim_all(rt, board, pass, found.is_none())
+}
+
+fn work_both<R: Threads + Wait + Clock + Sync>(
     rt: &R,
     board: &Board,
     low: Pass,
@@ -177,40 +268,87 @@ fn work_both<R: Threads + Wait + Sync>(
         move || -> Worked
             requires { (low.table ≡ board_id board.now) × IsEmptyHanded low }
             ensures { (result.pass.table ≡ board_id board.entry.now) × IsEmptyHanded result.pass }
-        { work(rt, board, low, 0, 8) },
+        { work_low(rt, board, low) },
         move || -> Worked
             requires { (high.table ≡ board_id board.now) × IsEmptyHanded high }
             ensures { (result.pass.table ≡ board_id board.entry.now) × IsEmptyHanded result.pass }
-        { work(rt, board, high, 8, 15) },
+        { work_high(rt, board, high) },
     )
 }
 
-// Two threads queue the places 0 to 7 and 8 to 14 and claim until the pool is empty: then each place was
-// claimed once, or is in the pool.
-#[test]
-fn pool_two_threads(rt: HostRuntime) -> Result<(), Fail> {
-    let (board, mut pass) = Board::new(rt.alloc())?;
-    announce_all(rt.alloc(), &board, &mut pass)?;
-    let low = board.split(&mut pass);
-    let high = board.split(&mut pass);
-    let both = work_both(&rt, &board, low, high);
-    let low = both.0;
-    let high = both.1;
-    let by_low = low.claimed;
-    let by_high = high.claimed;
-    board.join(&mut pass, low.pass);
-    board.join(&mut pass, high.pass);
-    let left = board.look_pool(&mut pass);
+/// What was counted in one round, or in all.
+#[derive(Clone, Copy)]
+struct Counts {
+    /// Claims that another thread made lose.
+    lost: u64,
+    /// Rounds in which a thread claimed a place that the other one queued.
+    crossed: u64,
+}
+
+/// Whether each place was claimed once, or is in the pool.
+fn are_all_there(low: &[u8; 15], high: &[u8; 15], left: &[u8]) -> bool {
     for place in 0..15u8 {
         let i = place as usize;
-        let pooled = left.as_slice().contains(&place);
-        let (first, second) = (by_low[i], by_high[i]);
-        let once = match (first, second) {
+        let pooled = left.contains(&place);
+        let once = match (low[i], high[i]) {
             (0, 0) => pooled,
             (1, 0) | (0, 1) => !pooled,
             _ => false,
         };
-        assert!(rt; once);
+        if !once {
+            return false;
+        }
     }
+    true
+}
+
+/// Whether a thread claimed a place of the other one's.
+fn have_crossed(low: &[u8; 15], high: &[u8; 15]) -> bool {
+    low[8..].iter().any(|n| *n > 0) || high[..8].iter().any(|n| *n > 0)
+}
+
+/// Two threads meet at a new board, queue the places 0 to 7 and 8 to 14 and claim until the pool is empty:
+/// then each place was claimed once, or is in the pool.
+fn meet<R: Threads + Wait + Clock + Sync>(rt: &R, alloc: Global) -> Result<Counts, Fail> {
+    let (board, mut pass) = Board::new(alloc)?;
+    announce_all(alloc, &board, &mut pass)?;
+    let low = board.split(&mut pass);
+    let high = board.split(&mut pass);
+    let both = work_both(rt, &board, low, high);
+    let low = both.0;
+    let high = both.1;
+    let (by_low, by_high) = (low.claimed, high.claimed);
+    let lost = low.lost.saturating_add(high.lost);
+    let empty_first = high.empty_first;
+    board.join(&mut pass, low.pass);
+    board.join(&mut pass, high.pass);
+    let left = board.look_pool(&mut pass);
+    if !are_all_there(&by_low, &by_high, left.as_slice()) {
+        return Err(Fail::new("a place was claimed twice, or got lost"));
+    }
+    if !empty_first {
+        return Err(Fail::new("a buffer was there before any was queued"));
+    }
+    let crossed = u64::from(have_crossed(&by_low, &by_high));
+    Ok(Counts { lost, crossed })
+}
+
+// Thousands of times two threads begin at once. That a claim is lost, or gets the other thread's buffer, hangs
+// on the schedule: it's counted and told.
+#[test]
+fn pool_two_threads(rt: HostRuntime) -> Result<(), Fail> {
+    let mut all = Counts {
+        lost: 0,
+        crossed: 0,
+    };
+    for _ in 0..ROUNDS {
+        let round = meet(&rt, rt.alloc())?;
+        all.lost = all.lost.saturating_add(round.lost);
+        all.crossed = all.crossed.saturating_add(round.crossed);
+    }
+    println!(&rt;
+        "{ROUNDS} rounds: lost claims {}, rounds that crossed {}",
+        all.lost, all.crossed
+    )?;
     Ok(())
 }

@@ -22,6 +22,7 @@ fn image(alloc: Global, block: u64, lines: u32) -> Result<Frame, NoMemory>
         pixel: MONO8,
         size_x: 64,
         size_y: lines,
+        rows: lines,
         offset_x: 0,
         offset_y: 0,
         padding_x: 0,

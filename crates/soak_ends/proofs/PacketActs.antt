@@ -5,7 +5,7 @@ use Rattle.std.specs.List.{AllByRecursion, Contains}
 use Rattle.std.proofs.lemmas.Bool.{ltb-true, and_parts}
 use Rattle.std.proofs.lemmas.List.Elements.{All-nil, All-head, All-tail, All-push, All-weaker, All-contains}
 use Rattle.gev_types.specs.declared.frame.Frame.{Frame}
-use Rattle.gev_frames.proofs.Draws.{made_is_frame}
+use Rattle.gev_frames.proofs.Draws.{camera_makes}
 use Rattle.stream_packets.specs.Packets.{StreamPacket}
 use Rattle.stream_packets.specs.Sent.{AreFrames, IsSent}
 use Rattle.gvsp_wire.specs.Reading.{packet_of}
@@ -16,9 +16,10 @@ use Rattle.lossy_queue.specs.declared.datagram.Datagram.{Datagram}
 use Rattle.client_machine.specs.Machine.{Asked}
 use Rattle.acquisition_machine.specs.Blocks.{Open}
 use Rattle.acquisition_machine.specs.Sound.{RiseFrom}
-use Rattle.camera_machine.specs.Camera.{Camera, is_open}
+use Rattle.camera_machine.specs.Camera.{Camera, new_camera, is_open}
 use Rattle.camera_machine.specs.Stream.{first_waiting, waiting_count}
-use Rattle.camera_machine.specs.Events.{frame_turn}
+use Rattle.camera_machine.specs.Events.{frame_turn, past}
+use Rattle.camera_machine.proofs.Sending.{lines_step}
 use Rattle.camera_machine.specs.Events as cameras
 use Rattle.control_session.specs.Schedule.{Act, at_client, at_camera, with_last, camera_events}
 use Rattle.control_session.proofs.Apart.{apart}
@@ -31,6 +32,7 @@ use Rattle.world_machine.specs.Acts.{with_setup, with_client_turn, with_packets,
 use Rattle.world_machine.specs.HostActs.{given_by, host_acts_after, host_hears}
 use Rattle.world_machine.proofs.Fits.{line_of, given_of}
 use Rattle.world_machine.proofs.WholeRounds.{hears_given}
+use Rattle.world_machine.proofs.SetFirst.{shortness_is_set_first}
 use Rattle.soak_host.specs.Receiver.{Receiver, soak_config, soak_host, start}
 use Rattle.soak_ends.specs.Setup.{GoesOn}
 use Rattle.soak_ends.specs.Tail.{HasBlock, HostGoes}
@@ -40,7 +42,7 @@ use Rattle.soak_ends.proofs.TailCamera.{AsksFor}
 use Rattle.soak_ends.proofs.TailWorld.{frames_leave, AskedFor, Began, client_began}
 use Rattle.soak_ends.proofs.TailFalls.{queue_asks, as_before, made_is_shown}
 use Rattle.soak_ends.proofs.Endings.{running, soak_acts_once}
-use Rattle.soak_ends.proofs.PacketChanges.{IsFine, IsFineEvent, frame_events, gives_sent}
+use Rattle.soak_ends.proofs.PacketChanges.{IsFine, IsFineEvent, frame_events, HaveRunRows, gives_sent}
 use Rattle.soak_ends.proofs.PacketReads.{frame_of_block, sent_reads}
 
 -- ---- acts whose commands are fine
@@ -230,7 +232,7 @@ fine_round run w before g h =
     (tt, (tt, fine_client w.client.asked (slice_get (setup_commands stream_peer) w.begun) (rises w).moment before h))
 
 fine_acts : (run : Run) (n : ℕ) → GoesOn run soak_host start (n - 1) → AreFine (acts_after run soak_host start n)
-fine_acts run zero h = tt
+fine_acts run zero h = (tt, tt)
 fine_acts run (suc n) h =
     fine_round run (world_after run soak_host start n) (acts_after run soak_host start n) (running run n (λ m below. h m (omega arith))).goes.host
     (fine_acts run n (λ m below. h m (omega arith)))
@@ -302,31 +304,40 @@ fewer_frames (cameras.command peer bytes moment) es = omega arith
 fewer_frames (cameras.tick moment) es = omega arith
 fewer_frames cameras.make_frame es = omega arith
 fewer_frames cameras.next_packet es = omega arith
+fewer_frames (cameras.set_short short) es = omega arith
 
-given_sent : (run : Run) (acts : List Act) → AreFine acts → frames_in acts ≤ run.frames → All (IsSoakSent run) (given_of run acts)
-given_sent run [] h few = All-nil (IsSoakSent run)
-given_sent run (at_client e ∷ acts) h few = given_sent run acts h.1 few
-given_sent run (at_camera e ∷ acts) h few = last_sent run (given_of run acts) (given_by (line_of run acts).camera e) (given_sent run acts h.1 fewer) (go e)
+given_sent : (run : Run) (acts : List Act) → AreFine acts → HaveRunRows run (camera_events acts) → frames_in acts ≤ run.frames
+    → All (IsSoakSent run) (given_of run acts)
+given_sent run [] h rows few = All-nil (IsSoakSent run)
+given_sent run (at_client e ∷ acts) h rows few = given_sent run acts h.1 rows few
+given_sent run (at_camera e ∷ acts) h rows few =
+    last_sent run (given_of run acts) (given_by (line_of run acts).camera e) (given_sent run acts h.1 earlier fewer) (go e)
   where
+    earlier : HaveRunRows run (camera_events acts)
+    earlier =
+        lines_step run.short image_shape (cameras.after (new_camera run.seed image_shape STORE_ROOM) (camera_events acts)) e
+        (past (new_camera run.seed image_shape STORE_ROOM) (camera_events acts)) rows
+
     fewer : frames_in acts ≤ run.frames
     fewer = omega (arith, fewer_frames e (camera_events acts))
 
     next : IfSome (first_waiting (line_of run acts).camera.waiting) (IsSoakSent run)
     next =
         subst (λ (s : Camera). IfSome (first_waiting s.waiting) (IsSoakSent run)) (sym (apart run.seed image_shape STORE_ROOM acts).camera)
-        (gives_sent run (camera_events acts) (fine_events acts h.1) fewer)
+        (gives_sent run (camera_events acts) (fine_events acts h.1) earlier fewer)
 
     go : (e : cameras.Event) → IfSome (given_by (line_of run acts).camera e) (IsSoakSent run)
     go (cameras.command peer bytes moment) = tt
     go (cameras.tick moment) = tt
     go cameras.make_frame = tt
     go cameras.next_packet = next
+    go (cameras.set_short short) = tt
 
 -- ---- the law
 
 soak_frames_are : (run : Run) → AreFrames (soak_frames run)
 soak_frames_are run = record {
-  valid = λ b f e. rw (frame_of_block run b f e).0 (made_is_frame run.seed b image_shape (omega arith, omega arith));
+  valid = λ b f e. rw (frame_of_block run b f e).0 ((camera_makes run.short run.seed b image_shape).valid (omega arith, omega arith) (λ short. omega arith));
   own_id = λ b f e. ap (λ (g : Frame). g.block) (frame_of_block run b f e).0;
   from_one = λ b f e. (frame_of_block run b f e).1;
 }
@@ -338,7 +349,7 @@ heard_sent run n h bytes among =
     record {
       packet = given.packet;
       spelled = given.spelled;
-      sent = All-contains (IsSoakSent run) (given_of run acts) given.packet (given_sent run acts (fine_acts run n h) (few_frames run n h)) given.among;
+      sent = All-contains (IsSoakSent run) (given_of run acts) given.packet (given_sent run acts (fine_acts run n h) (shortness_is_set_first run soak_host start n).rows (few_frames run n h)) given.among;
     }
 
 pub hears_its_frames : (run : Run) → HearsItsFrames run

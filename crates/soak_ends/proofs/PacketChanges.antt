@@ -28,8 +28,8 @@ use Rattle.camera_machine.specs.Camera.{Camera, Kept, new_camera, is_open, has_l
 use Rattle.camera_machine.specs.Stream.{first_waiting, next_frame}
 use Rattle.camera_machine.specs.Access.{Write, change_of, refusal_of, written, write_all, ended_by, after_one, read_all, addresses_in}
 use Rattle.camera_machine.specs.Commands.{Execution, Answered, answered, read_answer, read_memory, is_memory_size, only_answered, silent, executed_as, from_primary, same_bytes, is_behind, is_access, resend_in, resent, obeyed, renewed, heard, commanded}
-use Rattle.camera_machine.specs.Events.{Event, command, tick, make_frame, next_packet, Deed, changed, made, with_changes, with_execution, with_look, past_with, after, past, changes_in, opens, frames_since_opening, frames_made, executed}
-use Rattle.camera_machine.specs.Sending.{HaveSize, asked_in, AskFromOne}
+use Rattle.camera_machine.specs.Events.{Event, command, tick, make_frame, next_packet, set_short, Deed, changed, made, with_changes, with_execution, with_look, past_with, after, past, changes_in, opens, frames_since_opening, frames_made, executed}
+use Rattle.camera_machine.specs.Sending.{HaveRows, HaveSize, asked_in, AskFromOne}
 use Rattle.camera_machine.proofs.Past.{state_says}
 use Rattle.camera_machine.proofs.Sending.{frames_are, packets_sent}
 use Rattle.world_machine.specs.State.{Run, image_shape, STORE_ROOM}
@@ -129,6 +129,7 @@ IsFineEvent (command peer bytes moment) = IsFine bytes
 IsFineEvent (tick moment) = Unit {0}
 IsFineEvent make_frame = Unit {0}
 IsFineEvent next_packet = Unit {0}
+IsFineEvent (set_short short) = Unit {0}
 
 -- a past that left the packet size, and whose frames went out in payloads of this size
 record HasSize (ds : List Deed) : Type 0 where
@@ -184,6 +185,7 @@ size_step seed e es f before = go e f
     go (tick moment) f = size_look s moment ds before
     go make_frame f = framed (is_open s)
     go next_packet f = before
+    go (set_short short) f = before
 
 size_past : (seed : ℕ) (es : List Event) → AllByRecursion IsFineEvent es → HasSize (past (new_camera seed image_shape STORE_ROOM) es)
 size_past seed [] h = record { left = tt; size = tt }
@@ -195,6 +197,7 @@ asks_from_one (command peer bytes moment ∷ es) h = (h.0.0, asks_from_one es h.
 asks_from_one (tick moment ∷ es) h = asks_from_one es h.1
 asks_from_one (make_frame ∷ es) h = asks_from_one es h.1
 asks_from_one (next_packet ∷ es) h = asks_from_one es h.1
+asks_from_one (set_short short ∷ es) h = asks_from_one es h.1
 
 -- ---- how many frames were made
 
@@ -205,6 +208,7 @@ frame_events (command peer bytes moment ∷ es) = frame_events es
 frame_events (tick moment ∷ es) = frame_events es
 frame_events (make_frame ∷ es) = suc (frame_events es)
 frame_events (next_packet ∷ es) = frame_events es
+frame_events (set_short short ∷ es) = frame_events es
 
 -- the block ids of the frames that were made are at most this
 abbrev AreLow : ℕ → List Deed → Type 0
@@ -281,6 +285,7 @@ few_past seed (tick moment ∷ es) =
     few_look (frame_events es) (after (new_camera seed image_shape STORE_ROOM) es) moment (past (new_camera seed image_shape STORE_ROOM) es) (few_past seed es)
 few_past seed (make_frame ∷ es) = few_made seed (frame_events es) es (few_past seed es)
 few_past seed (next_packet ∷ es) = few_past seed es
+few_past seed (set_short short ∷ es) = few_past seed es
 
 low_is : (n : ℕ) (ds : List Deed) (b : ℕ) (f : Frame) → AreLow n ds → frames_made ds b ≡ Some f → b ≤ n
 low_is n [] b f h e = absurd (cc)
@@ -294,33 +299,37 @@ low_is n (made sent ∷ ds) b f h e = go (sent.frame.block == b) refl e (low_is 
 
 -- ---- what it gives
 
+-- each frame that these events made has the lines of the run's
+abbrev pub HaveRunRows : Run → List Event → Type 0
+HaveRunRows run es = HaveRows run.short image_shape (past (new_camera run.seed image_shape STORE_ROOM) es)
+
 -- a frame that was made is the run's
-made_in : (run : Run) (es : List Event) (b : ℕ) (f : Frame) → frame_events es ≤ run.frames → frames_made (past (new_camera run.seed image_shape STORE_ROOM) es) b ≡ Some f
-    → soak_frames run b ≡ Some f
-made_in run es b f few e =
-    let all = frames_are run.seed image_shape STORE_ROOM es in
-    let one : 1 ≤ b = (all.valid (omega arith, omega arith)).from_one b f e in
+made_in : (run : Run) (es : List Event) (b : ℕ) (f : Frame) → HaveRunRows run es → frame_events es ≤ run.frames
+    → frames_made (past (new_camera run.seed image_shape STORE_ROOM) es) b ≡ Some f → soak_frames run b ≡ Some f
+made_in run es b f rows few e =
+    let all = (frames_are run.seed image_shape STORE_ROOM es).all run.short rows in
+    let one : 1 ≤ b = (all.valid (omega arith, omega arith) (λ short. omega arith)).from_one b f e in
     let most = low_is (frame_events es) (past (new_camera run.seed image_shape STORE_ROOM) es) b f (few_past run.seed es).low e in
     rw (le-leb 1 b one, le-leb b run.frames (omega arith)) (ap (λ (g : Frame). Some g) (sym (all.same b f e)))
 
-carried_in : (run : Run) (es : List Event) (x : StreamPacket) → frame_events es ≤ run.frames
+carried_in : (run : Run) (es : List Event) (x : StreamPacket) → HaveRunRows run es → frame_events es ≤ run.frames
     → CarriesFrame (frames_made (past (new_camera run.seed image_shape STORE_ROOM) es)) soak_config.p x → CarriesFrame (soak_frames run) soak_config.p x
-carried_in run es x few c = record { frame = c.frame; of_block = made_in run es (head_of x).block c.frame few c.of_block; packet = c.packet; status = c.status }
+carried_in run es x rows few c = record { frame = c.frame; of_block = made_in run es (head_of x).block c.frame rows few c.of_block; packet = c.packet; status = c.status }
 
-sent_in : (run : Run) (es : List Event) (x : StreamPacket) → frame_events es ≤ run.frames
+sent_in : (run : Run) (es : List Event) (x : StreamPacket) → HaveRunRows run es → frame_events es ≤ run.frames
     → IsSent (frames_made (past (new_camera run.seed image_shape STORE_ROOM) es)) soak_config.p x → IsSent (soak_frames run) soak_config.p x
-sent_in run es (leader h i) few c = carried_in run es (leader h i) few c
-sent_in run es (payload h d) few c = carried_in run es (payload h d) few c
-sent_in run es (trailer h y) few c = carried_in run es (trailer h y) few c
-sent_in run es (notice h) few c = c
+sent_in run es (leader h i) rows few c = carried_in run es (leader h i) rows few c
+sent_in run es (payload h d) rows few c = carried_in run es (payload h d) rows few c
+sent_in run es (trailer h y) rows few c = carried_in run es (trailer h y) rows few c
+sent_in run es (notice h) rows few c = c
 
 -- after such events the packet that is given next is one of the run's frames
-pub gives_sent : (run : Run) (es : List Event) → AllByRecursion IsFineEvent es → frame_events es ≤ run.frames
+pub gives_sent : (run : Run) (es : List Event) → AllByRecursion IsFineEvent es → HaveRunRows run es → frame_events es ≤ run.frames
     → IfSome (first_waiting (after (new_camera run.seed image_shape STORE_ROOM) es).waiting) (IsSent (soak_frames run) soak_config.p)
-gives_sent run es h few =
+gives_sent run es h rows few =
     go (first_waiting (after (new_camera run.seed image_shape STORE_ROOM) es).waiting)
-    (packets_sent run.seed image_shape STORE_ROOM soak_config.p es (asks_from_one es h) (size_past run.seed es h).size).next
+    (packets_sent run.seed image_shape STORE_ROOM soak_config.p run.short es (asks_from_one es h) (size_past run.seed es h).size rows).next
   where
     go : (o : Option StreamPacket) → IfSome o (IsSent (frames_made (past (new_camera run.seed image_shape STORE_ROOM) es)) soak_config.p) → IfSome o (IsSent (soak_frames run) soak_config.p)
     go None k = tt
-    go (Some x) k = sent_in run es x few k
+    go (Some x) k = sent_in run es x rows few k

@@ -1,12 +1,13 @@
 -- What spells a packet of a soak run's frames is read as one of them.
-use Rattle.std.proofs.Common.{◌≡◌, ◌⊎◌, inl, inr, ℕ, ◌+◌, ◌<◌, ◌≤◌, ◌^◌, Bool, true, false, List, ◌++◌, length, drop, Some, None, refl, sym, ap, subst, ◌∙◌, arith, length-drop}
+use Rattle.std.proofs.Common.{◌≡◌, ◌⊎◌, inl, inr, ℕ, ◌<◌, ◌≤◌, ◌^◌, Bool, true, false, List, ◌++◌, length, drop, Some, None, refl, sym, ap, subst, ◌∙◌, arith, length-drop}
 use Rattle.std.specs.Prelude.{◌/◌, ◌%◌, ◌&&◌, nat_le, if◌then◌else◌}
 use Rattle.std.proofs.lemmas.Bool.{leb-true, and_parts}
 use Rattle.std.proofs.lemmas.List.{length-take}
 use Rattle.wire_fields.specs.Fields.{spelled}
 use Rattle.gev_types.specs.declared.frame.Frame.{Frame}
-use Rattle.gev_frames.specs.Frames.{frame_of}
-use Rattle.gev_frames.proofs.Draws.{length-noise}
+use Rattle.gev_types.specs.FrameSize.{IsFrame}
+use Rattle.gev_frames.specs.Frames.{camera_frame}
+use Rattle.gev_frames.proofs.Draws.{camera_makes}
 use Rattle.stream_packets.specs.declared.fields.Head.{Head}
 use Rattle.stream_packets.specs.declared.fields.LeaderInfo.{LeaderInfo}
 use Rattle.stream_packets.specs.Packets.{StreamPacket, leader, payload, trailer, notice}
@@ -60,19 +61,28 @@ unfolding low_flags
 head_fits h status block id = record { status = low_status h.status status; flags = omega arith; block = block; id = id }
 
 -- the frame of a packet, and that its id is its own
-pub frame_of_block : (run : Run) (b : ℕ) (f : Frame) → soak_frames run b ≡ Some f → (f ≡ frame_of run.seed b image_shape) × (1 ≤ b) × (b ≤ run.frames)
+pub frame_of_block : (run : Run) (b : ℕ) (f : Frame) → soak_frames run b ≡ Some f → (f ≡ camera_frame run.short run.seed b image_shape) × (1 ≤ b) × (b ≤ run.frames)
 frame_of_block run b f = go (nat_le 1 b && nat_le b run.frames) refl
   where
-    go : (t : Bool) → (nat_le 1 b && nat_le b run.frames) ≡ t → (if t then Some (frame_of run.seed b image_shape) else None) ≡ Some f
-        → (f ≡ frame_of run.seed b image_shape) × (1 ≤ b) × (b ≤ run.frames)
+    go : (t : Bool) → (nat_le 1 b && nat_le b run.frames) ≡ t → (if t then Some (camera_frame run.short run.seed b image_shape) else None) ≡ Some f
+        → (f ≡ camera_frame run.short run.seed b image_shape) × (1 ≤ b) × (b ≤ run.frames)
     go true t e =
-        let same : frame_of run.seed b image_shape ≡ f = cc in
+        let same : camera_frame run.short run.seed b image_shape ≡ f = cc in
         let both = and_parts (nat_le 1 b) (nat_le b run.frames) t in
         (sym same, leb-true 1 b both.0, leb-true b run.frames both.1)
     go false t e = absurd (cc)
 
-pixel_count : (run : Run) (b : ℕ) (f : Frame) → f ≡ frame_of run.seed b image_shape → length f.pixels ≡ 3072
-pixel_count run b f e = ap (λ (g : Frame). length g.pixels) e ∙ length-noise 3072 ((run.seed + b) % 2 ^ 64)
+-- A frame of a run has at least one line and at most 48, of 64 bytes each: two or three payloads.
+record IsSmall (f : Frame) : Type 0 where
+  rows : f.rows ≤ 48
+  some : 1 ≤ length f.pixels
+  count : length f.pixels ≤ 3072
+
+frame_is_small : (run : Run) (b : ℕ) (f : Frame) → f ≡ camera_frame run.short run.seed b image_shape → IsSmall f
+frame_is_small run b f e =
+    let valid : IsFrame (camera_frame run.short run.seed b image_shape) = (camera_makes run.short run.seed b image_shape).valid (omega arith, omega arith) (λ short. omega arith) in
+    let rows : (camera_frame run.short run.seed b image_shape).rows ≤ 48 = valid.rows in
+    subst IsSmall (sym e) (record { rows = rows; some = valid.in_limits.0; count = omega (arith, valid.size, rows) })
 
 -- the bytes are read as this packet, and so as no other
 read_as : (bytes : List ℕ) (x y : StreamPacket) → Stream bytes y → packet_of bytes ≡ Some x → y ≡ x
@@ -85,17 +95,17 @@ leader_reads run h i x low c e =
     subst (IsSent (soak_frames run) soak_config.p) (read_as (plain (leader h i)) x (leader (low_flags h) i) spells e)
     (record { frame = c.frame; of_block = c.of_block; packet = c.packet; status = c.status })
   where
-    own : (c.frame ≡ frame_of run.seed h.block image_shape) × (1 ≤ h.block) × (h.block ≤ run.frames)
+    own : (c.frame ≡ camera_frame run.short run.seed h.block image_shape) × (1 ≤ h.block) × (h.block ≤ run.frames)
     own = frame_of_block run h.block c.frame c.of_block
 
     short : h.block < 2 ^ 64
     short = let most = own.2 in omega arith
 
-    info : i ≡ leader_info (frame_of run.seed h.block image_shape)
+    info : i ≡ leader_info (camera_frame run.short run.seed h.block image_shape)
     info = c.packet.2 ∙ ap leader_info own.0
 
-    size : (leader_info (frame_of run.seed h.block image_shape)).size ≡ 3072
-    size = length-noise 3072 ((run.seed + h.block) % 2 ^ 64)
+    size : (leader_info (camera_frame run.short run.seed h.block image_shape)).size ≡ 3072
+    size = refl
 
     spells : Stream (plain (leader h i)) (leader (low_flags h) i)
     spells =
@@ -112,20 +122,20 @@ payload_reads run h d x low c e =
     subst (IsSent (soak_frames run) soak_config.p) (read_as (plain (payload h d)) x (payload (low_flags h) d) spells e)
     (record { frame = c.frame; of_block = c.of_block; packet = c.packet; status = c.status })
   where
-    own : (c.frame ≡ frame_of run.seed h.block image_shape) × (1 ≤ h.block) × (h.block ≤ run.frames)
+    own : (c.frame ≡ camera_frame run.short run.seed h.block image_shape) × (1 ≤ h.block) × (h.block ≤ run.frames)
     own = frame_of_block run h.block c.frame c.of_block
 
     short : h.block < 2 ^ 64
     short = let most = own.2 in omega arith
 
-    count : length c.frame.pixels ≡ 3072
-    count = pixel_count run h.block c.frame own.0
+    small : IsSmall c.frame
+    small = frame_is_small run h.block c.frame own.0
 
     few : h.id ≤ 3
-    few = let most = c.packet.2 in omega (arith, count)
+    few = let most = c.packet.2 in omega (arith, small.count)
 
     some : 1 ≤ length d
-    some = omega (arith, ap length c.packet.3, length-take 1452 (drop (payload_start 1452 h.id) c.frame.pixels), length-drop (payload_start 1452 h.id) c.frame.pixels, count, few)
+    some = omega (arith, ap length c.packet.3, length-take 1452 (drop (payload_start 1452 h.id) c.frame.pixels), length-drop (payload_start 1452 h.id) c.frame.pixels, small.some, c.packet.1, c.packet.2)
 
     spells : Stream (plain (payload h d)) (payload (low_flags h) d)
     spells =
@@ -139,25 +149,28 @@ trailer_reads run h y x low c e =
     subst (IsSent (soak_frames run) soak_config.p) (read_as (plain (trailer h y)) x (trailer (low_flags h) y) spells e)
     (record { frame = c.frame; of_block = c.of_block; packet = c.packet; status = c.status })
   where
-    own : (c.frame ≡ frame_of run.seed h.block image_shape) × (1 ≤ h.block) × (h.block ≤ run.frames)
+    own : (c.frame ≡ camera_frame run.short run.seed h.block image_shape) × (1 ≤ h.block) × (h.block ≤ run.frames)
     own = frame_of_block run h.block c.frame c.of_block
 
     short : h.block < 2 ^ 64
     short = let most = own.2 in omega arith
 
-    count : length c.frame.pixels ≡ 3072
-    count = pixel_count run h.block c.frame own.0
+    small : IsSmall c.frame
+    small = frame_is_small run h.block c.frame own.0
 
-    last : h.id ≡ 4
-    last = omega (arith, c.packet.1, count)
+    last : h.id ≤ 4
+    last = omega (arith, c.packet.1, small.count)
+
+    behind : 1 ≤ h.id
+    behind = omega (arith, c.packet.1)
 
     lines : y < 2 ^ 32
-    lines = let is = c.packet.2 ∙ ap (λ (f : Frame). f.size_y) own.0 in omega arith
+    lines = omega (arith, c.packet.2, small.rows)
 
     spells : Stream (plain (trailer h y)) (trailer (low_flags h) y)
     spells =
         subst (λ (front : List ℕ). Stream (front ++ spelled (trailer_fields 0 image_payload y)) (trailer (low_flags h) y)) (same_header h trailer_format)
-        (trailer_read_again (low_flags h) y (record { block = own.1; no_notice = no_notice h.status c.status; after_leader = omega (arith, last) }) (head_fits h c.status short (omega (arith, last))) lines)
+        (trailer_read_again (low_flags h) y (record { block = own.1; no_notice = no_notice h.status c.status; after_leader = behind }) (head_fits h c.status short (omega (arith, last))) lines)
 
 -- what is read of the spelling of a packet of these frames is such a packet
 pub sent_reads : (run : Run) (y x : StreamPacket) → run.frames < 2 ^ 64 → IsSent (soak_frames run) soak_config.p y → packet_of (plain y) ≡ Some x

@@ -128,8 +128,8 @@ payload_blocks f p (suc n) =
 frame_blocks : (f : Frame) (p : ℕ) → All (λ x. (head_of x).block ≡ f.block) (packets_of f p)
 frame_blocks f p =
     let n : ℕ = payload_count p (length f.pixels) in
-    All-cons (λ x. (head_of x).block ≡ f.block) (leader (sent_head f 0) (leader_info f)) (payloads_of f p n ++ trailer (sent_head f (n + 1)) f.size_y ∷ []) refl
-    (All-push (λ x. (head_of x).block ≡ f.block) (payloads_of f p n) (trailer (sent_head f (n + 1)) f.size_y) (payload_blocks f p n) refl)
+    All-cons (λ x. (head_of x).block ≡ f.block) (leader (sent_head f 0) (leader_info f)) (payloads_of f p n ++ trailer (sent_head f (n + 1)) f.rows ∷ []) refl
+    (All-push (λ x. (head_of x).block ≡ f.block) (payloads_of f p n) (trailer (sent_head f (n + 1)) f.rows) (payload_blocks f p n) refl)
 
 again-block : (x : StreamPacket) → (head_of (again x)).block ≡ (head_of x).block
 again-block (leader h i) = refl

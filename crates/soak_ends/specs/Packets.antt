@@ -2,7 +2,7 @@
 use Rattle.std.specs.Prelude.{◌≡◌, ℕ, ◌-◌, ◌^◌, ◌<◌, ◌&&◌, nat_le, if◌then◌else◌, List, Option, Some, None}
 use Rattle.std.specs.List.{Contains}
 use Rattle.gev_types.specs.declared.frame.Frame.{Frame}
-use Rattle.gev_frames.specs.Frames.{frame_of}
+use Rattle.gev_frames.specs.Frames.{camera_frame}
 use Rattle.stream_packets.specs.Packets.{StreamPacket}
 use Rattle.stream_packets.specs.Sent.{AreFrames, IsSent}
 use Rattle.gvsp_wire.specs.Plain.{plain}
@@ -12,9 +12,9 @@ use Rattle.world_machine.specs.State.{Run, image_shape}
 use Rattle.world_machine.specs.HostActs.{host_hears, host_acts_after}
 use Rattle.soak_ends.specs.Setup.{GoesOn}
 
--- the frames of a run's seed, by block id from 1 on, as many as the run has
+-- the frames of a run's seed, by block id from 1 on, as many as the run has: short ones in a short run
 abbrev pub soak_frames : Run → ℕ → Option Frame
-soak_frames run b = if nat_le 1 b && nat_le b run.frames then Some (frame_of run.seed b image_shape) else None
+soak_frames run b = if nat_le 1 b && nat_le b run.frames then Some (camera_frame run.short run.seed b image_shape) else None
 
 -- The bytes spell a packet that a camera of these frames may send, with payloads of 1452 bytes.
 pub record IsSoakPacket (run : Run) (bytes : List ℕ) : Type 0 where

@@ -39,9 +39,13 @@ soak_config = record { p = 1452; window = 2; timeout = 200; age = 20; rounds = 3
 
 -- ---- the beginning
 
--- the word of a buffer in the pool: 3072 bytes, the first of its place
+-- how many bytes each buffer has: as many as an image of all lines
+abbrev pub SOAK_BUFFER_SIZE : ℕ
+SOAK_BUFFER_SIZE = 3072
+
+-- the word of a buffer in the pool, the first of its place
 abbrev pub pooled_word : Word
-pooled_word = record { state = Away; size = 3072; generation = 1 }
+pooled_word = record { state = Away; size = SOAK_BUFFER_SIZE; generation = 1 }
 
 -- four buffers, all in the pool; the actors 0 to 5, with nothing in hand; the stream is started
 abbrev pub start_board : Board

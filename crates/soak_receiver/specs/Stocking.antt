@@ -12,15 +12,15 @@ use Rattle.script_trace.specs.Opening.{opening, first_handles}
 use Rattle.script_trace.specs.Adding.{Leads}
 use Rattle.script_replay.specs.declared.running.Running.{Running}
 use Rattle.script_replay.specs.Replays.{StandsAt, IsReplaying}
-use Rattle.soak_host.specs.Receiver.{soak_config, pooled_word, start}
+use Rattle.soak_host.specs.Receiver.{soak_config, SOAK_BUFFER_SIZE, pooled_word, start}
 use Rattle.soak_receiver.specs.Moves.{IsHosting, IsLeft}
 
 -- ---- lines
 
--- a buffer of 3072 bytes is announced and queued, for each of the first n places
+-- a buffer is announced and queued, for each of the first n places
 abbrev pub stock_lines : ℕ → List ScriptLine
 stock_lines zero = []
-stock_lines (suc n) = stock_lines n ++ line.announce 3072 ∷ line.queue n 1 ∷ []
+stock_lines (suc n) = stock_lines n ++ line.announce SOAK_BUFFER_SIZE ∷ line.queue n 1 ∷ []
 
 abbrev pub start_lines : List ScriptLine
 start_lines = stock_lines 4 ++ line.start ∷ []
@@ -46,7 +46,7 @@ stocked n = record {
 
 -- the word of a buffer that the application holds
 abbrev pub held_word : Word
-held_word = record { state = Held; size = 3072; generation = 1 }
+held_word = record { state = Held; size = SOAK_BUFFER_SIZE; generation = 1 }
 
 -- the same, with a buffer at place n that isn't queued yet
 abbrev pub announced : ℕ → Board
@@ -71,7 +71,7 @@ IsStocked n r = IsBeginning (stock_lines n) (stocked n) r
 
 -- and a buffer at place n was announced
 abbrev pub IsAnnounced : ℕ → Running → Type 0
-IsAnnounced n r = IsBeginning (stock_lines n ++ line.announce 3072 ∷ []) (announced n) r
+IsAnnounced n r = IsBeginning (stock_lines n ++ line.announce SOAK_BUFFER_SIZE ∷ []) (announced n) r
 
 -- All lines of the start led here, to the receiver with which the definitions begin.
 pub record HasBegun (r : Running) : Type 0 where

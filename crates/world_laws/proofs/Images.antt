@@ -1,5 +1,5 @@
 -- What was handed out holds what came of frames that stand behind the packets.
-use Rattle.std.proofs.Common.{◌≡◌, inl, inr, false, ℕ, List, [], ◌∷◌, ◌++◌, length, take, drop, Option, sym, ap, ◌∙◌, subst, append_assoc}
+use Rattle.std.proofs.Common.{◌≡◌, inl, inr, Bool, false, ℕ, List, [], ◌∷◌, ◌++◌, length, take, drop, Option, sym, ap, ◌∙◌, subst, append_assoc}
 use Rattle.std.specs.List.{AllByRecursion}
 use Rattle.std.proofs.lemmas.List.{take-append-drop}
 use Rattle.std.proofs.lemmas.List.Elements.{All-from_recursion, All-contains}
@@ -112,30 +112,30 @@ images_true seed shape room peer es frames c t w are is =
 
 -- ---- what the generator made
 
-block_generated : (seed : ℕ) (shape : Shape) (frames : ℕ → Option Frame) (c : AcqConfig) (inputs : List Input) (x : Item) → AreGenerated seed shape frames
-    → HoldsBlock frames c inputs x → IsGenerated seed shape x
-block_generated seed shape frames c inputs x made h =
-    subst (IsGenerated seed shape) (sym h.is)
+block_generated : (short : Bool) (seed : ℕ) (shape : Shape) (frames : ℕ → Option Frame) (c : AcqConfig) (inputs : List Input) (x : Item)
+    → AreGenerated short seed shape frames → HoldsBlock frames c inputs x → IsGenerated short seed shape x
+block_generated short seed shape frames c inputs x made h =
+    subst (IsGenerated short seed shape) (sym h.is)
     (λ complete. let holds = h.holds.complete complete in holds.pixels ∙ ap (λ (f : Frame). f.pixels) (made.same h.block.block holds.frame holds.of_block))
 
-image_generated : (seed : ℕ) (shape : Shape) (frames : ℕ → Option Frame) (c : AcqConfig) (inputs : List Input) → AreGenerated seed shape frames → (x : Item)
-    → IsTrueImage frames c inputs x → IsGenerated seed shape x
-image_generated seed shape frames c inputs made x (inl h) = block_generated seed shape frames c inputs x made h
-image_generated seed shape frames c inputs made x (inr none) =
+image_generated : (short : Bool) (seed : ℕ) (shape : Shape) (frames : ℕ → Option Frame) (c : AcqConfig) (inputs : List Input)
+    → AreGenerated short seed shape frames → (x : Item) → IsTrueImage frames c inputs x → IsGenerated short seed shape x
+image_generated short seed shape frames c inputs made x (inl h) = block_generated short seed shape frames c inputs x made h
+image_generated short seed shape frames c inputs made x (inr none) =
     λ complete. let apart : x.filling.rec.complete ≡ false = ap (λ (r : Record). r.complete) none in absurd cc
 
-pub images_generated : (seed : ℕ) (shape : Shape) (frames : ℕ → Option Frame) (c : AcqConfig) (t : Trace) → AreGenerated seed shape frames
-    → HasTrueImages frames c t → HasGeneratedImages seed shape frames c t
-images_generated seed shape frames c t made images =
-    let one : (x : Item) → IsTrueImage frames c t.inputs x → IsGenerated seed shape x = image_generated seed shape frames c t.inputs made in
+pub images_generated : (short : Bool) (seed : ℕ) (shape : Shape) (frames : ℕ → Option Frame) (c : AcqConfig) (t : Trace)
+    → AreGenerated short seed shape frames → HasTrueImages frames c t → HasGeneratedImages short seed shape frames c t
+images_generated short seed shape frames c t made images =
+    let one : (x : Item) → IsTrueImage frames c t.inputs x → IsGenerated short seed shape x = image_generated short seed shape frames c t.inputs made in
     record {
       images = images;
-      handed = all_weaker (IsTrueImage frames c t.inputs) (IsGenerated seed shape) one (handed_items t.entries) images.handed;
-      waiting = all_weaker (IsTrueImage frames c t.inputs) (IsGenerated seed shape) one (board t).out images.waiting;
+      handed = all_weaker (IsTrueImage frames c t.inputs) (IsGenerated short seed shape) one (handed_items t.entries) images.handed;
+      waiting = all_weaker (IsTrueImage frames c t.inputs) (IsGenerated short seed shape) one (board t).out images.waiting;
     }
 
 pub images_of_made : (seed : ℕ) (shape : Shape) (room : ℕ) (peer : Peer) (es : List WorldEvent) → ImagesAreOfMadeFrames seed shape room peer es
-images_of_made seed shape room peer es c t w sends is =
+images_of_made seed shape room peer es c t short w sends is =
     let frames : ℕ → Option Frame = made_in seed shape room es in
-    let of_made : AreOfMade seed shape room c.p es (given_in (new_line seed shape room) (session_acts es)) = of_made_frames seed shape room es c.p sends in
-    images_generated seed shape frames c t of_made.generated (images_true seed shape room peer es frames c t w of_made.frames is)
+    let of_made : AreOfMade seed shape room c.p short es (given_in (new_line seed shape room) (session_acts es)) = of_made_frames seed shape room es c.p short sends in
+    images_generated short seed shape frames c t of_made.generated (images_true seed shape room peer es frames c t w of_made.frames is)

@@ -3,6 +3,7 @@ pub mod Inputs
 pub mod Worlds
 pub mod Reading
 pub mod Made
+pub mod GivenBytes
 pub mod Images
 pub mod Fronts
 pub mod Runs

@@ -24,18 +24,18 @@ use Rattle.world_laws.specs.Images.{FitsPackets, AreOfFrames}
 
 -- ---- bytes
 
-bytes_append : (xs ys : List ℕ) → AreBytes xs → AreBytes ys → AreBytes (xs ++ ys)
+pub bytes_append : (xs ys : List ℕ) → AreBytes xs → AreBytes ys → AreBytes (xs ++ ys)
 bytes_append [] ys a b i = b i
 bytes_append (x ∷ xs) ys a b zero = a 0
 bytes_append (x ∷ xs) ys a b (suc i) = bytes_append xs ys (λ j. a (suc j)) b i
 
-bytes_taken : (n : ℕ) (xs : List ℕ) → AreBytes xs → AreBytes (take n xs)
+pub bytes_taken : (n : ℕ) (xs : List ℕ) → AreBytes xs → AreBytes (take n xs)
 bytes_taken zero xs a i = omega arith
 bytes_taken (suc n) [] a i = omega arith
 bytes_taken (suc n) (x ∷ xs) a zero = a 0
 bytes_taken (suc n) (x ∷ xs) a (suc i) = bytes_taken n xs (λ j. a (suc j)) i
 
-bytes_dropped : (n : ℕ) (xs : List ℕ) → AreBytes xs → AreBytes (drop n xs)
+pub bytes_dropped : (n : ℕ) (xs : List ℕ) → AreBytes xs → AreBytes (drop n xs)
 bytes_dropped zero xs a i = a i
 bytes_dropped (suc n) [] a i = omega arith
 bytes_dropped (suc n) (x ∷ xs) a i = bytes_dropped n xs (λ j. a (suc j)) i
@@ -49,11 +49,11 @@ number_small zero n i = omega arith
 number_small (suc k) n zero = byte_small k n
 number_small (suc k) n (suc i) = number_small k n i
 
-spelled_small : (fields : List (ℕ × ℕ)) → AreBytes (spelled fields)
+pub spelled_small : (fields : List (ℕ × ℕ)) → AreBytes (spelled fields)
 spelled_small [] i = omega arith
 spelled_small ((width, x) ∷ fields) i = bytes_append (bytes_high_first width x) (spelled fields) (number_small width x) (spelled_small fields) i
 
-header_small : (h : Head) (format : ℕ) → AreBytes (plain_header h format)
+pub header_small : (h : Head) (format : ℕ) → AreBytes (plain_header h format)
 header_small h format i = spelled_small (header_fields h (2 ^ 7 + format) 0) i
 
 -- ---- flags: a spelling has their low 16 bits
@@ -137,8 +137,8 @@ leader_spelled frames p h i c of =
         block = of.from_one;
         no_notice = quiet_status h.status c.status;
         first = first;
-        size = subst (λ (j : LeaderInfo). j.size ≡ size_of j) (sym info) of.valid.size;
-        in_limits = subst (λ (j : LeaderInfo). (0 < j.size) × (j.size ≤ 2 ^ 26)) (sym info) of.valid.in_limits;
+        size = subst (λ (j : LeaderInfo). j.size ≡ size_of j) (sym info) refl;
+        in_limits = subst (λ (j : LeaderInfo). (0 < j.size) × (j.size ≤ 2 ^ 26)) (sym info) of.valid.told;
       };
       fields_fit = (head_fits frames p c.frame h of c.status (omega arith), subst InfoFits (sym info) of.fits.info);
     }
@@ -168,7 +168,8 @@ trailer_spelled : (frames : ℕ → Option Frame) (p : ℕ) (h : Head) (y : ℕ)
     → HasSpelling (trailer (low_head h) y)
 trailer_spelled frames p h y c of =
     let last : h.id ≡ payload_count p (length c.frame.pixels) + 1 = c.packet.1 in
-    let lines : y ≡ c.frame.size_y = c.packet.2 in
+    let lines : y ≡ c.frame.rows = c.packet.2 in
+    let most : c.frame.rows ≤ c.frame.size_y = of.valid.rows in
     let wide = of.fits.info.size_y in
     record {
       form = record { block = of.from_one; no_notice = quiet_status h.status c.status; after_leader = omega arith };

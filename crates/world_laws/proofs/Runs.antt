@@ -7,7 +7,8 @@ use Rattle.gev_types.specs.FrameSize.{IsImageSize}
 use Rattle.gev_frames.specs.Frames.{shape_size}
 use Rattle.gev_script.specs.Lines.{ScriptLine}
 use Rattle.board_machine.specs.Machine.{Item}
-use Rattle.control_session.specs.Schedule.{Act, Line, after, IsAllowed, IsSchedule}
+use Rattle.control_session.specs.Schedule.{Act, at_camera, Line, after, IsAllowed, IsSchedule}
+use Rattle.camera_machine.specs.Events.{set_short}
 use Rattle.world_machine.specs.State.{Host, Run, World, image_shape, STORE_ROOM}
 use Rattle.world_machine.specs.ClientTurn.{client_peer}
 use Rattle.world_machine.specs.Rounds.{world_after}
@@ -131,7 +132,7 @@ round_acts run host w es before is =
 
 pub run_acts : {A : Type 0} (run : Run) (host : Host A) (app : Application A) (start : A) (n : ℕ)
     → session_acts (events_after run host app start n) ≡ acts_after run host start n
-run_acts run host app start zero = lines_leave app.opens []
+run_acts run host app start zero = lines_leave app.opens (at_session (at_camera (set_short run.short)) ∷ [])
 run_acts {A} run host app start (suc n) =
     let w : World A = world_after run host start n in
     let es : List WorldEvent = events_after run host app start n in
@@ -140,7 +141,7 @@ run_acts {A} run host app start (suc n) =
 
 run_lines : {A : Type 0} (run : Run) (host : Host A) (app : Application A) (start : A) (n : ℕ)
     → host_lines (events_after run host app start n) ≡ app.opens ++ lines_of_acts host app start (host_acts_after run host start n)
-run_lines run host app start zero = lines_add app.opens [] ∙ sym (append-nil app.opens)
+run_lines run host app start zero = lines_add app.opens (at_session (at_camera (set_short run.short)) ∷ []) ∙ sym (append-nil app.opens)
 run_lines {A} run host app start (suc n) =
     let w : World A = world_after run host start n in
     let es : List WorldEvent = events_after run host app start n in
@@ -165,7 +166,8 @@ new_among run host start n bytes among =
 
 pub run_world : {A : Type 0} (run : Run) (host : Host A) (app : Application A) (start : A) (n : ℕ) → IsApplication app → AsksNoAccess host
     → IsWorld client_peer (start_line run) (events_after run host app start n)
-run_world run host app start zero is none = world_lines client_peer (start_line run) app.opens [] is.opens tt
+run_world run host app start zero is none =
+    world_lines client_peer (start_line run) app.opens (at_session (at_camera (set_short run.short)) ∷ []) is.opens (tt, tt)
 run_world {A} run host app start (suc n) is none =
     let w : World A = world_after run host start n in
     let es : List WorldEvent = events_after run host app start n in
@@ -240,7 +242,9 @@ heard_before_session (a ∷ acts) es bytes among =
 -- what the events of a run hear was heard in one of its rounds
 run_hears : {A : Type 0} (run : Run) (host : Host A) (app : Application A) (start : A) (n : ℕ) (bytes : List ℕ)
     → Contains (events_after run host app start n) (hears bytes) → Contains (host_acts_after run host start n) (host_hears bytes)
-run_hears run host app start zero bytes among = absurd (none_in (hears bytes) (heard_before_lines app.opens [] bytes among))
+run_hears run host app start zero bytes among =
+    let first : WorldEvent = at_session (at_camera (set_short run.short)) in
+    absurd (none_in (hears bytes) (heard_before_session (at_camera (set_short run.short) ∷ []) [] bytes (heard_before_lines app.opens (first ∷ []) bytes among)))
 run_hears {A} run host app start (suc n) bytes among =
     go (heard_in_acts host app w.host hs (map at_session (with_round run host w []) ++ es) bytes among) (λ earlier. run_hears run host app start n bytes earlier)
   where
@@ -269,11 +273,11 @@ run_images run host app start n frames c t is none hear trace =
     let size : IsImageSize (shape_size image_shape) = (omega arith, omega arith) in
     let heard : HearsFrames frames c.p es
     = record {
-      are_frames = hear.generated.valid size;
+      are_frames = hear.generated.valid size (λ short. omega arith);
       payload_size = hear.payload_size;
       heard = λ bytes among. hear.heard bytes (run_hears run host app start n bytes among);
     } in
-    images_generated run.seed image_shape frames c t hear.generated
+    images_generated run.short run.seed image_shape frames c t hear.generated
     (heard_images run.seed image_shape STORE_ROOM client_peer es frames c t (run_world run host app start n is none) heard trace)
 
 -- ---- the application of a soak run

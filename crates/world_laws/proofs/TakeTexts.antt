@@ -1,5 +1,5 @@
 -- The take lines of a soak run have the digests of the generator's images.
-use Rattle.std.proofs.Common.{◌≡◌, arith, ℕ, suc, List, [], ◌∷◌, ◌++◌, refl, sym, ap, ◌∙◌, append_assoc}
+use Rattle.std.proofs.Common.{◌≡◌, arith, Bool, ℕ, suc, List, [], ◌∷◌, ◌++◌, refl, sym, ap, ◌∙◌, append_assoc}
 use Rattle.std.specs.Prelude.{Option, IfSome}
 use Rattle.std.specs.List.{AllByRecursion, Contains}
 use Rattle.hex.specs.Hex.{encode_lower}
@@ -27,9 +27,9 @@ use Rattle.world_laws.proofs.Receiving.{HoldsIfComplete, AreFramesFor, HearsSent
 
 -- ---- take lines
 
-digest_is : (seed : ℕ) (shape : Shape) (frames : ℕ → Option Frame) (x : Item) → AreGenerated seed shape frames → HoldsIfComplete frames x
-    → HasDigest seed shape x.filling
-digest_is seed shape frames x made h complete =
+digest_is : (short : Bool) (seed : ℕ) (shape : Shape) (frames : ℕ → Option Frame) (x : Item) → AreGenerated short seed shape frames
+    → HoldsIfComplete frames x → HasDigest short seed shape x.filling
+digest_is short seed shape frames x made h complete =
     let holds : HoldsFrame frames x.filling.rec.block x.filling = h complete in
     ap (λ (l : List ℕ). encode_lower (sha256 l)) (holds.pixels ∙ ap (λ (f : Frame). f.pixels) (made.same x.filling.rec.block holds.frame holds.of_block))
 
@@ -39,36 +39,37 @@ take_text-append (x ∷ xs) ys =
     ap (λ (l : List ℕ). take_line x.id x.filling ++ l) (take_text-append xs ys)
     ∙ sym (append_assoc (take_line x.id x.filling) (take_text xs) (take_text ys))
 
-lines_both : (seed : ℕ) (shape : Shape) (a b : List ℕ) → AreTakeLines seed shape a → AreTakeLines seed shape b → AreTakeLines seed shape (a ++ b)
-lines_both seed shape a b p q = record {
+lines_both : (short : Bool) (seed : ℕ) (shape : Shape) (a b : List ℕ) → AreTakeLines short seed shape a → AreTakeLines short seed shape b
+    → AreTakeLines short seed shape (a ++ b)
+lines_both short seed shape a b p q = record {
   taken = p.taken ++ q.taken;
   is = ap (λ (l : List ℕ). l ++ b) p.is ∙ (ap (λ (l : List ℕ). take_text p.taken ++ l) q.is ∙ sym (take_text-append p.taken q.taken));
-  digests = all_append (λ (x : Taken). HasDigest seed shape x.filling) p.taken q.taken p.digests q.digests;
+  digests = all_append (λ (x : Taken). HasDigest short seed shape x.filling) p.taken q.taken p.digests q.digests;
 }
 
-each_line : (seed : ℕ) (shape : Shape) (frames : ℕ → Option Frame) (xs : List Item) (r : Receiver) → AreGenerated seed shape frames
-    → AllByRecursion (HoldsIfComplete frames) xs → AreTakeLines seed shape (lines_each xs r)
-each_line seed shape frames [] r made all = record { taken = []; is = refl; digests = tt }
-each_line seed shape frames (x ∷ xs) r made all =
-    let rest = each_line seed shape frames xs (takes_one x r) made all.1 in
+each_line : (short : Bool) (seed : ℕ) (shape : Shape) (frames : ℕ → Option Frame) (xs : List Item) (r : Receiver) → AreGenerated short seed shape frames
+    → AllByRecursion (HoldsIfComplete frames) xs → AreTakeLines short seed shape (lines_each xs r)
+each_line short seed shape frames [] r made all = record { taken = []; is = refl; digests = tt }
+each_line short seed shape frames (x ∷ xs) r made all =
+    let rest = each_line short seed shape frames xs (takes_one x r) made all.1 in
     let first : Taken = record { id = buffer_at r.board x.place; filling = x.filling } in
     record {
       taken = first ∷ rest.taken;
       is = ap (λ (l : List ℕ). take_line first.id first.filling ++ l) rest.is;
-      digests = (digest_is seed shape frames x made all.0, rest.digests);
+      digests = (digest_is short seed shape frames x made all.0, rest.digests);
     }
 
 -- ---- all that is told
 
-texts_are : (seed : ℕ) (shape : Shape) (frames : ℕ → Option Frame) (hs : List HostAct) → AreGenerated seed shape frames → AreFramesFor frames
-    → AllByRecursion (HearsSent frames) hs → AreTakeLines seed shape (texts_of soak_host start hs)
-texts_are seed shape frames [] made are sent = record { taken = []; is = refl; digests = tt }
-texts_are seed shape frames (host_hears bytes ∷ hs) made are sent = texts_are seed shape frames hs made are sent.1
-texts_are seed shape frames (host_ticks moment ∷ hs) made are sent = texts_are seed shape frames hs made are sent.1
-texts_are seed shape frames (host_takes ∷ hs) made are sent =
+texts_are : (short : Bool) (seed : ℕ) (shape : Shape) (frames : ℕ → Option Frame) (hs : List HostAct) → AreGenerated short seed shape frames
+    → AreFramesFor frames → AllByRecursion (HearsSent frames) hs → AreTakeLines short seed shape (texts_of soak_host start hs)
+texts_are short seed shape frames [] made are sent = record { taken = []; is = refl; digests = tt }
+texts_are short seed shape frames (host_hears bytes ∷ hs) made are sent = texts_are short seed shape frames hs made are sent.1
+texts_are short seed shape frames (host_ticks moment ∷ hs) made are sent = texts_are short seed shape frames hs made are sent.1
+texts_are short seed shape frames (host_takes ∷ hs) made are sent =
     let r : Receiver = host_after soak_host start hs in
-    lines_both seed shape (texts_of soak_host start hs) (lines_each (waiting r.board) r) (texts_are seed shape frames hs made are sent.1)
-    (each_line seed shape frames (waiting r.board) r made (waiting_holds frames r.board (holds_after frames hs are sent.1).out))
+    lines_both short seed shape (texts_of soak_host start hs) (lines_each (waiting r.board) r) (texts_are short seed shape frames hs made are sent.1)
+    (each_line short seed shape frames (waiting r.board) r made (waiting_holds frames r.board (holds_after frames hs are sent.1).out))
 
 -- ---- a run
 
@@ -93,7 +94,7 @@ text_has_take_lines run text e n frames hear ends =
       lines = texts_of soak_host start hs;
       last = said.last;
       is = ends.text_is ∙ said.is;
-      take = texts_are run.seed image_shape frames hs hear.generated
-          (record { are_frames = hear.generated.valid size; payload_size = hear.payload_size }) (hearings_sent frames hs hear.heard);
+      take = texts_are run.short run.seed image_shape frames hs hear.generated
+          (record { are_frames = hear.generated.valid size (λ short. omega arith); payload_size = hear.payload_size }) (hearings_sent frames hs hear.heard);
       is_last = said.is_last;
     }

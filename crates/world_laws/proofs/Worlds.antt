@@ -5,20 +5,25 @@ use Rattle.std.specs.List.{AllByRecursion, Contains}
 use Rattle.gev_types.specs.declared.frame.Shape.{Shape}
 use Rattle.gev_types.specs.declared.peer.Peer.{Peer}
 use Rattle.stream_packets.specs.Packets.{StreamPacket}
+use Rattle.gvsp_wire.specs.Plain.{AreBytes}
 use Rattle.gvsp_wire.specs.Reading.{packet_of}
 use Rattle.gev_script.specs.Lines as line
 use Rattle.gev_script.specs.Lines.{ScriptLine}
 use Rattle.acquisition_machine.proofs.Order.{all_append}
 use Rattle.script_trace.proofs.BlockFills.{IsByOther}
 use Rattle.script_trace.proofs.Promises.{traces_keep_by}
+use Rattle.script_trace.specs.Laws.{IsInPlace}
+use Rattle.script_trace.proofs.LinesGo.{lines_have_a_trace}
+use Rattle.hex.proofs.HexLemmas.{decode_of-encode_lower}
 use Rattle.control_session.specs.Schedule.{Line, new_line, after, IsSchedule}
 use Rattle.control_session.proofs.Lines.{acts_once}
 use Rattle.world_machine.specs.HostActs.{given_at, given_in, IsGiven}
 use Rattle.world_machine.proofs.Fits.{none_in, head_in, tail_in, cons_in, kept_in}
 use Rattle.world_laws.specs.Schedule.{WorldEvent, at_session, hears, passes, applies, session_acts, lines_of, host_lines, IsApplied, MayCome, IsWorld}
-use Rattle.world_laws.specs.Laws.{CommandsActOnce, TraceKeepsPromises}
+use Rattle.world_laws.specs.Laws.{CommandsActOnce, TraceKeepsPromises, ScheduleHasATrace}
 use Rattle.world_laws.proofs.Digits.{read_back}
 use Rattle.world_laws.proofs.Inputs.{Tells}
+use Rattle.world_laws.proofs.GivenBytes.{given_bytes}
 
 -- ---- the control session
 
@@ -113,3 +118,41 @@ lines_tell P peer start [] w read = tt
 lines_tell P peer start (e ∷ es) w read =
     all_append (Tells P) (host_lines es) (lines_of e) (lines_tell P peer start es w.1 (λ bytes among. read bytes (tail_in e (hears bytes) es among)))
     (event_tells P peer start e es w.0 read)
+
+-- ---- a trace
+
+applied_in_place : (l : ScriptLine) → IsApplied l → IsInPlace l
+applied_in_place (line.header config) is = absurd is
+applied_in_place (line.tick moment) is = tt
+applied_in_place (line.datagram digits) is = absurd is
+applied_in_place (line.step actor act place) is = is
+applied_in_place line.end_of_script is = absurd is
+applied_in_place line.camera_header is = absurd is
+applied_in_place (line.command peer digits) is = absurd is
+applied_in_place line.frame is = absurd is
+applied_in_place _ is = tt
+
+-- what is heard are bytes
+abbrev HearsBytes : List WorldEvent → Type 0
+HearsBytes es = (bytes : List ℕ) → Contains es (hears bytes) → AreBytes bytes
+
+event_in_place : (peer : Peer) (start : Line) (es : List WorldEvent) (e : WorldEvent) → MayCome peer start es e → HearsBytes (e ∷ es)
+    → AllByRecursion IsInPlace (lines_of e)
+event_in_place peer start es (at_session a) may small = tt
+event_in_place peer start es (hears bytes) may small =
+    ((bytes, decode_of-encode_lower bytes (small bytes (head_in (hears bytes) es))), tt)
+event_in_place peer start es (passes moment) may small = (tt, tt)
+event_in_place peer start es (applies l) may small = (applied_in_place l may, tt)
+
+lines_in_place : (peer : Peer) (start : Line) (es : List WorldEvent) → IsWorld peer start es → HearsBytes es → AllByRecursion IsInPlace (host_lines es)
+lines_in_place peer start [] w small = tt
+lines_in_place peer start (e ∷ es) w small =
+    all_append IsInPlace (host_lines es) (lines_of e)
+    (lines_in_place peer start es w.1 (λ bytes among. small bytes (tail_in e (hears bytes) es among))) (event_in_place peer start es e w.0 small)
+
+pub has_a_trace : (seed : ℕ) (shape : Shape) (room : ℕ) (peer : Peer) (es : List WorldEvent) → ScheduleHasATrace seed shape room peer es
+has_a_trace seed shape room peer es c some w =
+    let small : HearsBytes es = λ bytes among.
+    given_bytes seed shape room (session_acts es) bytes (heard_is_given peer (new_line seed shape room) es w bytes among) in
+    let found = lines_have_a_trace c (host_lines es) some (lines_in_place peer (new_line seed shape room) es w small) in
+    (found.0, record { window = some; leads = found.1 })

@@ -1,11 +1,11 @@
 -- Which frames stand behind the packets that a camera gave, and what a buffer holds of them.
-use Rattle.std.specs.Prelude.{◌≡◌, ◌⊎◌, ℕ, ◌<◌, ◌^◌, true, List, ◌++◌, take, Option, Some, IfSome}
+use Rattle.std.specs.Prelude.{◌≡◌, ◌⊎◌, ℕ, ◌<◌, ◌^◌, Bool, true, List, ◌++◌, take, Option, Some, IfSome}
 use Rattle.std.specs.List.{AllByRecursion, Contains}
 use Rattle.gev_types.specs.declared.frame.Frame.{Frame}
 use Rattle.gev_types.specs.declared.frame.Shape.{Shape}
 use Rattle.gev_types.specs.FrameSize.{IsImageSize}
 use Rattle.gev_types.specs.Filling.{empty_record}
-use Rattle.gev_frames.specs.Frames.{shape_size, frame_of}
+use Rattle.gev_frames.specs.Frames.{shape_size, camera_frame, MayBeShort}
 use Rattle.stream_packets.specs.Packets.{StreamPacket}
 use Rattle.stream_packets.specs.FramePackets.{leader_info}
 use Rattle.stream_packets.specs.Sent.{AreFrames, IsSent}
@@ -23,7 +23,7 @@ use Rattle.script_trace.specs.Trace.{Trace, board}
 use Rattle.script_trace.specs.Fills.{tried_blocks}
 use Rattle.camera_machine.specs.Camera.{new_camera}
 use Rattle.camera_machine.specs.Events.{past, frames_made}
-use Rattle.camera_machine.specs.Sending.{AreGenerated, AskFromOne, HaveSize}
+use Rattle.camera_machine.specs.Sending.{AreGenerated, AskFromOne, HaveRows, HaveSize}
 use Rattle.control_session.specs.Schedule.{camera_events}
 use Rattle.world_laws.specs.Schedule.{WorldEvent, hears, session_acts}
 
@@ -90,30 +90,34 @@ pub record ShapeFits (shape : Shape) : Type 0 where
   pub size_x : shape.size_x < 2 ^ 32
   pub size_y : shape.size_y < 2 ^ 32
 
--- The camera's frames have a size that a frame may have, and ids of 64 bits; each was made with payloads of
--- p bytes; and no command asked for packets of block 0, which a notice would have to name.
-pub record SendsFrames (seed : ℕ) (shape : Shape) (room p : ℕ) (es : List WorldEvent) : Type 0 where
+-- The camera's frames have a size that a frame may have, lines enough where they are short, and ids of 64 bits; each
+-- was made with payloads of p bytes, and all are short ones or none is; and no command asked for packets of block 0,
+-- which a notice would have to name.
+pub record SendsFrames (seed : ℕ) (shape : Shape) (room p : ℕ) (short : Bool) (es : List WorldEvent) : Type 0 where
   pub size : IsImageSize (shape_size shape)
+  pub lines : MayBeShort short shape
   pub fits : ShapeFits shape
   pub payload_size : IsPayloadSize p
   pub ids : (b : ℕ) (f : Frame) → made_in seed shape room es b ≡ Some f → b < 2 ^ 64
   pub one_size : HaveSize p (past (new_camera seed shape room) (camera_events (session_acts es)))
+  pub one_shortness : HaveRows short shape (past (new_camera seed shape room) (camera_events (session_acts es)))
   pub from_one : AskFromOne (camera_events (session_acts es))
 
--- The frames that were made stand behind the packets, and are the generator's.
-pub record AreOfMade (seed : ℕ) (shape : Shape) (room p : ℕ) (es : List WorldEvent) (packets : List StreamPacket) : Type 0 where
-  pub generated : AreGenerated seed shape (made_in seed shape room es)
+-- The frames that were made stand behind the packets, and are the generator's: short ones, or whole ones.
+pub record AreOfMade (seed : ℕ) (shape : Shape) (room p : ℕ) (short : Bool) (es : List WorldEvent) (packets : List StreamPacket) : Type 0 where
+  pub generated : AreGenerated short seed shape (made_in seed shape room es)
   pub frames : AreOfFrames (made_in seed shape room es) p packets
 
 -- Where the buffer is marked complete, its first bytes, as many as its record says, are the image that the
--- generator makes under the block's id.
-abbrev pub IsGenerated : ℕ → Shape → Item → Type 0
-IsGenerated seed shape x =
-    x.filling.rec.complete ≡ true → take x.filling.rec.data_len x.filling.bytes ≡ (frame_of seed x.filling.rec.block shape).pixels
+-- generator makes under the block's id: of all lines, or where frames are short, of those that a short one has.
+abbrev pub IsGenerated : Bool → ℕ → Shape → Item → Type 0
+IsGenerated short seed shape x =
+    x.filling.rec.complete ≡ true
+    → take x.filling.rec.data_len x.filling.bytes ≡ (camera_frame short seed x.filling.rec.block shape).pixels
 
 -- The buffers hold what came of these frames; and where one that was handed out or waits in the output is
 -- marked complete, it's the generator's image.
-pub record HasGeneratedImages (seed : ℕ) (shape : Shape) (frames : ℕ → Option Frame) (c : AcqConfig) (t : Trace) : Type 0 where
+pub record HasGeneratedImages (short : Bool) (seed : ℕ) (shape : Shape) (frames : ℕ → Option Frame) (c : AcqConfig) (t : Trace) : Type 0 where
   pub images : HasTrueImages frames c t
-  pub handed : AllByRecursion (IsGenerated seed shape) (handed_items t.entries)
-  pub waiting : AllByRecursion (IsGenerated seed shape) (board t).out
+  pub handed : AllByRecursion (IsGenerated short seed shape) (handed_items t.entries)
+  pub waiting : AllByRecursion (IsGenerated short seed shape) (board t).out

@@ -1,6 +1,6 @@
 -- The laws of the world, which `src/laws.rt` proves: of every schedule, whatever is lost, repeated or
 -- reordered.
-use Rattle.std.specs.Prelude.{ℕ, ◌<◌, ◌≤◌, List, length, Option}
+use Rattle.std.specs.Prelude.{ℕ, ◌<◌, ◌≤◌, Bool, List, length, Option}
 use Rattle.gev_types.specs.declared.frame.Frame.{Frame}
 use Rattle.gev_types.specs.declared.frame.Shape.{Shape}
 use Rattle.gev_types.specs.declared.peer.Peer.{Peer}
@@ -33,6 +33,11 @@ abbrev pub TraceKeepsPromises : ℕ → Shape → ℕ → Peer → List WorldEve
 TraceKeepsPromises seed shape room peer es =
     (c : AcqConfig) (t : Trace) → IsWorld peer (new_line seed shape room) es → IsTraceOf c es t → KeepsPromises c t
 
+-- There is such a trace, whatever the application asks for and whatever arrives.
+abbrev pub ScheduleHasATrace : ℕ → Shape → ℕ → Peer → List WorldEvent → Type 0
+ScheduleHasATrace seed shape room peer es =
+    (c : AcqConfig) → 1 ≤ c.window → IsWorld peer (new_line seed shape room) es → (t : Trace) × IsTraceOf c es t
+
 -- Where what the receiver hears is of one map of frames, each buffer that was filled holds what came of its
 -- block's frame, or has the empty record.
 abbrev pub HeardImagesAreTrue : ℕ → Shape → ℕ → Peer → List WorldEvent → Type 0
@@ -55,11 +60,11 @@ ImagesAreTrue seed shape room peer es =
 -- The packets that the camera gave are of the frames that it made.
 abbrev pub PacketsAreOfMadeFrames : ℕ → Shape → ℕ → List WorldEvent → Type 0
 PacketsAreOfMadeFrames seed shape room es =
-    (p : ℕ) → SendsFrames seed shape room p es
-    → AreOfMade seed shape room p es (given_in (new_line seed shape room) (session_acts es))
+    (p : ℕ) (short : Bool) → SendsFrames seed shape room p short es
+    → AreOfMade seed shape room p short es (given_in (new_line seed shape room) (session_acts es))
 
 -- So the buffers hold what came of the frames that the camera made.
 abbrev pub ImagesAreOfMadeFrames : ℕ → Shape → ℕ → Peer → List WorldEvent → Type 0
 ImagesAreOfMadeFrames seed shape room peer es =
-    (c : AcqConfig) (t : Trace) → IsWorld peer (new_line seed shape room) es → SendsFrames seed shape room c.p es → IsTraceOf c es t
-    → HasGeneratedImages seed shape (made_in seed shape room es) c t
+    (c : AcqConfig) (t : Trace) (short : Bool) → IsWorld peer (new_line seed shape room) es → SendsFrames seed shape room c.p short es
+    → IsTraceOf c es t → HasGeneratedImages short seed shape (made_in seed shape room es) c t

@@ -4,6 +4,8 @@ use Rattle.std.specs.Prelude.{ℕ, zero, suc, List, [], ◌∷◌, ◌++◌, map
 use Rattle.hex.specs.Hex.{encode_lower}
 use Rattle.gev_script.specs.Lines as line
 use Rattle.gev_script.specs.Lines.{ScriptLine}
+use Rattle.camera_machine.specs.Events.{set_short}
+use Rattle.control_session.specs.Schedule.{at_camera}
 use Rattle.world_machine.specs.State.{Host, Run, World}
 use Rattle.world_machine.specs.Rounds.{world_after}
 use Rattle.world_machine.specs.Acts.{with_round}
@@ -50,7 +52,7 @@ abbrev pub with_round_events : {A : Type 0} → Run → Host A → Application A
 with_round_events run host app w before =
     with_acts host app w.host (with_host_round run host w []) (map at_session (with_round run host w []) ++ before)
 
--- all events of so many rounds
+-- All events of so many rounds. First the camera is told whether its frames are short, and the application opens.
 abbrev pub events_after : {A : Type 0} → Run → Host A → Application A → A → ℕ → List WorldEvent
-events_after run host app start zero = with_lines app.opens []
+events_after run host app start zero = with_lines app.opens (at_session (at_camera (set_short run.short)) ∷ [])
 events_after run host app start (suc n) = with_round_events run host app (world_after run host start n) (events_after run host app start n)

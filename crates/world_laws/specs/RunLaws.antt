@@ -43,7 +43,7 @@ SoakIsAnApplication = IsApplication soak_application
 -- In so many rounds of the run each datagram that its host heard is read, if as a packet, as a sent one of
 -- frames of the run's seed.
 pub record RunHears {A : Type 0} (run : Run) (host : Host A) (start : A) (n : ℕ) (frames : ℕ → Option Frame) (p : ℕ) : Type 0 where
-  pub generated : AreGenerated run.seed image_shape frames
+  pub generated : AreGenerated run.short run.seed image_shape frames
   pub payload_size : IsPayloadSize p
   pub heard : (bytes : List ℕ) → Contains (host_acts_after run host start n) (host_hears bytes) → IsReadAsSent frames p bytes
 
@@ -52,4 +52,4 @@ abbrev pub RunImagesAreTrue : {A : Type 0} → Run → Host A → Application A 
 RunImagesAreTrue run host app start n =
     (frames : ℕ → Option Frame) (c : AcqConfig) (t : Trace) → IsApplication app → AsksNoAccess host
     → RunHears run host start n frames c.p → IsTraceOf c (events_after run host app start n) t
-    → HasGeneratedImages run.seed image_shape frames c t
+    → HasGeneratedImages run.short run.seed image_shape frames c t

@@ -3,14 +3,14 @@ use Rattle.std.specs.Prelude.{List, [], ◌∷◌}
 use Rattle.gev_script.specs.Lines as line
 use Rattle.gev_script.specs.Lines.{ScriptLine}
 use Rattle.board_machine.specs.Machine.{Item, word_at}
-use Rattle.soak_host.specs.Receiver.{Receiver, waiting, takes_one}
+use Rattle.soak_host.specs.Receiver.{Receiver, SOAK_BUFFER_SIZE, waiting, takes_one}
 use Rattle.world_laws.specs.RunEvents.{Application}
 
 -- Four buffers are announced and queued, one after the other, and the stream is started.
 abbrev pub soak_opens : List ScriptLine
 soak_opens =
-    line.announce 3072 ∷ line.queue 0 1 ∷ line.announce 3072 ∷ line.queue 1 1
-    ∷ line.announce 3072 ∷ line.queue 2 1 ∷ line.announce 3072 ∷ line.queue 3 1 ∷ line.start ∷ []
+    line.announce SOAK_BUFFER_SIZE ∷ line.queue 0 1 ∷ line.announce SOAK_BUFFER_SIZE ∷ line.queue 1 1
+    ∷ line.announce SOAK_BUFFER_SIZE ∷ line.queue 2 1 ∷ line.announce SOAK_BUFFER_SIZE ∷ line.queue 3 1 ∷ line.start ∷ []
 
 -- Each of these buffers is taken and queued, and a last take finds nothing.
 abbrev pub soak_takes : List Item → Receiver → List ScriptLine

@@ -9,12 +9,18 @@ ghost use Rattle.world_laws.specs.RunEvents.{Application};
 ghost use Rattle.world_laws.specs.RunLaws.{RunIsAWorld, SoakIsAnApplication, RunImagesAreTrue};
 ghost use Rattle.world_machine.specs.ClientTurn.{End};
 ghost use Rattle.world_laws.specs.TakeLines.{TextHasTakeLines};
-ghost use Rattle.world_laws.specs.Laws.{CommandsActOnce, TraceKeepsPromises, HeardImagesAreTrue, GivenPacketsAreHeard, ImagesAreTrue, PacketsAreOfMadeFrames, ImagesAreOfMadeFrames};
+ghost use Rattle.world_laws.specs.Laws.{CommandsActOnce, TraceKeepsPromises, ScheduleHasATrace, HeardImagesAreTrue, GivenPacketsAreHeard, ImagesAreTrue, PacketsAreOfMadeFrames, ImagesAreOfMadeFrames};
 
 /// The register and memory commands that a session executed for its primary are without repeats, and
 /// in the order in which the client submitted them, while it submitted fewer than 32,767.
 pub fn commands_of_a_world_act_once()
     ensures { (seed : ℕ) (shape : Shape) (room : ℕ) (peer : Peer) (es : List WorldEvent) → CommandsActOnce seed shape room peer es }
+{}
+
+/// The receiver of each schedule has a history: its lines lead to a trace, whatever its application asks for
+/// and whatever arrives.
+pub fn schedule_has_a_trace()
+    ensures { (seed : ℕ) (shape : Shape) (room : ℕ) (peer : Peer) (es : List WorldEvent) → ScheduleHasATrace seed shape room peer es }
 {}
 
 /// The receiver's history is the board machine's, each buffer has one owner at each step of it, and
@@ -43,13 +49,14 @@ pub fn images_of_a_world_are_true()
 {}
 
 /// The packets that a camera gave are of the frames that it made, and these are the generator's, where
-/// all have one payload size and no command asked for packets of block 0.
+/// all have one payload size, all are short ones or none is, and no command asked for packets of block 0.
 pub fn packets_are_of_made_frames()
     ensures { (seed : ℕ) (shape : Shape) (room : ℕ) (es : List WorldEvent) → PacketsAreOfMadeFrames seed shape room es }
 {}
 
 /// So each buffer that was filled, handed out or not, holds what came of a frame that the camera made,
-/// or has the empty record; and one that is marked complete holds the generator's image of its block.
+/// or has the empty record; and one that is marked complete holds the generator's image of its block, short
+/// where frames are short.
 pub fn images_are_of_made_frames()
     ensures { (seed : ℕ) (shape : Shape) (room : ℕ) (peer : Peer) (es : List WorldEvent) → ImagesAreOfMadeFrames seed shape room peer es }
 {}
@@ -67,14 +74,14 @@ pub fn soak_is_an_application()
 
 /// Where a run's host hears packets of frames of the run's seed, each buffer that was filled, handed out
 /// or not, holds what came of one, or has the empty record; and one that is marked complete holds the
-/// generator's image of its block.
+/// generator's image of its block, short in a short run.
 pub fn images_of_a_run_are_true<A>()
     ensures { (run : Run) (host : Host A) (app : Application A) (start : A) (n : ℕ) → RunImagesAreTrue run host app start n }
 {}
 
 /// The text of such a run is take lines, and then its last line, if it has one. A take line with
 /// `complete=1` has the digest of the image that the generator makes of the run's seed and the block's
-/// id.
+/// id, short in a short run.
 pub fn text_of_a_run_has_take_lines()
     ensures { (run : Run) (text : List ℕ) (e : End) (n : ℕ) → TextHasTakeLines run text e n }
 {}

@@ -14,6 +14,6 @@ mod tests;
 pub use laws::{
     commands_of_a_world_act_once, given_packets_are_heard, heard_images_are_true,
     images_are_of_made_frames, images_of_a_run_are_true, images_of_a_world_are_true,
-    packets_are_of_made_frames, run_is_a_world, soak_is_an_application,
+    packets_are_of_made_frames, run_is_a_world, schedule_has_a_trace, soak_is_an_application,
     text_of_a_run_has_take_lines, trace_of_a_world_keeps_promises,
 };

@@ -3,6 +3,7 @@ use super::*;
 #[test]
 fn laws() {
     commands_of_a_world_act_once();
+    schedule_has_a_trace();
     trace_of_a_world_keeps_promises();
     heard_images_are_true();
     given_packets_are_heard();

@@ -21,7 +21,7 @@ const WORDS_ALONE: [(Words, Command); 2] = [
 ];
 
 /// Refused words: the place of the first that isn't understood, and what `clap` finds wrong.
-const REFUSED: [(Words, u32, ErrorKind); 12] = [
+const REFUSED: [(Words, u32, ErrorKind); 15] = [
     (&[], 0, ErrorKind::MissingSubcommand),
     (&["reply"], 0, ErrorKind::InvalidSubcommand),
     (&["Replay"], 0, ErrorKind::InvalidSubcommand),
@@ -58,6 +58,21 @@ const REFUSED: [(Words, u32, ErrorKind); 12] = [
         6,
         ErrorKind::UnknownArgument,
     ),
+    (
+        &["make", "1", "0", "0", "0", "0", "short"],
+        6,
+        ErrorKind::UnknownArgument,
+    ),
+    (
+        &["soak", "1", "0", "0", "0", "0", "long"],
+        6,
+        ErrorKind::InvalidValue,
+    ),
+    (
+        &["soak", "1", "0", "0", "0", "0", "short", "short"],
+        7,
+        ErrorKind::UnknownArgument,
+    ),
 ];
 
 /// The command of these numbers after `make`.
@@ -77,6 +92,18 @@ fn soak(seed: u64, frames: u32, loss: u16, repeat: u16, swap: u16) -> Command {
         seed,
         frames,
         rates,
+        short: false,
+    }
+}
+
+/// The same with the further word `short`.
+fn short_soak(seed: u64, frames: u32, loss: u16, repeat: u16, swap: u16) -> Command {
+    let rates = Rates { loss, repeat, swap };
+    Command::Soak {
+        seed,
+        frames,
+        rates,
+        short: true,
     }
 }
 
@@ -97,6 +124,11 @@ fn with_numbers(alloc: Global, name: &'static str) -> Result<clap::Command<'stat
         .arg(number(alloc, "swap", 1000))
 }
 
+/// The word `short`, or none.
+fn short_word(alloc: Global) -> Arg<'static> {
+    Arg::new(alloc, "short").value_parser(ValueParser::Names(["short"].as_slice()))
+}
+
 /// What `clap` finds in the words.
 fn matches_of(alloc: Global, words: Words) -> Result<ArgMatches<'static>, Error> {
     let program = clap::Command::new(alloc, "gevacq")
@@ -105,7 +137,7 @@ fn matches_of(alloc: Global, words: Words) -> Result<ArgMatches<'static>, Error>
         .subcommand(clap::Command::new(alloc, "replay"))?
         .subcommand(clap::Command::new(alloc, "camera"))?
         .subcommand(with_numbers(alloc, "make")?)?
-        .subcommand(with_numbers(alloc, "soak")?)?;
+        .subcommand(with_numbers(alloc, "soak")?.arg(short_word(alloc))?)?;
     program.try_get_matches_from(words)
 }
 
@@ -149,6 +181,7 @@ fn found_command(found: &ArgMatches<'static>) -> Option<Command> {
             seed,
             frames,
             rates,
+            short: inner.contains_id("short"),
         });
     }
     None
@@ -179,7 +212,7 @@ fn made() -> [(Words, Command); 6] {
 }
 
 /// Lines of `soak`, and the command that each is.
-fn soaked() -> [(Words, Command); 6] {
+fn soaked() -> [(Words, Command); 9] {
     [
         (&["soak", "0", "0", "0", "0", "0"], soak(0, 0, 0, 0, 0)),
         (&["soak", "6", "7", "8", "9", "10"], soak(6, 7, 8, 9, 10)),
@@ -205,6 +238,26 @@ fn soaked() -> [(Words, Command); 6] {
         (
             &["soak", "10000000000000000000", "10", "1", "999", "998"],
             soak(10_000_000_000_000_000_000, 10, 1, 999, 998),
+        ),
+        (
+            &["soak", "0", "0", "0", "0", "0", "short"],
+            short_soak(0, 0, 0, 0, 0),
+        ),
+        (
+            &["soak", "11", "12", "13", "14", "15", "short"],
+            short_soak(11, 12, 13, 14, 15),
+        ),
+        (
+            &[
+                "soak",
+                "18446744073709551615",
+                "100000",
+                "1000",
+                "1000",
+                "1000",
+                "short",
+            ],
+            short_soak(18_446_744_073_709_551_615, 100_000, 1000, 1000, 1000),
         ),
     ]
 }

@@ -7,7 +7,7 @@ use std::test::Fail;
 /// The words of a command line, and the place of the first that isn't understood.
 type Refused = (&'static [&'static str], u32);
 
-const OTHER_WORDS: [Refused; 26] = [
+const OTHER_WORDS: [Refused; 32] = [
     (&[], 0),
     (&["reply"], 0),
     (&["Replay"], 0),
@@ -34,6 +34,12 @@ const OTHER_WORDS: [Refused; 26] = [
     (&["soak", "1", "2"], 3),
     (&["soak", "1", "0", "0", "0", "01"], 5),
     (&["soak", "1", "0", "0", "0", "0", "make"], 6),
+    (&["soak", "1", "0", "0", "0", "0", "Short"], 6),
+    (&["soak", "1", "0", "0", "0", "0", ""], 6),
+    (&["soak", "1", "0", "0", "0", "short"], 5),
+    (&["soak", "short", "1", "0", "0", "0", "0"], 1),
+    (&["soak", "1", "0", "0", "0", "0", "short", "short"], 7),
+    (&["make", "1", "0", "0", "0", "0", "short"], 6),
 ];
 
 #[test]

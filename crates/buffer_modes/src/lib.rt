@@ -1,0 +1,13 @@
+//! Claims and fills of an acquisition in each buffer handling mode (GenICam SFNC,
+//! StreamBufferHandlingMode), over the plain board.
+//!
+//! `mode_calls` has the definitions and their laws. A buffer that is taken here is dropped: its image is
+//! never handed out. No call takes memory.
+#![tactic(auto)]
+
+mod plain;
+#[cfg(test)]
+mod tests;
+
+pub use mode_calls::Mode;
+pub use plain::{plain_claim_for, plain_fill_for};

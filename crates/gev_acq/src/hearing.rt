@@ -1,0 +1,97 @@
+ghost use Rattle.std.specs.Prelude.{◌≡◌, [], Some};
+ghost use Rattle.acquisition_machine.specs.TurnLaws.{asked_by};
+ghost use Rattle.acq_core.specs.Receiver.{config_of, asked_block, buffers, Stands};
+ghost use Rattle.acq_core.specs.Waiting.{waiting_fills, waiting_requests};
+ghost use Rattle.buffer_words.specs.Boards.{board_id};
+ghost use Rattle.gev_acq.specs.Buffers.{Backs, HoldsAlone};
+ghost use Rattle.gev_acq.specs.Heard.{kept_by};
+ghost use Rattle.gev_acq.specs.Hearing.{TellsOnce, Hears};
+
+use crate::claiming::claim_one;
+use crate::filling::fill_all;
+use crate::heard::Heard;
+use acq_core::{Acq, Need};
+use buffer_words::{Board, Pass};
+use gev_links::Gate;
+use std::sync::Wait;
+
+/// Gives a datagram to the receiver. What retires is filled. Where the receiver asks for a buffer, one is
+/// claimed, and the datagram is given once more.
+pub fn hear<R: Wait, G: Gate>(
+    rt: &R,
+    board: &Board,
+    pass: &mut Pass,
+    acq: &mut Acq,
+    gate: &G,
+    bytes: &[u8],
+) -> Heard
+    requires table { pass.old.table ≡ board_id board.now }
+    requires fills { waiting_fills acq.old ≡ [] }
+    requires requests { waiting_requests acq.old ≡ [] }
+    requires backs { Backs pass.old (buffers acq.old) }
+    ensures hears { Hears (config_of acq.old) (Stands acq.old) (Stands acq.new) bytes.now result pass.old pass.new }
+    ensures config { config_of acq.new ≡ config_of acq.old }
+    ensures fills { waiting_fills acq.new ≡ [] }
+    ensures requests { waiting_requests acq.new ≡ [] }
+    ensures backs { Backs pass.new (buffers acq.new) }
+    ensures alone { HoldsAlone pass.old (buffers acq.old) → HoldsAlone pass.new (buffers acq.new) }
+{
+    match tell(rt, board, pass, acq, gate, bytes) {
+        Need::Buffer(block) => {
+            let claim = claim_one(rt, board, pass, acq);
+            let kept = is_done(tell(rt, board, pass, acq, gate, bytes));
+            Heard {
+                kept,
+                opened: block,
+                claim,
+            }
+        }
+        Need::Done => Heard {
+            kept: true,
+            opened: 0,
+            claim: None,
+        },
+        Need::Ignored(_) => Heard {
+            kept: false,
+            opened: 0,
+            claim: None,
+        },
+    }
+}
+
+/// Whether the packet was kept.
+fn is_done(need: Need) -> bool
+    ensures { result ≡ kept_by (Some need) }
+{
+    match need {
+        Need::Done => true,
+        Need::Buffer(_) | Need::Ignored(_) => false,
+    }
+}
+
+/// Gives a datagram to the receiver once, and fills what retires.
+fn tell<R: Wait, G: Gate>(
+    rt: &R,
+    board: &Board,
+    pass: &mut Pass,
+    acq: &mut Acq,
+    gate: &G,
+    bytes: &[u8],
+) -> Need
+    requires table { pass.old.table ≡ board_id board.now }
+    requires fills { waiting_fills acq.old ≡ [] }
+    requires requests { waiting_requests acq.old ≡ [] }
+    requires backs { Backs pass.old (buffers acq.old) }
+    ensures tells { TellsOnce (config_of acq.old) (Stands acq.old) (Stands acq.new) bytes.now result pass.old pass.new }
+    ensures table { pass.new.table ≡ pass.old.table }
+    ensures config { config_of acq.new ≡ config_of acq.old }
+    ensures fills { waiting_fills acq.new ≡ [] }
+    ensures requests { waiting_requests acq.new ≡ [] }
+    ensures asked { asked_block acq.new ≡ asked_by (Some result) }
+    ensures backs { Backs pass.new (buffers acq.new) }
+    ensures alone { HoldsAlone pass.old (buffers acq.old) → HoldsAlone pass.new (buffers acq.new) }
+{
+    let need = acq.datagram(bytes);
+    fill_all(rt, board, pass, acq, gate);
+    need
+}

@@ -1,0 +1,5 @@
+pub mod Ids
+pub mod Quiet
+pub mod Turns
+pub mod OneLook
+pub mod AllLooks

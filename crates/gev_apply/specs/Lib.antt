@@ -1,0 +1,3 @@
+pub mod TakenIds
+pub mod Looks
+pub mod Applied

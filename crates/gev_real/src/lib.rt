@@ -1,0 +1,18 @@
+//! The real outside: standard input and output, UDP sockets on 127.0.0.1, and the system's clock.
+//!
+//! Each adapter meets its trait of `gev_links` and tells nothing of what it reads, writes or tells.
+#![tactic(auto)]
+
+mod monotonic_clock;
+mod real_ports;
+mod standard_input;
+mod standard_output;
+#[cfg(test)]
+mod tests;
+mod udp_link;
+
+pub use monotonic_clock::MonotonicClock;
+pub use real_ports::RealPorts;
+pub use standard_input::StandardInput;
+pub use standard_output::StandardOutput;
+pub use udp_link::UdpLink;

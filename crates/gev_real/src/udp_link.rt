@@ -1,0 +1,172 @@
+ghost use Rattle.std.specs.Prelude.{◌≡◌, ◌≤◌, None, length, IfOk, IfSome};
+
+use gev_links::{Failed, Link};
+use gev_types::Peer;
+use libc::types::pollfd;
+use std::io;
+use std::net::{IpAddr, Ipv4Addr, Net, SocketAddr, UdpSocket};
+use std::os::fd::AsRawFd;
+
+/// How long a receive waits where nothing came, in milliseconds.
+const RECEIVE_LIMIT: i32 = 1;
+
+/// The room that is asked for datagrams that came and weren't received, in bytes. The system gives as
+/// much of it as it allows.
+const ROOM: i32 = 0x0200_0000;
+
+/// A UDP socket on 127.0.0.1, with a port that the system gave. It tells nothing of what it sends and
+/// receives.
+#[derive(Drop)]
+pub struct UdpLink {
+    socket: UdpSocket,
+    peer: Peer,
+    waits: bool,
+    faults: u64,
+}
+
+/// The address of a peer.
+fn address_of(peer: Peer) -> SocketAddr {
+    SocketAddr::new(IpAddr::V4(Ipv4Addr::from(peer.address)), peer.port)
+}
+
+/// The peer of an address. The sockets are of IPv4 alone, so no other address comes.
+fn peer_at(address: SocketAddr) -> Peer {
+    let number = match address.ip() {
+        IpAddr::V4(ip) => u32::from(ip),
+        IpAddr::V6(_) => 0,
+    };
+    Peer {
+        address: number,
+        port: address.port(),
+    }
+}
+
+/// Asks the system for more room for datagrams that wait: by default it holds fewer than half of a frame's
+/// packets. A link works with less of it, so a refusal is none of the link's faults.
+fn ask_room(socket: &UdpSocket) {
+    let [a, b, c, d] = ROOM.to_ne_bytes();
+    let value = [a, b, c, d, 0, 0, 0, 0, 0, 0, 0, 0, 0, 0, 0, 0];
+    let _ = unsafe {
+        libc::net::setsockopt(
+            socket.as_raw_fd(),
+            libc::net::SOL_SOCKET,
+            libc::net::SO_RCVBUF,
+            &value,
+            4,
+        )
+    };
+}
+
+/// Waits until a datagram is there, for at most the receive limit. The socket's own read timeout comes out
+/// longer: the system rounds it up to its clock ticks.
+fn wait(socket: &UdpSocket) {
+    let mut asked = [pollfd {
+        fd: socket.as_raw_fd(),
+        events: libc::net::POLLIN,
+        revents: 0,
+    }];
+    let _ = libc::net::poll(&mut asked, RECEIVE_LIMIT);
+}
+
+/// Whether an error says only that no datagram is there.
+fn is_nothing(kind: io::ErrorKind) -> bool {
+    matches!(
+        kind,
+        io::ErrorKind::WouldBlock | io::ErrorKind::TimedOut | io::ErrorKind::Interrupted
+    )
+}
+
+/// Takes a datagram that is there.
+fn take(socket: &UdpSocket, out: &mut [u8]) -> Result<Option<(usize, Peer)>, Failed>
+    ensures { IfOk result (λ came. IfSome came (λ datagram. datagram.0 ≤ length out.old)) }
+{
+    match socket.recv_from(out) {
+        Ok(came) => Ok(Some((came.0, peer_at(came.1)))),
+        Err(error) => {
+            if is_nothing(error.kind()) {
+                Ok(None)
+            } else {
+                Err(Failed)
+            }
+        }
+    }
+}
+
+/// Whether no datagram was there.
+fn is_none(looked: &Result<Option<(usize, Peer)>, Failed>) -> bool {
+    match looked {
+        Ok(came) => came.is_none(),
+        Err(_) => false,
+    }
+}
+
+impl UdpLink {
+    /// A new socket on 127.0.0.1. A receive of it that finds nothing waits for at most a millisecond and
+    /// looks once more, where `waits` says so; else it looks once.
+    pub(crate) fn open<N: Net>(net: &N, waits: bool) -> io::Result<UdpLink>
+        ensures { IfOk result (λ link. link.faults ≡ 0) }
+    {
+        let socket = UdpSocket::bind(net, SocketAddr::new(IpAddr::V4(Ipv4Addr::LOCALHOST), 0))?;
+        socket.set_nonblocking(true)?;
+        ask_room(&socket);
+        let peer = peer_at(socket.local_addr()?);
+        Ok(UdpLink {
+            socket,
+            peer,
+            waits,
+            faults: 0,
+        })
+    }
+
+    /// How many calls failed.
+    pub fn faults(&self) -> u64
+        ensures { result ≡ self.now.faults }
+    {
+        self.faults
+    }
+}
+
+impl Link for UdpLink {
+    ghost received = { λ _. None };
+
+    ghost sent = { λ _. None };
+
+    ghost faults = { λ l. l.faults };
+
+    ghost address = { λ l. l.peer };
+
+    fn send(&mut self, peer: Peer, bytes: &[u8]) -> Result<(), Failed> {
+        match self.socket.send_to(bytes, address_of(peer)) {
+            Ok(count) => {
+                if count == bytes.len() {
+                    return Ok(());
+                }
+                self.faults = self.faults.saturating_add(1);
+                Err(Failed)
+            }
+            Err(_) => {
+                self.faults = self.faults.saturating_add(1);
+                Err(Failed)
+            }
+        }
+    }
+
+    fn recv(&mut self, out: &mut [u8]) -> Result<Option<(usize, Peer)>, Failed> {
+        let mut looked = take(&self.socket, out);
+        if self.waits && is_none(&looked) {
+            wait(&self.socket);
+            looked = take(&self.socket, out);
+        }
+        match looked {
+            Ok(came) => Ok(came),
+            Err(_) => {
+                self.faults = self.faults.saturating_add(1);
+                Err(Failed)
+            }
+        }
+    }
+
+    fn peer(&self) -> Peer {
+        self.peer
+    }
+}

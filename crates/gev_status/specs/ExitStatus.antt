@@ -1,0 +1,14 @@
+-- The exit status of the program for each answer.
+use Rattle.std.specs.Prelude.{ℕ}
+use Rattle.gev_status.specs.declared.status.Status.{Status}
+use Rattle.gev_status.specs.declared.status.Status.TheVariants.{Done, Usage, BadScript, ReadFault, WriteFault, NoMemory, NoAnswer, Refused}
+
+abbrev pub exit_status : Status → ℕ
+exit_status Done = 0
+exit_status (Usage place) = 2
+exit_status (BadScript line kind) = 3
+exit_status ReadFault = 4
+exit_status WriteFault = 5
+exit_status NoMemory = 7
+exit_status (NoAnswer req) = 9
+exit_status (Refused status) = 10

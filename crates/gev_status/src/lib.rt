@@ -1,0 +1,6 @@
+//! How a run of the program ends: its statuses, their exit numbers, and their texts.
+#![tactic(auto)]
+
+mod status;
+
+pub use status::Status;

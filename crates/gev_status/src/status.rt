@@ -1,0 +1,96 @@
+ghost use Rattle.std.specs.Prelude.{◌≡◌};
+ghost use Rattle.gev_status.specs.ExitStatus.{exit_status};
+
+use gev_script::ScriptKind;
+use std::fmt;
+
+/// How a run of the program ended.
+#[derive(Clone, Copy, Debug, PartialEq, Eq)]
+pub enum Status {
+    /// The script was read to its `end` line, and its report was written.
+    Done,
+    /// The words aren't a command line.
+    Usage {
+        /// The place, from 0, of the first word that isn't understood, or the number of words where
+        /// more are wanted.
+        place: u32,
+    },
+    /// A line of the script is refused. The report of the lines before it was written.
+    BadScript {
+        /// The line's number, from 1.
+        line: u64,
+        /// Why it's refused.
+        kind: ScriptKind,
+    },
+    /// Reading failed.
+    ReadFault,
+    /// Writing failed.
+    WriteFault,
+    /// Memory ran out.
+    NoMemory,
+    /// A command that was sent three times had no answer.
+    NoAnswer {
+        /// The command's request number.
+        req: u16,
+    },
+    /// The camera refused a command.
+    Refused {
+        /// The status of its acknowledge.
+        status: u16,
+    },
+}
+
+impl Status {
+    /// The exit status of the program.
+    pub fn number(&self) -> u8
+        ensures { result ≡ exit_status self.now }
+    {
+        match self {
+            Status::Done => 0,
+            Status::Usage { .. } => 2,
+            Status::BadScript { .. } => 3,
+            Status::ReadFault => 4,
+            Status::WriteFault => 5,
+            Status::NoMemory => 7,
+            Status::NoAnswer { .. } => 9,
+            Status::Refused { .. } => 10,
+        }
+    }
+}
+
+/// The text of a fault, as it stands on standard error. `Done` has no text there.
+impl fmt::Display for Status {
+    fn fmt<W: fmt::Write>(&self, f: &mut fmt::Formatter<W>) -> fmt::Result {
+        match self {
+            Status::Done => write!(f, "done"),
+            Status::Usage { place } => write!(f, "word {place} isn't understood"),
+            Status::BadScript { line, kind } => {
+                let cause = Cause(*kind);
+                write!(f, "line {line}: {cause}")
+            }
+            Status::ReadFault => write!(f, "reading failed"),
+            Status::WriteFault => write!(f, "writing failed"),
+            Status::NoMemory => write!(f, "out of memory"),
+            Status::NoAnswer { req } => write!(f, "no answer to request {req}"),
+            Status::Refused { status } => write!(f, "refused with status 0x{status:04x}"),
+        }
+    }
+}
+
+/// Why a line is refused, as a text.
+#[derive(Drop)]
+struct Cause(ScriptKind);
+
+impl fmt::Display for Cause {
+    fn fmt<W: fmt::Write>(&self, f: &mut fmt::Formatter<W>) -> fmt::Result {
+        match self.0 {
+            ScriptKind::Header => write!(f, "header"),
+            ScriptKind::Word => write!(f, "word"),
+            ScriptKind::Number => write!(f, "number"),
+            ScriptKind::Hex => write!(f, "hex"),
+            ScriptKind::Long => write!(f, "too long"),
+            ScriptKind::NoEnd => write!(f, "no end"),
+            ScriptKind::Many => write!(f, "too many lines"),
+        }
+    }
+}

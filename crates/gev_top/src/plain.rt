@@ -1,0 +1,99 @@
+ghost use Rattle.std.specs.Prelude.{◌≡◌, ◌≢◌, ◌↔◌, ℕ, Some, Ok, map};
+ghost use Rattle.std.specs.String.{string_bytes};
+ghost use Rattle.script_runs.specs.Verdicts.{IfTold};
+ghost use Rattle.gev_top.specs.declared.command.Command.{Command};
+ghost use Rattle.gev_top.specs.Answers.{Answers, IsDecided};
+ghost use Rattle.gev_top.specs.Usage.{command_of, usage_fault};
+
+use crate::command::Command;
+use crate::making::make_script;
+use crate::scripts::{camera, replay};
+use crate::soaking::soak;
+use gev_status::Status;
+use crate::usage::read_words;
+use gev_links::{Sink, Source};
+use std::alloc::Global;
+
+/// Does what the words say.
+///
+/// `replay` runs the replay script that the source gives, and writes its report to the sink. Each line is
+/// run as it's read, and its report is written before the next line is read. Memory doesn't grow with the
+/// script but by the buffers that it announces.
+///
+/// `camera` runs the camera script that the source gives in the same way: its report is what a simulated
+/// camera answers and sends.
+///
+/// `make` with a seed, a number of frames and the rates of loss, repeats and swaps writes a replay script
+/// to the sink.
+///
+/// `soak` with the same numbers runs a camera, a network and a host as one machine, and writes a line for
+/// each buffer that the host takes, and what it counted. With the further word `short` the camera's images
+/// have up to seven lines fewer than their leaders announce. Memory grows with the rates, not with the
+/// number of frames.
+pub fn plain_top<S: Source, K: Sink>(
+    alloc: Global,
+    words: &[String],
+    source: &mut S,
+    sink: &mut K,
+) -> Status
+    // Words that aren't a command line are answered by their place, and nothing is read or written.
+    ensures usage { (place : ℕ) → (result ≡ Status.Usage place) ↔ (usage_fault (map (λ word. string_bytes word) words.now) ≡ Some place) }
+    ensures unused { (place : ℕ) → usage_fault (map (λ word. string_bytes word) words.now) ≡ Some place
+        → (S.left source.new ≡ S.left source.old) × (K.written sink.new ≡ K.written sink.old)
+        × (S.faults source.new ≡ S.faults source.old) × (K.faults sink.new ≡ K.faults sink.old) }
+
+    // Each other answer has its cause. Of a script: which lines were run, what was written, and whose count
+    // of faults rose. The bytes that a replay writes are the report of one trace, which keeps its promises:
+    // under each map of frames from which the datagrams were sent, an image that is marked complete is its
+    // block's frame. Those that a camera script writes are what events of one camera print. Of a script that
+    // is made: it was written whole, or a front of it. Of a soak run: its text was written, or a front of it,
+    // the answer is the run's end, its receiver's history keeps the promises of a trace, each image that is
+    // marked complete is the generator's, and its commands act once.
+    ensures cause { (command : Command) → command_of (map (λ word. string_bytes word) words.now) ≡ Ok command
+        → Answers command result (S.left source.old) (S.left source.new) (S.faults source.old) (S.faults source.new)
+        (K.written sink.old) (K.written sink.new) (K.faults sink.old) (K.faults sink.new) }
+
+    // Where the source tells what it holds, its bytes decide, but for faults and want of memory.
+    ensures exact { (command : Command) → command_of (map (λ word. string_bytes word) words.now) ≡ Ok command
+        → IfTold (S.left source.old) (λ content. IsDecided command result content) }
+
+    // A count of faults changes only with the answer that tells of it.
+    ensures reads_steady { result ≢ Status.ReadFault → S.faults source.new ≡ S.faults source.old }
+    ensures writes_steady { result ≢ Status.WriteFault → K.faults sink.new ≡ K.faults sink.old }
+{
+    match read_words(words) {
+        Ok(command) => run_command(alloc, command, source, sink),
+        Err(place) => Status::Usage { place },
+    }
+}
+
+/// Does what the command says.
+fn run_command<S: Source, K: Sink>(
+    alloc: Global,
+    command: Command,
+    source: &mut S,
+    sink: &mut K,
+) -> Status
+    ensures understood { (place : ℕ) → result ≢ Status.Usage place }
+    ensures cause { Answers command result (S.left source.old) (S.left source.new) (S.faults source.old) (S.faults source.new)
+        (K.written sink.old) (K.written sink.new) (K.faults sink.old) (K.faults sink.new) }
+    ensures exact { IfTold (S.left source.old) (λ content. IsDecided command result content) }
+    ensures reads_steady { result ≢ Status.ReadFault → S.faults source.new ≡ S.faults source.old }
+    ensures writes_steady { result ≢ Status.WriteFault → K.faults sink.new ≡ K.faults sink.old }
+{
+    match command {
+        Command::Replay => replay(alloc, source, sink),
+        Command::Camera => camera(alloc, source, sink),
+        Command::Make {
+            seed,
+            frames,
+            rates,
+        } => make_script(alloc, seed, frames, rates, sink),
+        Command::Soak {
+            seed,
+            frames,
+            rates,
+            short,
+        } => soak(alloc, seed, frames, rates, short, sink),
+    }
+}

@@ -1,0 +1,63 @@
+-- Laws of the buffer handling modes, which `src/laws.rt` proves.
+use Rattle.std.specs.Prelude.{◌≡◌, ◌⊎◌, ◌↔◌, ℕ, ◌+◌, Bool, true, List, [], ◌∷◌, length, Option, Some, None}
+use Rattle.gev_types.specs.Filling.{Filling}
+use Rattle.board_machine.specs.declared.events.Entry.{Entry}
+use Rattle.board_machine.specs.declared.events.Event.{Event}
+use Rattle.board_machine.specs.Places.{times}
+use Rattle.board_machine.specs.Machine.{Board, Item, item, places}
+use Rattle.board_machine.specs.Histories.{Run, RunsFrom, after_from}
+use Rattle.board_machine.specs.Adding.{entries_of}
+use Rattle.board_machine.specs.Owners.{IsOwned}
+use Rattle.board_machine.specs.Handout.{marks, removed}
+use Rattle.mode_calls.specs.declared.mode.Mode.{Mode}
+use Rattle.mode_calls.specs.declared.mode.Mode.TheVariants.{OldestFirst, OldestFirstOverwrite, NewestOnly}
+use Rattle.mode_calls.specs.Modes.{ClaimsFor, FillsFor}
+use Rattle.mode_calls.specs.Dropped.{dropped_items, handed_out_items, others, sweep_marks, swept_items, ExactlyOne}
+
+-- Whoever acquires: of each place that left the output exactly one is true, that it was dropped, handed
+-- out or swept; and each of them has its bytes and its record.
+pub record IsSplit (acquires : ℕ → Bool) (h : List Entry) : Type 0 where
+  pub wide : length (sweep_marks h) ≡ length (removed h)
+  pub once : ExactlyOne (marks acquires h) (marks (others acquires) h) (sweep_marks h)
+  pub counted : (i : ℕ) → times i (places (dropped_items acquires h)) + times i (places (handed_out_items acquires h)) + times i (places (swept_items h))
+      ≡ times i (removed h)
+
+abbrev pub EachRemovedIsOne : Type 0
+EachRemovedIsOne = (acquires : ℕ → Bool) (h : List Entry) → Run h → IsSplit acquires h
+
+-- The pool was empty, and the place was the output's first.
+pub record WasOldest (b : Board) (i : ℕ) : Type 0 where
+  pub no_pool : b.pool ≡ []
+  pub filling : Filling
+  pub rest : List Item
+  pub first : b.out ≡ item i filling ∷ rest
+
+-- A place that a claim took waited longest at its step.
+abbrev pub OldestIsDropped : Type 0
+OldestIsDropped =
+    (mode : Mode) (b : Board) (k i : ℕ) (es : List Event) → ClaimsFor mode (Some (i, true)) es → RunsFrom b (entries_of k es) → WasOldest b i
+
+-- No buffer waits, or the stream is closed.
+abbrev pub NoneWaits : Board → Type 0
+NoneWaits b = (b.out ≡ []) ⊎ (b.closed ≡ true)
+
+-- There is no buffer for a new block.
+abbrev pub HasNothing : Mode → Board → Type 0
+HasNothing OldestFirst b = b.pool ≡ []
+HasNothing OldestFirstOverwrite b = (b.pool ≡ []) × NoneWaits b
+HasNothing NewestOnly b = (b.pool ≡ []) × NoneWaits b
+
+abbrev pub NothingIsClaimed : Type 0
+NothingIsClaimed =
+    (mode : Mode) (b : Board) (k : ℕ) (answer : Option (ℕ × Bool)) (es : List Event) → ClaimsFor mode answer es → RunsFrom b (entries_of k es)
+    → (answer ≡ None) ↔ HasNothing mode b
+
+-- All that waited was dropped, and the new entry waits alone.
+pub record IsAlone (b : Board) (dropped : List ℕ) (i : ℕ) (f : Filling) (new : Board) : Type 0 where
+  pub dropped_all : dropped ≡ places b.out
+  pub alone : new.out ≡ item i f ∷ []
+
+abbrev pub NewestIsAlone : Type 0
+NewestIsAlone =
+    (b : Board) (k i : ℕ) (f : Filling) (dropped : List ℕ) (es : List Event) → IsOwned b → FillsFor NewestOnly dropped i f true es
+    → RunsFrom b (entries_of k es) → IsAlone b dropped i f (after_from b (entries_of k es))

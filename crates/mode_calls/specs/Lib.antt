@@ -1,0 +1,3 @@
+pub mod Modes
+pub mod Dropped
+pub mod Laws
