@@ -2,9 +2,9 @@ ghost use Rattle.std.specs.Prelude.{◌≡◌, ◌≢◌};
 ghost use Rattle.gev_make.specs.MakeText.{make_text};
 ghost use Rattle.gev_top.specs.Answers.{Writes};
 
-use gev_status::Status;
 use gev_links::Sink;
 use gev_make::{MakeEnd, make};
+use gev_status::Status;
 use lossy_queue::Rates;
 use std::alloc::Global;
 

@@ -9,9 +9,9 @@ use crate::command::Command;
 use crate::making::make_script;
 use crate::scripts::{camera, replay};
 use crate::soaking::soak;
-use gev_status::Status;
 use crate::usage::read_words;
 use gev_links::{Sink, Source};
+use gev_status::Status;
 use std::alloc::Global;
 
 /// Does what the words say.

@@ -5,9 +5,9 @@ ghost use Rattle.gev_top.specs.Answers.{Replays, Serves, IsDecided};
 ghost use Rattle.gev_top.specs.Scripts.{status_of, IfEnded, AnswersContent};
 ghost use Rattle.gev_top.specs.declared.command.Command.TheVariants as commands;
 
-use gev_status::Status;
 use camera_replay::CameraRun;
 use gev_links::{Sink, Source};
+use gev_status::Status;
 use gev_types::NoMemory;
 use script_replay::Replay;
 use script_runs::{Ending, Modelled, run_modelled};

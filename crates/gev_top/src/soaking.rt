@@ -2,8 +2,8 @@ ghost use Rattle.std.specs.Prelude.{◌≡◌, ◌≢◌};
 ghost use Rattle.gev_world.specs.Runs.{RunsSoak};
 ghost use Rattle.gev_top.specs.Soaking.{status_after, WritesRun};
 
-use gev_status::Status;
 use gev_links::Sink;
+use gev_status::Status;
 use gev_types::NoMemory;
 use gev_world::{SoakEnd, World};
 use lossy_queue::Rates;

@@ -65,7 +65,7 @@ HasSaid text first = text ≡ []
 HasSaid text (running c w t) = HasText text w t
 
 -- So it is of every script, however far it was run, with the last line that was run too; and the trace's
--- text is the report of its lines.
+-- text is the report of its lines, where no datagram was widened.
 pub record RunsKeepPromises : Type 0 where
   pub so_far :
       (lines : List (List ℕ)) (text : List ℕ) (new : Standing) → AreLines lines

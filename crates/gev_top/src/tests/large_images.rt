@@ -14,8 +14,7 @@ struct Sent {
 }
 
 /// The leader of block 1, an image of 1,000 by 1,000 bytes.
-const LEADER: &[u8] =
-    b"d 00000000810000000000000000000001000000000000000100000000000000000108000\
+const LEADER: &[u8] = b"d 00000000810000000000000000000001000000000000000100000000000000000108000\
 1000003e8000003e8000000000000000000000000\n";
 
 /// Adds the line of a payload of so many bytes `a`.
@@ -33,7 +32,9 @@ fn add_payload(alloc: Global, text: &mut Vec<u8>, id: u32, size: usize) -> Resul
 fn script_of(alloc: Global, sent: Sent) -> Result<Vec<u8>, Fail> {
     let mut text = Vec::new(alloc);
     let most = sent.most;
-    let opening = format!(in alloc; "gevacq 1 {most} 2 1000 100 2\nannounce 1000000\nqueue 0.1\nstart\n")?;
+    let opening = format!(in alloc;
+        "gevacq 1 {most} 2 1000 100 2\nannounce 1000000\nqueue 0.1\nstart\n"
+    )?;
     text.extend_from_slice(opening.as_bytes())?;
     text.extend_from_slice(LEADER)?;
     for place in 0..sent.full {
@@ -44,7 +45,9 @@ fn script_of(alloc: Global, sent: Sent) -> Result<Vec<u8>, Fail> {
         add_payload(alloc, &mut text, end, sent.last)?;
         end = end.saturating_add(1);
     }
-    let closing = format!(in alloc; "d 00000000820000000000000000000001{end:08x}00000001000003e8\ntake\nend\n")?;
+    let closing = format!(in alloc;
+        "d 00000000820000000000000000000001{end:08x}00000001000003e8\ntake\nend\n"
+    )?;
     text.extend_from_slice(closing.as_bytes())?;
     Ok(text)
 }
