@@ -175,8 +175,9 @@ fn step_piece(answer: StepText) -> Piece<'static>
     }
 }
 
-/// Adds the line of a packet resend command that was asked for: the command's bytes in hex.
-pub fn line_request(_alloc: Global, bytes: &[u8; 28], out: &mut Vec<u8>) -> Result<(), NoMemory>
+/// Adds the line of a packet resend command that was asked for: the command's bytes in hex, 28 of them, or 20
+/// where identifiers are standard.
+pub fn line_request(_alloc: Global, bytes: &[u8], out: &mut Vec<u8>) -> Result<(), NoMemory>
     ensures line { OnOk result (out.new.items ≡ out.old.items ++ request_line bytes.now) }
     ensures unchanged { OnErr result (out.new.items ≡ out.old.items) }
 {

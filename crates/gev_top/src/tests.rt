@@ -14,6 +14,7 @@ mod refusals;
 mod second_reading;
 mod short_frames;
 mod soaking;
+mod standard_ids;
 mod waiting;
 mod words;
 
@@ -75,6 +76,7 @@ fn reports(rt: HostRuntime) -> Result<(), Fail> {
         board::CALLS,
         board::STEPS,
         handles::HANDLES,
+        standard_ids::STANDARD_IDS,
     ];
     for table in tables {
         for row in table {

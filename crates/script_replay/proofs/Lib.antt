@@ -20,3 +20,4 @@ pub mod Spelled
 pub mod Replaying
 pub mod InPlace
 pub mod Standings
+pub mod Widened

@@ -11,16 +11,16 @@ use Rattle.acq_core.specs.declared.machine.Machine.{Machine}
 use Rattle.acq_core.specs.Standing.{IsConfig}
 use Rattle.acq_core.specs.Receiver.{config_of, asked_block, buffers, Stands}
 use Rattle.acq_core.specs.Waiting.{waiting_fills, waiting_requests}
-use Rattle.script_trace.specs.Trace.{grown}
-use Rattle.script_trace.specs.Adding.{AddsPart}
 use Rattle.script_trace.specs.Opening.{opening, first_handles}
 use Rattle.script_trace.specs.Ending.{end_text}
+use Rattle.script_trace.specs.Wide.{nothing_wide, Does, kept_behind}
 use Rattle.script_trace.specs.Standing.{first, running, config_of as config_from}
 use Rattle.script_replay.specs.declared.running.Running.{Running}
+use Rattle.script_replay.specs.declared.script.Script.{Script}
 use Rattle.script_replay.specs.Boards.{IsLeftBy, IsReady}
 use Rattle.script_replay.specs.Acquiring.{AreAway}
 use Rattle.script_replay.specs.Counting.{no_fills}
-use Rattle.script_replay.specs.Replays.{IsReplaying, AddsAt, Begins, RanBy, StandsFor, RunsAs}
+use Rattle.script_replay.specs.Replays.{IsReplaying, DoneAt, Begins, RanBy, StandsFor, RunsAs}
 
 -- what stands behind a header
 pub begun : (board : PlainState) (acq : Machine) (tree : Handles) (stream : Handle) (config : AcqConfig) → IsConfig config → IsLeftBy board opening.entries → IsReady board
@@ -45,40 +45,43 @@ begun board acq tree stream config is_config left ready stands same fills reques
 }
 
 -- a header was run
-pub begins_on : (new : Running) (text : List ℕ) (n : ℕ) → Begins text new → RunsAs None n text GoesOn [] (Some new)
-begins_on new text n begins first stands =
-    (running (config_from begins.config) opening, record { config = begins.config; read = begins.read; version = begins.version; silent = refl; after = refl }, (begins.same, begins.stands))
-begins_on new text n begins (running c t) stands = absurd stands
+pub begins_on : (new : Script) (text : List ℕ) (n : ℕ) → Begins text new → RunsAs None n text GoesOn [] (Some new)
+begins_on new text n begins first stands = (
+  running (config_from begins.config) (nothing_wide begins.config.version) opening,
+  record { config = begins.config; read = begins.read; silent = refl; after = refl },
+  (begins.same, begins.stands, begins.wide),
+)
+begins_on new text n begins (running c w t) stands = absurd stands
 
 -- a later line was run
-pub runs_on : (old new : Running) (text said : List ℕ) (ran : Ran) (n : ℕ) → RanBy ran text old said new → RunsAs (Some old) n text ran said (Some new)
+pub runs_on : (old new : Script) (text said : List ℕ) (ran : Ran) (n : ℕ) → RanBy ran text old said new → RunsAs (Some old) n text ran said (Some new)
 runs_on old new text said GoesOn n by first stands = absurd stands
 runs_on old new text said Ended n by first stands = absurd stands
-runs_on old new text said GoesOn n by (running c t) stands =
-    let at : AddsAt (config_of old.acq) by.says said new t = by.did.adds t stands.1 in (
-      running c (grown t at.part),
+runs_on old new text said GoesOn n by (running c w t) stands =
+    let at : DoneAt (config_of old.running.acq) by.says said new w t = by.did.does w t stands.1 stands.2 in (
+      running c (kept_behind at.kept t at.trace) at.trace,
       record {
         in_place = by.in_place;
         says = by.says;
         read = by.read;
-        part = at.part;
-        adds = subst (λ (d : AcqConfig). AddsPart d t by.says at.part) stands.0 at.adds;
-        said = at.text;
+        kept = at.kept;
+        trace = at.trace;
+        does = subst (λ (d : AcqConfig). Does d w t by.says said at.kept at.trace) stands.0 at.does;
         after = refl;
       },
-      (by.did.config ∙ stands.0, at.stands),
+      (by.did.config ∙ stands.0, at.stands, at.keeps),
     )
-runs_on old new text said Ended n by (running c t) stands = (
-  running c t,
+runs_on old new text said Ended n by (running c w t) stands = (
+  running c w t,
   record {
     in_place = by.in_place;
     read = by.read ∙ ap (λ l. Ok l) by.did.is_end;
-    said = by.did.told t stands.1 ∙ ap (λ (d : AcqConfig). end_text d t) stands.0;
+    said = by.did.told w t stands.1 stands.2 ∙ ap (λ (d : AcqConfig). end_text d w.refused t) stands.0;
     after = refl;
   },
-  subst (λ (r : Running). StandsFor (Some r) (running c t)) (sym by.did.same) stands,
+  subst (λ (r : Script). StandsFor (Some r) (running c w t)) (sym by.did.same) stands,
 )
 
-pub keeps_on : (old new : Running) (text said : List ℕ) (ran : Ran) → RanBy ran text old said new → IsReplaying old → IsReplaying new
+pub keeps_on : (old new : Script) (text said : List ℕ) (ran : Ran) → RanBy ran text old said new → IsReplaying old.running → IsReplaying new.running
 keeps_on old new text said GoesOn by keeps = by.did.keeps
-keeps_on old new text said Ended by keeps = subst (λ (r : Running). IsReplaying r) (sym by.did.same) keeps
+keeps_on old new text said Ended by keeps = subst (λ (r : Script). IsReplaying r.running) (sym by.did.same) keeps

@@ -5,3 +5,4 @@ pub mod Closes
 pub mod Counting
 pub mod Acquiring
 pub mod Replays
+pub mod Widely

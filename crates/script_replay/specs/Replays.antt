@@ -16,9 +16,12 @@ use Rattle.script_trace.specs.Trace.{Trace, Part, grown}
 use Rattle.script_trace.specs.Adding.{AddsPart, Leads}
 use Rattle.script_trace.specs.Opening.{opening}
 use Rattle.script_trace.specs.Ending.{filled_blocks, as_count, end_text}
-use Rattle.script_trace.specs.Standing.{Standing, first, running, config_of as config_from, run_version, later_kind, ReplayRuns, ReplayRefuses}
+use Rattle.script_trace.specs.Wide.{Wide, nothing_wide, Does, kept_behind}
+use Rattle.script_trace.specs.Standing.{Standing, first, running, config_of as config_from, later_kind, ReplayRuns, ReplayRefuses}
 use Rattle.script_replay.specs.Acquiring.{IsAtRest, IsBehindTrace}
 use Rattle.script_replay.specs.declared.running.Running.{Running}
+use Rattle.script_replay.specs.declared.widening.Widening.{Widening}
+use Rattle.script_replay.specs.declared.script.Script.{Script}
 
 -- What a script runs on stands where this trace leaves it.
 pub record StandsAt (r : Running) (t : Trace) : Type 0 where
@@ -91,63 +94,105 @@ IsCall (line.info which) = ⊤
 IsCall (line.buffer_info place generation which) = ⊤
 IsCall _ = ⊥
 
+-- lines that mean the same in each version
+abbrev pub IsOther : ScriptLine → Type 0
+IsOther (line.datagram digits) = ⊥
+IsOther (line.tick moment) = ⊥
+IsOther _ = ⊤
+
+-- ---- what is kept beside the trace
+
+-- The script keeps this of its datagrams.
+pub record KeepsWide (s : Widening) (w : Wide) : Type 0 where
+  pub version : s.version ≡ w.version
+  pub top : s.widener ≡ w.top
+  pub widened : s.widened ≡ w.widened
+  pub refused : s.refused ≡ as_count w.refused
+
+-- Behind this trace, with this kept beside it, the line does what it means, and leaves the new state.
+pub record DoesAt (c : AcqConfig) (l : ScriptLine) (said : List ℕ) (new : Script) (w : Wide) (t : Trace) : Type 0 where
+  pub kept : Wide
+  pub trace : Trace
+  pub does : Does c w t l said kept trace
+  pub stands : StandsAt new.running trace
+  pub keeps : KeepsWide new.widening kept
+
+-- The line was run: so it is behind each trace that left the old state. A start isn't noted yet.
+pub record DoesLine (l : ScriptLine) (old : Script) (said : List ℕ) (new : Script) : Type 0 where
+  pub does : (w : Wide) (t : Trace) → StandsAt old.running t → KeepsWide old.widening w → DoesAt (config_of old.running.acq) l said new w t
+  pub config : config_of new.running.acq ≡ config_of old.running.acq
+  pub keeps : IsReplaying new.running
+
+-- The same, where a start was noted.
+pub record DoneAt (c : AcqConfig) (l : ScriptLine) (said : List ℕ) (new : Script) (w : Wide) (t : Trace) : Type 0 where
+  pub kept : Wide
+  pub trace : Trace
+  pub does : Does c w t l said kept trace
+  pub stands : StandsAt new.running trace
+  pub keeps : KeepsWide new.widening (kept_behind kept t trace)
+
+pub record DoneLine (l : ScriptLine) (old : Script) (said : List ℕ) (new : Script) : Type 0 where
+  pub does : (w : Wide) (t : Trace) → StandsAt old.running t → KeepsWide old.widening w → DoneAt (config_of old.running.acq) l said new w t
+  pub config : config_of new.running.acq ≡ config_of old.running.acq
+  pub keeps : IsReplaying new.running
+
 -- ---- a line by its bytes
 
--- The bytes are a header of a version that is run, and this stands behind it.
-pub record Begins (text : List ℕ) (new : Running) : Type 0 where
+-- The bytes are a header, and this stands behind it.
+pub record Begins (text : List ℕ) (new : Script) : Type 0 where
   pub config : Config
   pub read : line_of text ≡ Ok (line.header config)
-  pub version : config.version ≡ run_version
-  pub same : config_of new.acq ≡ config_from config
-  pub stands : StandsAt new opening
-  pub keeps : IsReplaying new
+  pub same : config_of new.running.acq ≡ config_from config
+  pub stands : StandsAt new.running opening
+  pub wide : KeepsWide new.widening (nothing_wide config.version)
+  pub keeps : IsReplaying new.running
 
--- The bytes are no header of a version that is run.
+-- The bytes are no header.
 pub record IsNoHeader (text : List ℕ) (kind : ScriptKind) : Type 0 where
   pub kind_is : kind ≡ kinds.Header
-  pub none : (c : Config) → c.version ≡ run_version → line_of text ≢ Ok (line.header c)
+  pub none : (c : Config) → line_of text ≢ Ok (line.header c)
 
 -- It is the last line, and this is what it tells.
-pub record Ends (l : ScriptLine) (old : Running) (said : List ℕ) (new : Running) : Type 0 where
+pub record Ends (l : ScriptLine) (old : Script) (said : List ℕ) (new : Script) : Type 0 where
   pub is_end : l ≡ line.end_of_script
-  pub told : (t : Trace) → StandsAt old t → said ≡ end_text (config_of old.acq) t
+  pub told : (w : Wide) (t : Trace) → StandsAt old.running t → KeepsWide old.widening w → said ≡ end_text (config_of old.running.acq) w.refused t
   pub same : new ≡ old
 
 -- by whether the script goes on
-abbrev pub RanAs : Ran → ScriptLine → Running → List ℕ → Running → Type 0
-RanAs GoesOn l old said new = Goes l old said new
+abbrev pub RanAs : Ran → ScriptLine → Script → List ℕ → Script → Type 0
+RanAs GoesOn l old said new = DoneLine l old said new
 RanAs Ended l old said new = Ends l old said new
 
 -- The bytes are a line that was run.
-pub record RanBy (ran : Ran) (text : List ℕ) (old : Running) (said : List ℕ) (new : Running) : Type 0 where
+pub record RanBy (ran : Ran) (text : List ℕ) (old : Script) (said : List ℕ) (new : Script) : Type 0 where
   pub in_place : later_kind text ≡ None
   pub says : ScriptLine
   pub read : line_of text ≡ Ok says
   pub did : RanAs ran says old said new
 
 -- The bytes are no line of this place, and nothing was done.
-pub record RefusedBy (text : List ℕ) (kind : ScriptKind) (old new : Running) : Type 0 where
+pub record RefusedBy (text : List ℕ) (kind : ScriptKind) (old new : Script) : Type 0 where
   pub kind_is : later_kind text ≡ Some kind
   pub same : new ≡ old
 
 -- ---- the states of the machine
 
 -- None while the header is still to come
-abbrev pub StandsFor : Option Running → Standing → Type 0
+abbrev pub StandsFor : Option Script → Standing → Type 0
 StandsFor None first = ⊤
-StandsFor None (running c t) = ⊥
-StandsFor (Some r) first = ⊥
-StandsFor (Some r) (running c t) = (config_of r.acq ≡ c) × StandsAt r t
+StandsFor None (running c w t) = ⊥
+StandsFor (Some s) first = ⊥
+StandsFor (Some s) (running c w t) = (config_of s.running.acq ≡ c) × StandsAt s.running t × KeepsWide s.widening w
 
-abbrev pub IsKept : Option Running → Type 0
+abbrev pub IsKept : Option Script → Type 0
 IsKept None = ⊤
-IsKept (Some r) = IsReplaying r
+IsKept (Some s) = IsReplaying s.running
 
 -- The line is run from whatever standing the state has.
-abbrev pub RunsAs : Option Running → ℕ → List ℕ → Ran → List ℕ → Option Running → Type 0
+abbrev pub RunsAs : Option Script → ℕ → List ℕ → Ran → List ℕ → Option Script → Type 0
 RunsAs old n text ran report new =
     (s : Standing) → StandsFor old s → (t : Standing) × ReplayRuns s n text ran report t × StandsFor new t
 
 -- It is refused in whatever standing the state has.
-abbrev pub RefusesAs : Option Running → ℕ → List ℕ → ScriptKind → Type 0
+abbrev pub RefusesAs : Option Script → ℕ → List ℕ → ScriptKind → Type 0
 RefusesAs now n text kind = (s : Standing) → StandsFor now s → ReplayRefuses s n text kind

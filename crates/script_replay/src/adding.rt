@@ -58,7 +58,7 @@ fn run_call(
 }
 
 /// Runs a `d` line. Its bytes are decoded into the room.
-fn run_datagram(running: &mut Running, digits: &[u8], room: &mut Vec<u8>)
+pub(crate) fn run_datagram(running: &mut Running, digits: &[u8], room: &mut Vec<u8>)
     requires keeps { IsReplaying running.old }
     requires fits { Fits (length room.old.items) digits.now }
     ensures goes { Goes (script_line.datagram digits.now) running.old [] running.new }

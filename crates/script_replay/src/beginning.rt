@@ -10,10 +10,13 @@ ghost use Rattle.script_replay.specs.Replays.{StandsAt, IsReplaying, Begins, IsN
 use crate::fill_counts::FillCounts;
 use crate::opening::{open_board, open_handles};
 use crate::running::Running;
+use crate::script::Script;
+use crate::widening::Widening;
 use acq_core::Acq;
 use acquisition_machine::AcqConfig;
 use gev_script::{Line, ScriptKind, parse_line};
 use gev_types::NoMemory;
+use gvsp_std::Widener;
 use script_runs::Stop;
 use std::alloc::Global;
 
@@ -42,11 +45,8 @@ pub fn begin(alloc: Global, config: AcqConfig) -> Result<Running, NoMemory>
     })
 }
 
-/// The version of the scripts that are run.
-const RUN_VERSION: u8 = 1;
-
-/// Runs the first line, which has to be a header of a version that is run.
-pub(crate) fn first_line(alloc: Global, line: &[u8]) -> Result<Running, Stop>
+/// Runs the first line, which has to be a header.
+pub(crate) fn first_line(alloc: Global, line: &[u8]) -> Result<Script, Stop>
     requires short { length line.now ≤ 20000 }
     ensures { MatchResult result (λ r. Begins line.now r) (λ stop. IfRefused stop (λ kind. IsNoHeader line.now kind)) }
 {
@@ -61,9 +61,6 @@ pub(crate) fn first_line(alloc: Global, line: &[u8]) -> Result<Running, Stop>
                 rounds,
             },
         ) => {
-            if version != RUN_VERSION {
-                return Err(Stop::Refused(ScriptKind::Header));
-            }
             let config = AcqConfig {
                 p,
                 window,
@@ -72,7 +69,15 @@ pub(crate) fn first_line(alloc: Global, line: &[u8]) -> Result<Running, Stop>
                 rounds,
             };
             match begin(alloc, config) {
-                Ok(running) => Ok(running),
+                Ok(running) => Ok(Script {
+                    running,
+                    widening: Widening {
+                        version,
+                        widener: Widener::new(),
+                        widened: false,
+                        refused: 0,
+                    },
+                }),
                 Err(NoMemory) => Err(Stop::NoMemory),
             }
         }

@@ -1,16 +1,17 @@
 //! A line behind the first.
 
-ghost use Rattle.std.specs.Prelude.{◌≡◌, ◌≤◌, [], length, OnOk, IfOk, MatchResult};
+ghost use Rattle.std.specs.Prelude.{◌≡◌, ◌≤◌, ◌+◌, [], length, OnOk, IfOk, MatchResult};
 ghost use Rattle.gev_script.specs.Lines.{view};
 ghost use Rattle.script_runs.specs.Runs.{IfRefused};
 ghost use Rattle.acq_core.specs.Receiver.{config_of};
 ghost use Rattle.script_trace.specs.Trace.{Trace};
 ghost use Rattle.script_trace.specs.Ending.{end_text};
+ghost use Rattle.script_trace.specs.Wide.{Wide};
 ghost use Rattle.script_trace.specs.Standing.{is_out_of_place};
-ghost use Rattle.script_replay.specs.Replays.{StandsAt, IsReplaying, IsLaterIn, RanAs, RanBy, RefusedBy};
+ghost use Rattle.script_replay.specs.Replays.{StandsAt, IsReplaying, IsLaterIn, KeepsWide, RanAs, RanBy, RefusedBy};
 
-use crate::adding::run_adding;
-use crate::running::Running;
+use crate::script::Script;
+use crate::wide_lines::run_line;
 use gev_report::{EndCounts, line_end};
 use gev_script::{Line, Name, ScriptKind, first_name, parse_line};
 use gev_types::NoMemory;
@@ -31,10 +32,12 @@ fn is_out_of_place(name: Result<Name, ScriptKind>) -> bool
 }
 
 /// Adds the last line of the report.
-fn tell_end(alloc: Global, running: &Running, out: &mut Vec<u8>) -> Result<(), NoMemory>
+fn tell_end(alloc: Global, script: &Script, out: &mut Vec<u8>) -> Result<(), NoMemory>
     requires empty { out.old.items ≡ [] }
-    ensures { OnOk result ((t : Trace) → StandsAt running.now t → out.new.items ≡ end_text (config_of running.now.acq) t) }
+    ensures { OnOk result ((w : Wide) (t : Trace) → StandsAt script.now.running t → KeepsWide script.now.widening w
+        → out.new.items ≡ end_text (config_of script.now.running.acq) w.refused t) }
 {
+    let running = &script.running;
     let counts = running.acq.counts();
     let all = EndCounts {
         taken: running.taken,
@@ -42,7 +45,7 @@ fn tell_end(alloc: Global, running: &Running, out: &mut Vec<u8>) -> Result<(), N
         complete: running.counts.complete,
         underrun: counts.underrun,
         requests: counts.requests,
-        foreign: counts.foreign,
+        foreign: counts.foreign.saturating_add(script.widening.refused),
         late: counts.late,
         repeat: counts.repeat,
         misfit: counts.misfit,
@@ -56,24 +59,27 @@ fn tell_end(alloc: Global, running: &Running, out: &mut Vec<u8>) -> Result<(), N
 /// Runs what a line says, and adds its report to the empty `out`.
 fn run_said(
     alloc: Global,
-    running: &mut Running,
+    script: &mut Script,
     room: &mut Vec<u8>,
+    wide_room: &mut Vec<u8>,
     says: Line<'_>,
     out: &mut Vec<u8>,
 ) -> Result<Ran, NoMemory>
-    requires keeps { IsReplaying running.old }
+    requires keeps { IsReplaying script.old.running }
     requires run { IsLaterIn (length room.old.items) (view says) }
+    requires wide { length room.old.items + 12 ≤ length wide_room.old.items }
     requires empty { out.old.items ≡ [] }
-    ensures ran { IfOk result (λ ran. RanAs ran (view says.entry) running.old out.new.items running.new) }
+    ensures ran { IfOk result (λ ran. RanAs ran (view says.entry) script.old out.new.items script.new) }
     ensures room { length room.new.items ≡ length room.old.items }
+    ensures wide { length wide_room.new.items ≡ length wide_room.old.items }
 {
     match says {
         Line::End => {
-            tell_end(alloc, running, out)?;
+            tell_end(alloc, script, out)?;
             Ok(Ran::Ended)
         }
         other => {
-            run_adding(alloc, running, room, other, out)?;
+            run_line(alloc, script, room, wide_room, other, out)?;
             Ok(Ran::GoesOn)
         }
     }
@@ -82,25 +88,28 @@ fn run_said(
 /// Runs a line behind the first, given without its line feed, and adds its report to the empty `out`.
 pub(crate) fn later_line(
     alloc: Global,
-    running: &mut Running,
+    script: &mut Script,
     room: &mut Vec<u8>,
+    wide_room: &mut Vec<u8>,
     line: &[u8],
     out: &mut Vec<u8>,
 ) -> Result<Ran, Stop>
-    requires keeps { IsReplaying running.old }
+    requires keeps { IsReplaying script.old.running }
     requires short { length line.now ≤ 20000 }
     requires room { length room.old.items ≡ 10000 }
+    requires wide { length wide_room.old.items ≡ 10012 }
     requires empty { out.old.items ≡ [] }
-    ensures ran { MatchResult result (λ ran. RanBy ran line.now running.old out.new.items running.new)
-        (λ stop. IfRefused stop (λ kind. RefusedBy line.now kind running.old running.new)) }
+    ensures ran { MatchResult result (λ ran. RanBy ran line.now script.old out.new.items script.new)
+        (λ stop. IfRefused stop (λ kind. RefusedBy line.now kind script.old script.new)) }
     ensures room { length room.new.items ≡ 10000 }
+    ensures wide { length wide_room.new.items ≡ 10012 }
 {
     if is_out_of_place(first_name(line)) {
         return Err(Stop::Refused(ScriptKind::Word));
     }
     match parse_line(line) {
         Err(kind) => Err(Stop::Refused(kind)),
-        Ok(says) => match run_said(alloc, running, room, says, out) {
+        Ok(says) => match run_said(alloc, script, room, wide_room, says, out) {
             Ok(ran) => Ok(ran),
             Err(NoMemory) => Err(Stop::NoMemory),
         },

@@ -17,10 +17,14 @@ mod opening;
 mod replay;
 mod retired;
 mod running;
+mod script;
+mod standard_requests;
 mod step_line;
 mod steps;
 #[cfg(test)]
 mod tests;
+mod wide_lines;
+mod widening;
 
 pub use acquisition_lines::{hear, start};
 pub use beginning::begin;
@@ -29,3 +33,5 @@ pub use fill_counts::FillCounts;
 pub use replay::Replay;
 pub use retired::fill_retired;
 pub use running::Running;
+pub use script::Script;
+pub use widening::Widening;

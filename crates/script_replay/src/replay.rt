@@ -8,7 +8,7 @@ ghost use Rattle.script_replay.specs.Replays.{IsKept, RunsAs, RefusesAs, StandsF
 
 use crate::beginning::first_line;
 use crate::later::later_line;
-use crate::running::Running;
+use crate::script::Script;
 use gev_types::NoMemory;
 use script_runs::{Machine, Modelled, Ran, Stop};
 use std::alloc::Global;
@@ -17,26 +17,30 @@ use std::marker::Model;
 /// How many bytes the datagram of the longest line has room in.
 const ROOM: usize = 10_000;
 
+/// And how many with extended identifiers in place of standard ones.
+const WIDE_ROOM: usize = ROOM + 12;
+
 /// Runs a replay script, line by line.
 ///
 /// The header makes a board, a receiver and the tree of handles, with all the memory that they use but for
 /// announced buffers; each further line is run on them.
 #[derive(Drop)]
 pub struct Replay {
-    running: Option<Running>,
+    script: Option<Script>,
     room: Vec<u8>,
+    wide_room: Vec<u8>,
 }
 
 impl Model for Replay {
     ghost use Rattle.std.specs.Prelude.{◌≡◌, Option, length};
-    ghost use Rattle.script_replay.specs.declared.running.Running.{Running};
+    ghost use Rattle.script_replay.specs.declared.script.Script.{Script};
     ghost use Rattle.script_replay.specs.Replays.{IsKept};
 
-    ghost Value = { Option Running };
+    ghost Value = { Option Script };
 
-    ghost view = { λ r. r.running };
+    ghost view = { λ r. r.script };
 
-    ghost invariant = { λ r. (length r.room.items ≡ 10000) × IsKept r.running };
+    ghost invariant = { λ r. (length r.room.items ≡ 10000) × (length r.wide_room.items ≡ 10012) × IsKept r.script };
 }
 
 impl Replay {
@@ -45,9 +49,11 @@ impl Replay {
         ensures { IfOk result (λ replay. replay ≡ None) }
     {
         let room = vec![in alloc; 0u8; ROOM]?;
+        let wide_room = vec![in alloc; 0u8; WIDE_ROOM]?;
         Ok(Replay {
-            running: None,
+            script: None,
             room,
+            wide_room,
         })
     }
 }
@@ -55,32 +61,35 @@ impl Replay {
 /// Runs the first line, or a further one. Where memory runs out, nothing stands any more.
 fn any_line(
     alloc: Global,
-    running: &mut Option<Running>,
+    script: &mut Option<Script>,
     room: &mut Vec<u8>,
+    wide_room: &mut Vec<u8>,
     line: &[u8],
     out: &mut Vec<u8>,
 ) -> Result<Ran, Stop>
-    requires kept { IsKept running.old }
+    requires kept { IsKept script.old }
     requires short { length line.now ≤ 20000 }
     requires room { length room.old.items ≡ 10000 }
+    requires wide { length wide_room.old.items ≡ 10012 }
     requires empty { out.old.items ≡ [] }
-    ensures ran { (n : ℕ) → MatchResult result (λ ran. RunsAs running.old n line.now ran out.new.items running.new)
-        (λ stop. IfRefused stop (λ kind. RefusesAs running.old n line.now kind)) }
-    ensures kept { IsKept running.new }
+    ensures ran { (n : ℕ) → MatchResult result (λ ran. RunsAs script.old n line.now ran out.new.items script.new)
+        (λ stop. IfRefused stop (λ kind. RefusesAs script.old n line.now kind)) }
+    ensures kept { IsKept script.new }
     ensures room { length room.new.items ≡ 10000 }
+    ensures wide { length wide_room.new.items ≡ 10012 }
 {
-    match running {
-        Some(now) => match later_line(alloc, now, room, line, out) {
+    match script {
+        Some(now) => match later_line(alloc, now, room, wide_room, line, out) {
             Ok(ran) => Ok(ran),
             Err(Stop::Refused(kind)) => Err(Stop::Refused(kind)),
             Err(Stop::NoMemory) => {
-                *running = None;
+                *script = None;
                 Err(Stop::NoMemory)
             }
         },
         None => match first_line(alloc, line) {
             Ok(begun) => {
-                *running = Some(begun);
+                *script = Some(begun);
                 Ok(Ran::GoesOn)
             }
             Err(stop) => Err(stop),
@@ -101,7 +110,14 @@ impl Machine for Replay {
         out: &mut Vec<u8>,
     ) -> Result<Ran, Stop> {
         let _number = number;
-        any_line(alloc, &mut self.running, &mut self.room, line, out)
+        any_line(
+            alloc,
+            &mut self.script,
+            &mut self.room,
+            &mut self.wide_room,
+            line,
+            out,
+        )
     }
 }
 

@@ -5,6 +5,7 @@ pub mod Starting
 pub mod Handing
 pub mod Between
 pub mod Promises
+pub mod Meanings
 pub mod Scripts
 pub mod Trees
 pub mod CallTrees

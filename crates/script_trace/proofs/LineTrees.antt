@@ -18,7 +18,6 @@ use Rattle.gev_script.specs.declared.act.Act as script_act
 use Rattle.gev_script.specs.declared.act.Act.TheVariants as act
 use Rattle.gev_script.specs.Lines as line
 use Rattle.gev_script.specs.Lines.{ScriptLine}
-use Rattle.gev_script.specs.Spelling.{IsScriptLine}
 use Rattle.board_machine.specs.declared.events.Entry.{Entry}
 use Rattle.board_machine.specs.declared.events.Event.{Event}
 use Rattle.board_machine.specs.declared.events.Event.TheVariants.{Grab, Lay, Pool, Claim, SweepPool, Fill, Take, SweepOut, Close, Start, Stop}
@@ -42,6 +41,7 @@ use Rattle.script_trace.specs.StreamLines.{FillsRetired, retired_by, Settles, Re
 use Rattle.script_trace.specs.HandleLines.{opened_text, left_open, ClosesStream, ClosesHandle}
 use Rattle.script_trace.specs.StepLines.{is_in_hand, grab_text, StepInHand, fill_text, FillStep, claim_text, take_text, StepBy}
 use Rattle.script_trace.specs.Adding.{Spells, AddsPart}
+use Rattle.script_trace.proofs.BlockFills.{IsByOther}
 use Rattle.script_trace.proofs.Trees.{Tree, ends, asks, Follows, nowhere, follows_along, follows_parts, follows_all, look_tree, looks_closed, opens_with, retired_tree, retired_follow}
 use Rattle.script_trace.proofs.CallTrees.{leaf, announce_tree, announce_follows, queue_tree, queue_follows, loan_tree, loan_follows, no_loan_follows, revoke_tree, revoke_follows}
 use Rattle.script_trace.proofs.FlushTrees.{discard_tree, discards_follow, flush_tree, flush_follows, kill_tree, kill_follows, closes_tree, closes_follow}
@@ -332,7 +332,7 @@ line_tree c t line.camera_header = nowhere
 line_tree c t (line.command peer digits) = nowhere
 line_tree c t line.frame = nowhere
 
-part_follows : (c : AcqConfig) (t : Trace) (l : ScriptLine) (part : Part) → IsScriptLine l → RunsFrom (board t) part.entries → FillsFrom (contents_of t.entries) part.entries → Spells c t l part → FollowsPart (line_tree c t l) part
+part_follows : (c : AcqConfig) (t : Trace) (l : ScriptLine) (part : Part) → IsByOther l → RunsFrom (board t) part.entries → FillsFrom (contents_of t.entries) part.entries → Spells c t l part → FollowsPart (line_tree c t l) part
 part_follows c t (line.header config) part ok runs from s = absurd s
 part_follows c t (line.announce size) part ok runs from (answer, some, calls) =
     calls_part t _ _ (announce_tree t size) part calls
@@ -358,7 +358,7 @@ part_follows c t (line.buffer_info place generation which) part ok runs from ask
 part_follows c t (line.open_child parent index) part ok runs from is = subst (FollowsPart (line_tree c t (line.open_child parent index))) (sym is) (refl, refl)
 part_follows c t (line.close_all serial) part ok runs from closes = close_part t serial (closing t.handles serial) part closes
 part_follows c t (line.step actor a place) part ok runs from steps =
-    let few : actor ≤ 4 = ok.actor_to in
+    let few : actor ≤ 4 = ok in
     let apart : actor ≢ acquirer = λ e. omega (arith, e, few) in
     step_part t actor a (unwrap_or place 0) part apart from steps
 part_follows c t line.end_of_script part ok runs from s = absurd s
@@ -366,5 +366,5 @@ part_follows c t line.camera_header part ok runs from s = absurd s
 part_follows c t (line.command peer digits) part ok runs from s = absurd s
 part_follows c t line.frame part ok runs from s = absurd s
 
-pub line_follows : (c : AcqConfig) (t : Trace) (l : ScriptLine) (part : Part) → IsScriptLine l → AddsPart c t l part → FollowsPart (line_tree c t l) part
+pub line_follows : (c : AcqConfig) (t : Trace) (l : ScriptLine) (part : Part) → IsByOther l → AddsPart c t l part → FollowsPart (line_tree c t l) part
 line_follows c t l part ok adds = part_follows c t l part ok adds.runs adds.fills adds.spells

@@ -38,7 +38,7 @@ traces_keep_by c lines t some are leads =
       handed = handed_all (IsHandedSo c t.inputs) t.entries (filled_all P t.entries empty blocks);
     }
 
-by_other : (l : ScriptLine) → IsScriptLine l → IsByOther l
+pub by_other : (l : ScriptLine) → IsScriptLine l → IsByOther l
 by_other (line.step actor act place) is = is.actor_to
 by_other _ is = tt
 

@@ -25,7 +25,7 @@ use Rattle.script_trace.specs.StreamLines.{tells, idles, told_twice}
 use Rattle.hex.specs.Hex.{decode_pairs}
 use Rattle.wire_fields.specs.Fields.{number_at}
 use Rattle.gvsp_wire.specs.Reading.{reading, header_of, leader_of, sized_info}
-use Rattle.script_trace.proofs.WorkedLines.{goes_on, config, begins}
+use Rattle.script_trace.proofs.WorkedLines.{goes_on, config, nothing_kept, begins}
 
 abbrev bytes : List ℕ
 bytes = 0 ∷ 0 ∷ 0 ∷ 0 ∷ 129 ∷ 0 ∷ 0 ∷ 0 ∷ 0 ∷ 0 ∷ 0 ∷ 0 ∷ 0 ∷ 0 ∷ 0 ∷ 1 ∷ 0 ∷ 0 ∷ 0 ∷ 0 ∷ 0 ∷ 0 ∷ 0 ∷ 1 ∷ 0 ∷ 0 ∷ 0 ∷ 0 ∷ 0 ∷ 0 ∷ 0 ∷ 0 ∷ 1 ∷ 8 ∷ 0 ∷ 1 ∷ 0 ∷ 0 ∷ 0 ∷ 3 ∷ 0 ∷ 0 ∷ 0 ∷ 1 ∷ 0 ∷ 0 ∷ 0 ∷ 0 ∷ 0 ∷ 0 ∷ 0 ∷ 0 ∷ 0 ∷ 0 ∷ 0 ∷ 0 ∷ []
@@ -250,21 +250,21 @@ pub with_block : IsWorked killed_with_block
 unfolding digits reading header_of number_at leader_of sized_info
 with_block = record {
   text = text0;
-  now = running config s9;
+  now = running config nothing_kept s9;
   runs =
-      begins lines0 text0 (running config s9)
-      (goes_on config s0 1 (codes "announce 3") (line.announce 3) part1 lines1 text1 (running config s9) refl refl adds1
-      (goes_on config s1 2 (codes "queue 0.1") (line.queue 0 1) part2 lines2 text2 (running config s9) refl refl adds2
-      (goes_on config s2 3 (codes "d 00") (line.datagram (codes "00")) part3 lines3 text3 (running config s9) refl refl adds3
-      (goes_on config s3 4 (codes "start") (line.start) part4 lines4 text4 (running config s9) refl refl adds4
-      (goes_on config s4 5 leader_line (line.datagram (codes "0000000081000000000000000000000100000000000000010000000000000000010800010000000300000001000000000000000000000000")) part5 lines5 text5 (running config s9) refl refl adds5
-      (goes_on config s5 6 (codes "stop 1") (line.stop 1) part6 lines6 text6 (running config s9) refl refl adds6
-      (goes_on config s6 7 (codes "info 1000") (line.info 1000) part7 lines7 text7 (running config s9) refl refl adds7
-      (goes_on config s7 8 (codes "info 5") (line.info 5) part8 lines8 text8 (running config s9) refl refl adds8
-      (goes_on config s8 9 (codes "stop 0") (line.stop 0) part9 lines9 text9 (running config s9) refl refl adds9
+      begins lines0 text0 (running config nothing_kept s9)
+      (goes_on config s0 1 (codes "announce 3") (line.announce 3) part1 lines1 text1 (running config nothing_kept s9) refl refl adds1
+      (goes_on config s1 2 (codes "queue 0.1") (line.queue 0 1) part2 lines2 text2 (running config nothing_kept s9) refl refl adds2
+      (goes_on config s2 3 (codes "d 00") (line.datagram (codes "00")) part3 lines3 text3 (running config nothing_kept s9) refl refl adds3
+      (goes_on config s3 4 (codes "start") (line.start) part4 lines4 text4 (running config nothing_kept s9) refl refl adds4
+      (goes_on config s4 5 leader_line (line.datagram (codes "0000000081000000000000000000000100000000000000010000000000000000010800010000000300000001000000000000000000000000")) part5 lines5 text5 (running config nothing_kept s9) refl refl adds5
+      (goes_on config s5 6 (codes "stop 1") (line.stop 1) part6 lines6 text6 (running config nothing_kept s9) refl refl adds6
+      (goes_on config s6 7 (codes "info 1000") (line.info 1000) part7 lines7 text7 (running config nothing_kept s9) refl refl adds7
+      (goes_on config s7 8 (codes "info 5") (line.info 5) part8 lines8 text8 (running config nothing_kept s9) refl refl adds8
+      (goes_on config s8 9 (codes "stop 0") (line.stop 0) part9 lines9 text9 (running config nothing_kept s9) refl refl adds9
       (refl, refl))))))))));
-  last = end_text config s9;
-  new = running config s9;
+  last = end_text config 0 s9;
+  new = running config nothing_kept s9;
   ended = record { in_place = refl; read = refl; said = refl; after = refl };
   is = refl;
 }

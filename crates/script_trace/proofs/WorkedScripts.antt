@@ -23,17 +23,17 @@ use Rattle.script_trace.specs.Opening.{opening}
 use Rattle.script_trace.specs.Ending.{end_text}
 use Rattle.script_trace.specs.Standing.{running}
 use Rattle.script_trace.proofs.WorkedBlock.{with_block}
-use Rattle.script_trace.proofs.WorkedLines.{goes_on, config, begins}
+use Rattle.script_trace.proofs.WorkedLines.{goes_on, config, nothing_kept, begins}
 use Rattle.script_trace.specs.Worked.{IsWorked, nothing_done, device_closed, closed_before_fill, ScriptsAreWorked}
 
 with_nothing : IsWorked nothing_done
 unfolding digits
 with_nothing = record {
   text = [];
-  now = running config opening;
-  runs = begins [] [] (running config opening) (refl, refl);
-  last = end_text config opening;
-  new = running config opening;
+  now = running config nothing_kept opening;
+  runs = begins [] [] (running config nothing_kept opening) (refl, refl);
+  last = end_text config 0 opening;
+  new = running config nothing_kept opening;
   ended = record { in_place = refl; read = refl; said = refl; after = refl };
   is = refl;
 }
@@ -131,29 +131,29 @@ with_handles : IsWorked device_closed
 unfolding digits
 with_handles = record {
   text = text0;
-  now = running config h7;
+  now = running config nothing_kept h7;
   runs =
-      begins lines0 text0 (running config h7)
-      (goes_on config opening 1 (codes "open 3 0") (line.open_child (Some 3) 0) (opens opening (Some 3) 0) lines1 text1 (running config h7) refl refl (open_adds opening (Some 3) 0)
-      (goes_on config h1 2 (codes "open 3 4") (line.open_child (Some 3) 4) (opens h1 (Some 3) 4) lines2 text2 (running config h7) refl refl (open_adds h1 (Some 3) 4)
-      (goes_on config h2 3 (codes "open 3 1") (line.open_child (Some 3) 1) (opens h2 (Some 3) 1) lines3 text3 (running config h7) refl refl (open_adds h2 (Some 3) 1)
-      (goes_on config h3 4 (codes "open 9 0") (line.open_child (Some 9) 0) (opens h3 (Some 9) 0) lines4 text4 (running config h7) refl refl (open_adds h3 (Some 9) 0)
-      (goes_on config h4 5 (codes "close 3") (line.close_all 3) closes_device lines5 text5 (running config h7) refl refl
+      begins lines0 text0 (running config nothing_kept h7)
+      (goes_on config opening 1 (codes "open 3 0") (line.open_child (Some 3) 0) (opens opening (Some 3) 0) lines1 text1 (running config nothing_kept h7) refl refl (open_adds opening (Some 3) 0)
+      (goes_on config h1 2 (codes "open 3 4") (line.open_child (Some 3) 4) (opens h1 (Some 3) 4) lines2 text2 (running config nothing_kept h7) refl refl (open_adds h1 (Some 3) 4)
+      (goes_on config h2 3 (codes "open 3 1") (line.open_child (Some 3) 1) (opens h2 (Some 3) 1) lines3 text3 (running config nothing_kept h7) refl refl (open_adds h2 (Some 3) 1)
+      (goes_on config h3 4 (codes "open 9 0") (line.open_child (Some 9) 0) (opens h3 (Some 9) 0) lines4 text4 (running config nothing_kept h7) refl refl (open_adds h3 (Some 9) 0)
+      (goes_on config h4 5 (codes "close 3") (line.close_all 3) closes_device lines5 text5 (running config nothing_kept h7) refl refl
       (record {
         spells = (closing_events, record { output = []; pooled = []; is = refl }, refl);
         runs = (record { actor = λ e. cc; meets = tt }, (record { actor = λ e. cc; meets = refl }, (record { actor = λ e. cc; meets = refl }, tt)));
         fills = (tt, (tt, (tt, tt)));
       })
-      (goes_on config h5 6 (codes "close 4") (line.close_all 4) not_open lines6 text6 (running config h7) refl refl (record { spells = refl; runs = tt; fills = tt })
-      (goes_on config h6 7 (codes "announce 3") (line.announce 3) not_announced lines7 text7 (running config h7) refl refl
+      (goes_on config h5 6 (codes "close 4") (line.close_all 4) not_open lines6 text6 (running config nothing_kept h7) refl refl (record { spells = refl; runs = tt; fills = tt })
+      (goes_on config h6 7 (codes "announce 3") (line.announce 3) not_announced lines7 text7 (running config nothing_kept h7) refl refl
       (record {
         spells = (Err (InvalidHandle shown.Closed), (λ e. cc), record { events = LookOut [] true ∷ []; kind = record { output = []; is = refl }; is = refl });
         runs = (record { actor = λ e. cc; meets = (refl, refl) }, tt);
         fills = (tt, tt);
       })
       (refl, refl))))))));
-  last = end_text config h7;
-  new = running config h7;
+  last = end_text config 0 h7;
+  new = running config nothing_kept h7;
   ended = record { in_place = refl; read = refl; said = refl; after = refl };
   is = refl;
 }
@@ -374,21 +374,21 @@ with_steps : IsWorked closed_before_fill
 unfolding digits
 with_steps = record {
   text = step_text0;
-  now = running config s9;
+  now = running config nothing_kept s9;
   runs =
-      begins step_lines0 step_text0 (running config s9)
-      (goes_on config s0 1 (codes "announce 3") (line.announce 3) part1 step_lines1 step_text1 (running config s9) refl refl adds1
-      (goes_on config s1 2 (codes "queue 0.1") (line.queue 0 1) part2 step_lines2 step_text2 (running config s9) refl refl adds2
-      (goes_on config s2 3 (codes "step 1 claim") (line.step 1 act.Claim None) part3 step_lines3 step_text3 (running config s9) refl refl adds3
-      (goes_on config s3 4 (codes "step 2 close") (line.step 2 act.Close None) part4 step_lines4 step_text4 (running config s9) refl refl adds4
-      (goes_on config s4 5 (codes "step 1 fill 0") (line.step 1 act.Fill (Some 0)) part5 step_lines5 step_text5 (running config s9) refl refl adds5
-      (goes_on config s5 6 (codes "step 1 lay 0") (line.step 1 act.Lay (Some 0)) part6 step_lines6 step_text6 (running config s9) refl refl adds6
-      (goes_on config s6 7 (codes "take") (line.take) part7 step_lines7 step_text7 (running config s9) refl refl adds7
-      (goes_on config s7 8 (codes "queue 0.1") (line.queue 0 1) part8 step_lines8 step_text8 (running config s9) refl refl adds8
-      (goes_on config s8 9 (codes "revoke 0.1") (line.revoke 0 1) part9 step_lines9 step_text9 (running config s9) refl refl adds9
+      begins step_lines0 step_text0 (running config nothing_kept s9)
+      (goes_on config s0 1 (codes "announce 3") (line.announce 3) part1 step_lines1 step_text1 (running config nothing_kept s9) refl refl adds1
+      (goes_on config s1 2 (codes "queue 0.1") (line.queue 0 1) part2 step_lines2 step_text2 (running config nothing_kept s9) refl refl adds2
+      (goes_on config s2 3 (codes "step 1 claim") (line.step 1 act.Claim None) part3 step_lines3 step_text3 (running config nothing_kept s9) refl refl adds3
+      (goes_on config s3 4 (codes "step 2 close") (line.step 2 act.Close None) part4 step_lines4 step_text4 (running config nothing_kept s9) refl refl adds4
+      (goes_on config s4 5 (codes "step 1 fill 0") (line.step 1 act.Fill (Some 0)) part5 step_lines5 step_text5 (running config nothing_kept s9) refl refl adds5
+      (goes_on config s5 6 (codes "step 1 lay 0") (line.step 1 act.Lay (Some 0)) part6 step_lines6 step_text6 (running config nothing_kept s9) refl refl adds6
+      (goes_on config s6 7 (codes "take") (line.take) part7 step_lines7 step_text7 (running config nothing_kept s9) refl refl adds7
+      (goes_on config s7 8 (codes "queue 0.1") (line.queue 0 1) part8 step_lines8 step_text8 (running config nothing_kept s9) refl refl adds8
+      (goes_on config s8 9 (codes "revoke 0.1") (line.revoke 0 1) part9 step_lines9 step_text9 (running config nothing_kept s9) refl refl adds9
       (refl, refl))))))))));
-  last = end_text config s9;
-  new = running config s9;
+  last = end_text config 0 s9;
+  new = running config nothing_kept s9;
   ended = record { in_place = refl; read = refl; said = refl; after = refl };
   is = refl;
 }

@@ -1,5 +1,5 @@
 -- The last line of the report, counted from the trace.
-use Rattle.std.specs.Prelude.{ℕ, ◌-◌, ◌^◌, min, List, length, count_by}
+use Rattle.std.specs.Prelude.{ℕ, ◌+◌, ◌-◌, ◌^◌, min, List, length, count_by}
 use Rattle.gev_report.specs.declared.end_counts.EndCounts.{EndCounts}
 use Rattle.gev_report.specs.ReplayLines.{end_line}
 use Rattle.board_machine.specs.Machine.{Item}
@@ -18,14 +18,16 @@ as_count n = min n (2 ^ 64 - 1)
 abbrev pub filled_blocks : Trace → List Item
 filled_blocks t = filled (own_of acquirer t.entries)
 
-abbrev pub with_counts : Trace → Counts → EndCounts
-with_counts t counts = record {
+-- the acquisition's counts, and what the trace tells; so many datagrams were refused before they came to the
+-- acquisition
+abbrev pub with_counts : Trace → ℕ → Counts → EndCounts
+with_counts t refused counts = record {
   taken = as_count (length (handed t.entries));
   fills = as_count (length (filled_blocks t));
   complete = as_count (count_by (λ x. x.filling.rec.complete) (filled_blocks t));
   underrun = as_count counts.underrun;
   requests = as_count counts.requests;
-  foreign = as_count counts.foreign;
+  foreign = as_count (counts.foreign + refused);
   late = as_count counts.late;
   repeat = as_count counts.repeat;
   misfit = as_count counts.misfit;
@@ -34,8 +36,8 @@ with_counts t counts = record {
   idle = as_count t.idle;
 }
 
-abbrev pub end_counts : AcqConfig → Trace → EndCounts
-end_counts c t = with_counts t (After c t.inputs).counts
+abbrev pub end_counts : AcqConfig → ℕ → Trace → EndCounts
+end_counts c refused t = with_counts t refused (After c t.inputs).counts
 
-abbrev pub end_text : AcqConfig → Trace → List ℕ
-end_text c t = end_line (end_counts c t)
+abbrev pub end_text : AcqConfig → ℕ → Trace → List ℕ
+end_text c refused t = end_line (end_counts c refused t)

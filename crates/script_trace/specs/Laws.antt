@@ -1,5 +1,5 @@
 -- What holds of the trace of every replay script.
-use Rattle.std.specs.Prelude.{◌≡◌, ◌≢◌, ⊤, ℕ, ◌+◌, ◌≤◌, List, [], ◌++◌, length, None, Ok}
+use Rattle.std.specs.Prelude.{◌≡◌, ◌≢◌, ⊤, ℕ, false, ◌+◌, ◌≤◌, List, [], ◌++◌, length, None, Ok}
 use Rattle.std.specs.List.{AllByRecursion}
 use Rattle.hex.specs.Hex.{decode_of}
 use Rattle.gev_script.specs.Lines as line
@@ -17,6 +17,7 @@ use Rattle.acquisition_machine.specs.Runs.{After as AcqAfter}
 use Rattle.script_trace.specs.Trace.{Trace, board}
 use Rattle.script_trace.specs.Adding.{Leads}
 use Rattle.script_trace.specs.Opening.{opening}
+use Rattle.script_trace.specs.Wide.{Wide}
 use Rattle.script_trace.specs.Standing.{Standing, first, running, ReplayRuns, ReplayRefuses, replay_verdict, IsBehind}
 use Rattle.script_trace.specs.Fills.{tried_blocks, retired_items, IsRetired, IsHandedSo}
 
@@ -50,15 +51,21 @@ TracesRest = (c : AcqConfig) (lines : List ScriptLine) (t : Trace) → 1 ≤ c.w
 
 abbrev pub StandsWell : Standing → Type 0
 StandsWell first = ⊤
-StandsWell (running c t) = KeepsPromises c t
+StandsWell (running c w t) = KeepsPromises c t
+
+-- The trace's text is this one, where no datagram was widened; and in scripts of version 1 none was. (Else it
+-- has the requests in the extended form.)
+pub record HasText (text : List ℕ) (w : Wide) (t : Trace) : Type 0 where
+  pub plain : w.widened ≡ false → t.text ≡ text
+  pub first_version : w.version ≡ 1 → w.widened ≡ false
 
 -- this is the report so far
 abbrev pub HasSaid : List ℕ → Standing → Type 0
 HasSaid text first = text ≡ []
-HasSaid text (running c t) = t.text ≡ text
+HasSaid text (running c w t) = HasText text w t
 
 -- So it is of every script, however far it was run, with the last line that was run too; and the trace's
--- text is the report of its lines.
+-- text is the report of its lines, where no datagram was widened.
 pub record RunsKeepPromises : Type 0 where
   pub so_far :
       (lines : List (List ℕ)) (text : List ℕ) (new : Standing) → AreLines lines

@@ -8,6 +8,7 @@ pub mod StepLines
 pub mod Adding
 pub mod Opening
 pub mod Ending
+pub mod Wide
 pub mod Standing
 pub mod Fills
 pub mod Laws

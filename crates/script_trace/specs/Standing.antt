@@ -12,16 +12,16 @@ use Rattle.script_runs.specs.declared.ran.Ran.{Ran}
 use Rattle.script_runs.specs.declared.ran.Ran.TheVariants.{GoesOn, Ended}
 use Rattle.script_runs.specs.Verdicts.{Verdict, goes_on, ends, bad}
 use Rattle.acquisition_machine.specs.declared.config.AcqConfig.{AcqConfig}
-use Rattle.script_trace.specs.Trace.{Trace, Part, grown}
-use Rattle.script_trace.specs.Adding.{AddsPart}
+use Rattle.script_trace.specs.Trace.{Trace}
+use Rattle.script_trace.specs.Wide.{Wide, nothing_wide, Does, kept_behind}
 use Rattle.script_trace.specs.Opening.{opening}
 use Rattle.script_trace.specs.Ending.{end_text}
 
 pub data Standing : Type 0 where
   -- the header is still to come
   first : Standing
-  -- the header gave this configuration, and the lines since then have this trace
-  running : AcqConfig → Trace → Standing
+  -- the header gave this configuration, and the lines since then have this trace, beside which this is kept
+  running : AcqConfig → Wide → Trace → Standing
 
 abbrev pub config_of : Config → AcqConfig
 config_of c = record { p = c.p; window = c.window; timeout = c.timeout; age = c.age; rounds = c.rounds }
@@ -44,16 +44,9 @@ kind_of_read (Err kind) = Some kind
 abbrev pub later_kind : List ℕ → Option ScriptKind
 later_kind text = if is_out_of_place (first_name text) then Some kinds.Word else kind_of_read (line_of text)
 
--- Scripts of this version alone are run. A header of the other is refused as one that is no header.
-abbrev pub run_version : ℕ
-run_version = 1
-
-abbrev pub header_verdict : ℕ → Verdict
-header_verdict version = if version == run_version then goes_on else bad kinds.Header
-
 -- a first line that isn't a header is refused
 abbrev pub first_verdict : Read ScriptLine → Verdict
-first_verdict (Ok (line.header c)) = header_verdict c.version
+first_verdict (Ok (line.header c)) = goes_on
 first_verdict _ = bad kinds.Header
 
 abbrev pub last_or_not : Read ScriptLine → Verdict
@@ -71,43 +64,43 @@ replay_verdict n text = if n == 1 then first_verdict (line_of text) else later_v
 -- it stands so behind this many lines
 abbrev pub IsBehind : Standing → ℕ → Type 0
 IsBehind first n = n ≡ 0
-IsBehind (running c t) n = 1 ≤ n
+IsBehind (running c w t) n = 1 ≤ n
 
 -- ---- runs
 
--- The line behind the header is run with this report: it adds a part to the trace.
-pub record RunsLater (c : AcqConfig) (t : Trace) (text report : List ℕ) (new : Standing) : Type 0 where
+-- The line behind the header is run with this report: it adds a part to the trace, or is a datagram that is
+-- refused.
+pub record RunsLater (c : AcqConfig) (w : Wide) (t : Trace) (text report : List ℕ) (new : Standing) : Type 0 where
   pub in_place : later_kind text ≡ None
   pub says : ScriptLine
   pub read : line_of text ≡ Ok says
-  pub part : Part
-  pub adds : AddsPart c t says part
-  pub said : report ≡ part.text
-  pub after : new ≡ running c (grown t part)
+  pub kept : Wide
+  pub trace : Trace
+  pub does : Does c w t says report kept trace
+  pub after : new ≡ running c (kept_behind kept t trace) trace
 
 -- The first line is run: a header.
 pub record RunsFirst (text report : List ℕ) (new : Standing) : Type 0 where
   pub config : Config
   pub read : line_of text ≡ Ok (line.header config)
-  pub version : config.version ≡ run_version
   pub silent : report ≡ []
-  pub after : new ≡ running (config_of config) opening
+  pub after : new ≡ running (config_of config) (nothing_wide config.version) opening
 
 -- The last line is run, with the last line of the report.
-pub record RunsEnd (c : AcqConfig) (t : Trace) (text report : List ℕ) (new : Standing) : Type 0 where
+pub record RunsEnd (c : AcqConfig) (w : Wide) (t : Trace) (text report : List ℕ) (new : Standing) : Type 0 where
   pub in_place : later_kind text ≡ None
   pub read : line_of text ≡ Ok line.end_of_script
-  pub said : report ≡ end_text c t
-  pub after : new ≡ running c t
+  pub said : report ≡ end_text c w.refused t
+  pub after : new ≡ running c w t
 
 -- From here the line with this number is run, goes on or ends the script, with this report, to there.
 abbrev pub ReplayRuns : Standing → ℕ → List ℕ → Ran → List ℕ → Standing → Type 0
 ReplayRuns first n text GoesOn report new = RunsFirst text report new
 ReplayRuns first n text Ended report new = ⊥
-ReplayRuns (running c t) n text GoesOn report new = RunsLater c t text report new
-ReplayRuns (running c t) n text Ended report new = RunsEnd c t text report new
+ReplayRuns (running c w t) n text GoesOn report new = RunsLater c w t text report new
+ReplayRuns (running c w t) n text Ended report new = RunsEnd c w t text report new
 
 -- Here the line with this number is refused for this cause.
 abbrev pub ReplayRefuses : Standing → ℕ → List ℕ → ScriptKind → Type 0
-ReplayRefuses first n text kind = (kind ≡ kinds.Header) × ((c : Config) → c.version ≡ run_version → line_of text ≢ Ok (line.header c))
-ReplayRefuses (running c t) n text kind = later_kind text ≡ Some kind
+ReplayRefuses first n text kind = (kind ≡ kinds.Header) × ((c : Config) → line_of text ≢ Ok (line.header c))
+ReplayRefuses (running c w t) n text kind = later_kind text ≡ Some kind

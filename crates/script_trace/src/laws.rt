@@ -12,7 +12,8 @@ pub fn traces_keep_promises()
     ensures { TracesKeepPromises }
 {}
 
-/// The same of every script, however far it was run, and that the trace's text is its report.
+/// The same of every script, however far it was run, and that the trace's text is its report where no
+/// datagram was widened, as in every script of version 1.
 pub fn runs_keep_promises()
     ensures { RunsKeepPromises }
 {}

@@ -1,12 +1,12 @@
 use Rattle.std.proofs.Common.{◌≡◌, None, Option, refl, sym, subst}
 use Rattle.script_trace.specs.Standing as plain
-use Rattle.script_replay.specs.declared.running.Running.{Running}
+use Rattle.script_replay.specs.declared.script.Script.{Script}
 use Rattle.script_replay.specs.Replays.{StandsFor}
 use Rattle.gev_top.proofs.Kept.{replays, replay_unbegun}
 use Rattle.gev_top.proofs.scripts.replay.Goals as goal
 
 -- a new machine stands before the first line
-stands : (machine : Option Running) → machine ≡ None → StandsFor machine plain.first
+stands : (machine : Option Script) → machine ≡ None → StandsFor machine plain.first
 stands machine is = subst (λ m. StandsFor m plain.first) (sym is) tt
 
 pub returns-in-Ok-clause-cause : goal.returns-in-Ok-clause-cause

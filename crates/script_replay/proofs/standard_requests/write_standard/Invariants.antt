@@ -1,0 +1,14 @@
+use Rattle.std.proofs.Common.{◌≡◌, ◌++◌, length}
+use Rattle.acq_core.specs.Waiting.{waiting_fills, waiting_requests}
+use Rattle.acq_core.specs.Receiver.{KeepsBlocks}
+use Rattle.script_replay.specs.Widely.{standard_lines_of}
+use Rattle.script_replay.proofs.standard_requests.write_standard.Given as goal
+
+abbrev pub invariant-loop-bytes : goal.invariant-loop-bytes
+invariant-loop-bytes l =
+    (l.out.items ++ standard_lines_of (waiting_requests l.acq) ≡ l.initial.out.items ++ standard_lines_of (waiting_requests l.initial.acq))
+    × (waiting_fills l.acq ≡ waiting_fills l.initial.acq)
+    × KeepsBlocks l.initial.acq l.acq
+
+abbrev pub decreases-loop-bytes : goal.decreases-loop-bytes
+decreases-loop-bytes l = length (waiting_requests l.acq)
