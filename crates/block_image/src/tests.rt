@@ -5,8 +5,6 @@ ghost use Rattle.block_image.specs.KeptFacts.{TellsSize, DoLeadersTellSizes};
 use crate::{block_image, kept_packets, tells_its_size};
 use gev_types::{MAX_BUFFER_SIZE, Record};
 use gvsp_wire::{Head, LeaderInfo, Packet};
-use std::alloc::Global;
-use std::process::Abort;
 use std::test::Fail;
 
 /// The smallest payload size of a stream, in bytes.
@@ -213,7 +211,11 @@ fn gives_images(rt: HostRuntime) -> Result<(), Fail> {
         },
     ];
     for case in &cases {
-        check_case(&rt, rt.alloc(), case)?;
+        assert!(rt; case.size >= 1 && case.size <= MAX_BUFFER_SIZE);
+        assert!(rt; tell_sizes(case.packets));
+        let buf = block_image(rt.alloc(), P, case.rec.block, case.size, case.packets)?;
+        assert_eq!(rt; buf.bytes(), case.bytes, "{}", case.name);
+        assert_eq!(rt; buf.rec(), case.rec, "{}", case.name);
     }
     Ok(())
 }
@@ -222,9 +224,9 @@ fn gives_images(rt: HostRuntime) -> Result<(), Fail> {
 // one line at least and no more than the leader.
 #[test]
 fn ends_with_the_lines_of_the_trailer(rt: HostRuntime) -> Result<(), Fail> {
-    let [one, two] = [[0x61; 528], [0x62; 528]];
     let start = leader(1, 528, 2, 1056);
-    let [first, second] = [payload(1, 1, &one), payload(1, 2, &two)];
+    let first = payload(1, 1, &[0x61; 528]);
+    let second = payload(1, 2, &[0x62; 528]);
     let small = leader(1, 3, 4, 12);
     let abc = payload(1, 1, b"abc");
     let cases = [
@@ -260,28 +262,28 @@ fn ends_with_the_lines_of_the_trailer(rt: HostRuntime) -> Result<(), Fail> {
             name: "one line and a payload less",
             packets: &[start, first, trailer(1, 2, 1)],
             size: 528,
-            bytes: &one,
+            bytes: &[0x61; 528],
             rec: whole(1, 528, 528),
         },
         Case {
             name: "no trailer yet",
             packets: &[start, first],
             size: 528,
-            bytes: &one,
+            bytes: &[0x61; 528],
             rec: broken(528, 528, true),
         },
         Case {
             name: "a trailer behind the payloads of all lines that tells one",
-            packets: &[start, first, payload(1, 2, &one), trailer(1, 3, 1)],
+            packets: &[start, first, payload(1, 2, &[0x61; 528]), trailer(1, 3, 1)],
             size: 528,
-            bytes: &one,
+            bytes: &[0x61; 528],
             rec: broken(528, 528, false),
         },
         Case {
             name: "a payload past the extent",
-            packets: &[start, trailer(1, 2, 1), first, payload(1, 3, &two)],
+            packets: &[start, trailer(1, 2, 1), first, payload(1, 3, &[0x62; 528])],
             size: 528,
-            bytes: &one,
+            bytes: &[0x61; 528],
             rec: whole(1, 528, 528),
         },
         Case {
@@ -293,18 +295,12 @@ fn ends_with_the_lines_of_the_trailer(rt: HostRuntime) -> Result<(), Fail> {
         },
     ];
     for case in &cases {
-        check_case(&rt, rt.alloc(), case)?;
+        assert!(rt; case.size >= 1 && case.size <= MAX_BUFFER_SIZE);
+        assert!(rt; tell_sizes(case.packets));
+        let buf = block_image(rt.alloc(), P, case.rec.block, case.size, case.packets)?;
+        assert_eq!(rt; buf.bytes(), case.bytes, "{}", case.name);
+        assert_eq!(rt; buf.rec(), case.rec, "{}", case.name);
     }
-    Ok(())
-}
-
-/// Computes what the case's packets give, and compares.
-fn check_case(rt: &impl Abort, alloc: Global, case: &Case<'_>) -> Result<(), Fail> {
-    assert!(rt; case.size >= 1 && case.size <= MAX_BUFFER_SIZE);
-    assert!(rt; tell_sizes(case.packets));
-    let buf = block_image(alloc, P, case.rec.block, case.size, case.packets)?;
-    assert_eq!(rt; buf.bytes(), case.bytes, "{}", case.name);
-    assert_eq!(rt; buf.rec(), case.rec, "{}", case.name);
     Ok(())
 }
 
