@@ -1,0 +1,94 @@
+-- A narrowed script leads to the trace of the script that was narrowed.
+use Rattle.std.proofs.Common.{◌≡◌, ℕ, ◌≤◌, ◌^◌, max, true, false, Bool, List, [], ◌∷◌, ◌++◌, length, slice_index, nat_lt, Ok, refl, sym, ap, subst, ◌∙◌, append_assoc, append-nil}
+use Rattle.std.proofs.lemmas.Bool.{cond-true, and_from, eq-eqb, le-leb, le-ltb, not_from_false}
+use Rattle.hex.specs.Hex.{decode_of}
+use Rattle.stream_packets.specs.Packets.{StreamPacket, head_of}
+use Rattle.gvsp_wire.specs.Plain.{plain}
+use Rattle.gvsp_wire.specs.Reading.{is_extended}
+use Rattle.gvsp_std.specs.Narrowed.{std_plain, MayNarrow}
+use Rattle.gvsp_std.specs.Widening.{widened}
+use Rattle.gvsp_std.proofs.OnePacket.{IsTaken, taken}
+use Rattle.gvsp_std.proofs.Spelled.{narrowed_widened}
+use Rattle.gev_script.specs.Lines as line
+use Rattle.gev_script.specs.Lines.{ScriptLine}
+use Rattle.acquisition_machine.specs.declared.config.AcqConfig.{AcqConfig}
+use Rattle.script_trace.specs.Trace.{Trace, Part, board, grown}
+use Rattle.script_trace.specs.Adding.{AddsPart}
+use Rattle.script_trace.specs.Wide.{Wide, is_standard_at, is_standard, itself, wider, meaning_widened, standard_meaning, meaning_decoded, meaning, said_by, DoesAs, Does, kept_behind}
+use Rattle.standard_scripts.specs.Narrowing.{Narrows, stays, packet, NarrowsAll, IsNoMoment, RunAlike}
+
+-- ---- one datagram
+
+first_of_list : {A : Type 0} (x y : A) (xs ys : List A) → x ∷ xs ≡ y ∷ ys → x ≡ y
+first_of_list x y xs ys e = cc
+
+one_widened : (top : ℕ) (x : StreamPacket) → MayNarrow top (x ∷ []) → widened top (std_plain x) ≡ Ok ((head_of x).block, plain x)
+one_widened top x may = first_of_list _ _ [] [] (narrowed_widened top (x ∷ []) may)
+
+test_holds : (version run top : ℕ) (bytes : List ℕ) → version ≡ 2 → run ≡ 1 → top ≤ 2 ^ 63 → 8 ≤ length bytes → is_extended (slice_index bytes 4) ≡ false → is_standard_at version run top bytes ≡ true
+test_holds version run top bytes second runs few long standard =
+    and_from _ _
+    (and_from _ _ (and_from _ _ (and_from _ _ (eq-eqb version 2 second) (eq-eqb run 1 runs)) (le-leb top (2 ^ 63) few)) (not_from_false (nat_lt (length bytes) 8) (le-ltb (length bytes) 8 long)))
+    (not_from_false (is_extended (slice_index bytes 4)) standard)
+
+packet_means : (w : Wide) (t : Trace) (x : StreamPacket) (digits : List ℕ) → w.version ≡ 2 → (board t).run ≡ 1 → w.top ≤ 2 ^ 63 → MayNarrow w.top (x ∷ []) → decode_of digits ≡ Ok (std_plain x)
+    → meaning w t (line.datagram digits) ≡ wider (head_of x).block (plain x)
+unfolding meaning standard_meaning
+packet_means w t x digits second runs few may spelled =
+    let is : widened w.top (std_plain x) ≡ Ok ((head_of x).block, plain x) = one_widened w.top x may in
+    let there : IsTaken w.top (std_plain x) (head_of x).block (plain x) = taken w.top (std_plain x) (head_of x).block (plain x) is in
+    ap (meaning_decoded w t) spelled
+    ∙ cond-true (is_standard w t (std_plain x)) (meaning_widened (widened w.top (std_plain x))) itself (test_holds w.version (board t).run w.top (std_plain x) second runs few there.len there.standard)
+    ∙ ap meaning_widened is
+
+-- ---- one line
+
+record DoesOne (c : AcqConfig) (w : Wide) (t : Trace) (l m : ScriptLine) (part : Part) (kept : Wide) : Type 0 where
+  report : List ℕ
+  does : Does c w t m report kept (grown t part)
+  refused : kept.refused ≡ w.refused
+  same : IsNoMoment l → report ≡ part.text
+
+no_moment_says : (c : AcqConfig) (t : Trace) (l : ScriptLine) (widened : Bool) (text : List ℕ) → IsNoMoment l → said_by c t l widened text ≡ text
+no_moment_says c t (line.tick moment) widened text h = absurd h
+no_moment_says c t _ widened text h = refl
+
+does_one : (c : AcqConfig) (w : Wide) (t : Trace) (l m : ScriptLine) (part : Part) (kept : Wide) → AddsPart c t l part → Narrows w t l m kept → DoesOne c w t l m part kept
+does_one c w t _ _ part _ adds (stays l means) = record {
+  report = said_by c t l w.widened part.text;
+  does = subst (λ meant. DoesAs c w t l meant (said_by c t l w.widened part.text) w (grown t part)) (sym means) (record { part = part; adds = adds; said = refl; is = refl }, refl);
+  refused = refl;
+  same = λ h. no_moment_says c t l w.widened part.text h;
+}
+does_one c w t _ _ part _ adds (packet x digits second runs few may spelled) = record {
+  report = part.text;
+  does = subst (λ meant. DoesAs c w t (line.datagram digits) meant part.text (record w { top = max w.top (head_of x).block; widened = true }) (grown t part)) (sym (packet_means w t x digits second runs few may spelled))
+      (record { part = part; adds = adds; said = refl; is = refl }, refl);
+  refused = refl;
+  same = λ h. refl;
+}
+
+-- ---- all lines
+
+pub run_alike : (c : AcqConfig) (w : Wide) (t : Trace) (lines others : List ScriptLine) (v : Wide) (new : Trace) → NarrowsAll c w t lines others v new → RunAlike c w t lines others v new
+run_alike c w t [] [] v new (kept, is) = record {
+  extended = is;
+  report = [];
+  narrowed = (refl, kept, is);
+  none_refused = ap (λ (u : Wide). u.refused) kept;
+  same_report = λ h. ap (λ (u : Trace). u.text) is ∙ sym (append-nil t.text);
+}
+run_alike c w t [] (m ∷ others) v new h = absurd h
+run_alike c w t (l ∷ lines) [] v new h = absurd h
+run_alike c w t (l ∷ lines) (m ∷ others) v new (part, kept, adds, narrows, more) =
+    let one : DoesOne c w t l m part kept = does_one c w t l m part kept adds narrows in
+    let later : RunAlike c (kept_behind kept t (grown t part)) (grown t part) lines others v new = run_alike c (kept_behind kept t (grown t part)) (grown t part) lines others v new more in
+    record {
+      extended = (part, adds, later.extended);
+      report = one.report ++ later.report;
+      narrowed = (one.report, kept, grown t part, later.report, one.does, later.narrowed, refl);
+      none_refused = later.none_refused ∙ one.refused;
+      same_report = λ h.
+          later.same_report h.1
+          ∙ (ap (λ u. (t.text ++ u) ++ later.report) (sym (one.same h.0)) ∙ append_assoc t.text one.report later.report);
+    }

@@ -1,0 +1,10 @@
+//! Laws of narrowed scripts. Each function only carries its statement.
+
+ghost use Rattle.standard_scripts.specs.Narrowing.{NarrowedRunAlike};
+
+/// Where the datagrams of a script's lines are narrowed, each of a packet that its 16 bits stand for, version 2
+/// leads to the trace that the lines themselves lead to: the same entries, inputs, handles and idle datagrams.
+/// No datagram is refused, and where no line is `t` the report is the same, since it differs in requests alone.
+pub fn narrowed_scripts_run_alike()
+    ensures { NarrowedRunAlike }
+{}
