@@ -1,3 +1,4 @@
 mod Resolving
 pub mod Pieces
 pub mod OneCapture
+pub mod Coming

@@ -4,3 +4,4 @@ pub mod Steps
 pub mod Captures
 pub mod Laws
 pub mod Contents
+pub mod Reading

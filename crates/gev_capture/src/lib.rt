@@ -1,9 +1,12 @@
 //! Captures of a network, as tcpdump, dumpcap and Wireshark write them: the file formats pcap and pcapng.
 //!
-//! `specs/Files.antt` says what the bytes of a capture are: its packets, and how it ends.
+//! `specs/Files.antt` says what the next record is, by the bytes that are left, and `specs/Captures.antt` what all
+//! bytes are: packets, and an end. `specs/Contents.antt` says what a packet is, and `specs/Reading.antt` how records
+//! come from a source.
 #![tactic(auto)]
 
 mod blocks;
+mod capture_end;
 mod classic;
 mod content;
 mod form;
@@ -12,15 +15,20 @@ mod laws;
 mod numbers;
 mod options;
 mod order;
+mod reading;
+mod room;
 mod seeing;
 mod step;
 mod telling;
 
+pub use capture_end::CaptureEnd;
 pub use content::Content;
 pub use form::{Face, Form};
 pub use kind::CaptureKind;
 pub use laws::{captures_are_one, pieces_tell};
 pub use order::Order;
+pub use reading::find_record;
+pub use room::Room;
 pub use seeing::{content_of, moment_of};
 pub use step::{Change, Found, Slot, Step};
 pub use telling::next_step;
