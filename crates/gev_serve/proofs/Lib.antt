@@ -1,0 +1,4 @@
+pub mod Partial
+pub mod Draining
+pub mod Parting
+pub mod Turning

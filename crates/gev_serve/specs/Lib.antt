@@ -1,0 +1,4 @@
+pub mod Wires
+pub mod Turns
+pub mod Sending
+pub mod Serving

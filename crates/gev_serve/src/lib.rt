@@ -1,0 +1,19 @@
+//! The camera's worker of a live run: in each turn it hears what came on its link, answers, and makes a
+//! frame.
+//!
+//! `specs/Turns.antt` says what a turn sends and what it makes of the camera, and `specs/Serving.antt` what
+//! the worker promises of all its turns.
+#![tactic(auto)]
+
+mod ends;
+mod rooms;
+mod sending;
+mod serving;
+#[cfg(test)]
+mod tests;
+mod turns;
+
+pub use ends::{ServeEnd, ServeTurn};
+pub use rooms::Rooms;
+pub use serving::serve;
+pub use turns::serve_once;
