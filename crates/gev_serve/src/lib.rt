@@ -9,8 +9,6 @@ mod ends;
 mod rooms;
 mod sending;
 mod serving;
-#[cfg(test)]
-mod tests;
 mod turns;
 
 pub use ends::{ServeEnd, ServeTurn};
