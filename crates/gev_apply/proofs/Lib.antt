@@ -3,3 +3,4 @@ pub mod Quiet
 pub mod Turns
 pub mod OneLook
 pub mod AllLooks
+pub mod OfKind

@@ -1,3 +1,4 @@
 pub mod TakenIds
 pub mod Looks
 pub mod Applied
+pub mod Kinds

@@ -1,13 +1,17 @@
 //! The application of a live run on the board that threads share: it takes filled buffers, tells each, and
 //! gives it back to the acquisition.
 //!
-//! `specs/Looks.antt` has a turn and its events, `specs/TakenIds.antt` the ids of taken buffers, and
-//! `specs/Applied.antt` what all turns together did.
+//! `specs/Looks.antt` has a turn and its events, `specs/Kinds.antt` their kinds, `specs/TakenIds.antt` the
+//! ids of taken buffers, and `specs/Applied.antt` what all turns together did.
 #![tactic(auto)]
 
 mod applying;
 mod handing;
+mod laws;
 mod look_end;
 mod looking;
+#[cfg(test)]
+mod tests;
 
 pub use applying::apply;
+pub use laws::turns_are_of_their_kind;

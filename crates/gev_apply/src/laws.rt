@@ -1,0 +1,9 @@
+//! What the definitions promise: the function does nothing, and its contract is a law.
+
+ghost use Rattle.gev_apply.specs.Kinds.{TurnsAreOfTheirKind};
+
+/// The application's turns look, take, give back and queue, and do nothing else: they claim and fill nothing,
+/// and close, start and stop nothing.
+pub fn turns_are_of_their_kind()
+    ensures { TurnsAreOfTheirKind }
+{}
