@@ -12,6 +12,13 @@ use std::sync::Wait;
 use std::test::Fail;
 use std::thread;
 use std::thread::Threads;
+use std::time::{Clock, Duration};
+
+/// How often three threads meet.
+const ROUNDS: u32 = 600;
+
+/// How often a thread looks for the others before it sleeps.
+const LOOKS: u32 = 5000;
 
 /// Announces a buffer of three bytes at a place, and gives it to the application.
 fn announce(alloc: Global, board: &Board, pass: &mut Pass, place: u8) -> Result<(), Fail>
@@ -166,59 +173,190 @@ fn a_close_comes_between_claim_and_fill(rt: HostRuntime) -> Result<(), Fail> {
 struct Worked {
     pass: Pass,
     places: ArrayVec<u8, 15>,
+    /// How often another thread changed the output between a look and the step.
+    lost: u64,
+    /// How often the output was empty.
+    empty: u64,
 }
 
-/// Tries to fill the buffer of each place: the places that were filled.
-fn fill_all<R: Wait>(rt: &R, board: &Board, mut pass: Pass) -> Worked
+/// Looks so many times whether the run word is this one: whether it was.
+fn look_for(board: &Board, pass: &mut Pass, run: u8) -> bool
+    requires table { pass.old.table ≡ board_id board.now }
+    requires empty { IsEmptyHanded pass.old }
+    ensures table { pass.new.table ≡ pass.old.table }
+    ensures empty { IsEmptyHanded pass.new }
+{
+    'looks: for _ in 0..LOOKS {
+        if board.look_run(pass) == run {
+            return true;
+        }
+        std::hint::spin_loop();
+    }
+    false
+}
+
+/// Looks at the run word until it is this one. Where the other thread isn't there soon it lets it run.
+fn wait_for<R: Wait + Clock>(rt: &R, board: &Board, pass: &mut Pass, run: u8)
+    requires table { pass.old.table ≡ board_id board.now }
+    requires empty { IsEmptyHanded pass.old }
+    ensures table { pass.new.table ≡ pass.old.table }
+    ensures empty { IsEmptyHanded pass.new }
+{
+    'waits: for _ in rt.forever() {
+        if look_for(board, pass, run) {
+            return;
+        }
+        thread::sleep(rt, Duration::from_micros(20));
+    }
+    unreachable!()
+}
+
+/// Tries to fill the buffer of a place, which the application has, and fills it where that try was lost:
+/// whether it's in the output now, and whether a try was lost.
+fn try_held<R: Wait>(rt: &R, board: &Board, pass: &mut Pass, place: u8) -> (bool, bool)
+    requires table { pass.old.table ≡ board_id board.now }
+    requires in_range { place < place_count }
+    requires empty { IsEmptyHanded pass.old }
+    ensures table { pass.new.table ≡ pass.old.table }
+    ensures empty { IsEmptyHanded pass.new }
+{
+    let Ok(()) = board.grab(pass, place, 1) else {
+        return (false, false);
+    };
+    match board.try_fill(pass, place) {
+        Tried::Did(true) => (true, false),
+        Tried::Did(false) => {
+            board.lay(pass, place);
+            (false, false)
+        }
+        Tried::Lost { .. } => {
+            board.lay(pass, place);
+            (fill_held(rt, board, pass, place, 1), true)
+        }
+    }
+}
+
+/// The filler's work: once the taker is there it stops the acquisition, which lets all three begin, and
+/// tries to fill the buffer of each place.
+fn fill_all<R: Wait + Clock>(rt: &R, board: &Board, mut pass: Pass) -> Worked
     requires table { pass.table ≡ board_id board.now }
     requires empty { IsEmptyHanded pass }
     ensures table { result.pass.table ≡ board_id board.now }
     ensures empty { IsEmptyHanded result.pass }
 {
     let mut places = ArrayVec::new();
+    let mut lost = 0u64;
+    wait_for(rt, board, &mut pass, 1);
+    let _ = board.stop(&mut pass, true);
     for place in 0..15u8 {
-        if fill_held(rt, board, &mut pass, place, 1) {
+        let (filled, was_lost) = try_held(rt, board, &mut pass, place);
+        lost = lost.saturating_add(u64::from(was_lost));
+        if filled {
             let _ = places.try_push(place);
         }
     }
-    Worked { pass, places }
+    Worked {
+        pass,
+        places,
+        lost,
+        empty: 0,
+    }
 }
 
-/// Tries a thousand times to take: the places that were taken.
-fn take_all<R: Wait>(rt: &R, board: &Board, mut pass: Pass) -> Worked
+/// What a try to take came to.
+#[derive(Clone, Copy)]
+enum Try {
+    Got(u8),
+    Empty,
+    Closed,
+    Lost,
+}
+
+/// Tries to take a buffer, which the application has then.
+fn try_laid(board: &Board, pass: &mut Pass) -> Try
+    requires table { pass.old.table ≡ board_id board.now }
+    requires empty { IsEmptyHanded pass.old }
+    ensures table { pass.new.table ≡ pass.old.table }
+    ensures empty { IsEmptyHanded pass.new }
+{
+    match board.try_take(pass) {
+        Tried::Did(end) => match end {
+            TakeEnd::Taken(place) => {
+                board.lay(pass, place);
+                Try::Got(place)
+            }
+            TakeEnd::Empty => Try::Empty,
+            TakeEnd::Closed => Try::Closed,
+        },
+        Tried::Lost { .. } => Try::Lost,
+    }
+}
+
+/// The taker's work: it tries to take, starts the acquisition to tell that it's there, and once that is
+/// stopped it tries until the stream is closed. After a lost try it takes.
+///
+/// Nobody has filled a buffer when it tries first, since the filler waits for the start: so this try is sure
+/// to find the output empty.
+fn take_all<R: Wait + Clock>(rt: &R, board: &Board, mut pass: Pass) -> Worked
     requires table { pass.table ≡ board_id board.now }
     requires empty { IsEmptyHanded pass }
     ensures table { result.pass.table ≡ board_id board.now }
     ensures empty { IsEmptyHanded result.pass }
 {
     let mut places = ArrayVec::new();
-    for _ in 0..1000u16 {
-        if let Some((place, _)) = take_laid(rt, board, &mut pass) {
-            let _ = places.try_push(place);
+    let mut lost = 0u64;
+    let mut empty = 0u64;
+    if let Try::Empty = try_laid(board, &mut pass) {
+        empty = 1;
+    }
+    let _ = board.start(&mut pass);
+    wait_for(rt, board, &mut pass, 2);
+    'takes: for _ in rt.forever() {
+        match try_laid(board, &mut pass) {
+            Try::Got(place) => {
+                let _ = places.try_push(place);
+            }
+            Try::Empty => empty = empty.saturating_add(1),
+            Try::Lost => {
+                lost = lost.saturating_add(1);
+                if let Some((place, _)) = take_laid(rt, board, &mut pass) {
+                    let _ = places.try_push(place);
+                }
+            }
+            Try::Closed => {
+                return Worked {
+                    pass,
+                    places,
+                    lost,
+                    empty,
+                };
+            }
         }
     }
-    Worked { pass, places }
+    unreachable!()
 }
 
-/// Looks twenty times, and closes.
-fn close_late(board: &Board, mut pass: Pass) -> Pass
+/// The closer's work: once all have begun it looks so many times, and closes.
+fn close_late<R: Wait + Clock>(rt: &R, board: &Board, mut pass: Pass, looks: u32) -> Pass
     requires table { pass.table ≡ board_id board.now }
     requires empty { IsEmptyHanded pass }
     ensures table { result.table ≡ board_id board.now }
     ensures empty { IsEmptyHanded result }
 {
-    for _ in 0..20u8 {
+    wait_for(rt, board, &mut pass, 2);
+    for _ in 0..looks {
         waiting(board, &mut pass);
     }
     close(board, &mut pass);
     pass
 }
 
-fn take_and_close<R: Threads + Wait + Sync>(
+fn take_and_close<R: Threads + Wait + Clock + Sync>(
     rt: &R,
     board: &Board,
     taker: Pass,
     closer: Pass,
+    looks: u32,
 ) -> (Worked, Pass)
     requires tables { (taker.table ≡ board_id board.now) × (closer.table ≡ board_id board.now) }
     requires empty { IsEmptyHanded taker × IsEmptyHanded closer }
@@ -234,16 +372,17 @@ fn take_and_close<R: Threads + Wait + Sync>(
         move || -> Pass
             requires { (closer.table ≡ board_id board.now) × IsEmptyHanded closer }
             ensures { (result.table ≡ board_id board.entry.now) × IsEmptyHanded result }
-        { close_late(board, closer) },
+        { close_late(rt, board, closer, looks) },
     )
 }
 
-fn work_all<R: Threads + Wait + Sync>(
+fn work_all<R: Threads + Wait + Clock + Sync>(
     rt: &R,
     board: &Board,
     filler: Pass,
     taker: Pass,
     closer: Pass,
+    looks: u32,
 ) -> (Worked, (Worked, Pass))
     requires tables { (filler.table ≡ board_id board.now) × (taker.table ≡ board_id board.now) × (closer.table ≡ board_id board.now) }
     requires empty { IsEmptyHanded filler × IsEmptyHanded taker × IsEmptyHanded closer }
@@ -260,32 +399,81 @@ fn work_all<R: Threads + Wait + Sync>(
         move || -> (Worked, Pass)
             requires { (taker.table ≡ board_id board.now) × IsEmptyHanded taker × (closer.table ≡ board_id board.now) × IsEmptyHanded closer }
             ensures { (result.0.pass.table ≡ board_id board.entry.now) × IsEmptyHanded result.0.pass × (result.1.table ≡ board_id board.entry.now) × IsEmptyHanded result.1 }
-        { take_and_close(rt, board, taker, closer) },
+        { take_and_close(rt, board, taker, closer, looks) },
     )
 }
 
-// One thread fills, one takes and one closes: then the places that were taken, and after them those that a
-// sweep gives, are the ones that were filled, in order.
-#[test]
-fn fill_take_close(rt: HostRuntime) -> Result<(), Fail> {
-    let (board, mut pass) = Board::new(rt.alloc())?;
-    announce_all(rt.alloc(), &board, &mut pass)?;
+/// What was counted in one round, or in all.
+#[derive(Clone, Copy)]
+struct Counts {
+    /// Fills and takes that another thread made lose.
+    lost: u64,
+    /// Takes that found the output empty.
+    empty: u64,
+    /// Rounds in which a fill found the stream closed.
+    cut: u64,
+}
+
+/// One thread fills, one takes and one closes after so many looks: then the places that were taken, and
+/// after them those that a sweep gives, are the ones that were filled, in order.
+fn meet<R: Threads + Wait + Clock + Sync>(
+    rt: &R,
+    alloc: Global,
+    looks: u32,
+) -> Result<Counts, Fail> {
+    let (board, mut pass) = Board::new(alloc)?;
+    announce_all(alloc, &board, &mut pass)?;
     let filler = board.split(&mut pass);
     let taker = board.split(&mut pass);
     let closer = board.split(&mut pass);
-    let all = work_all(&rt, &board, filler, taker, closer);
+    let all = work_all(rt, &board, filler, taker, closer, looks);
     let filled = all.0;
     let others = all.1;
     let taken = others.0;
     let closer = others.1;
+    let counts = Counts {
+        lost: filled.lost.saturating_add(taken.lost),
+        empty: taken.empty,
+        cut: u64::from(filled.places.len() < 15),
+    };
     let put_in = filled.places;
     let mut came_out = taken.places;
     board.join(&mut pass, filled.pass);
     board.join(&mut pass, taken.pass);
     board.join(&mut pass, closer);
     let left = sweep(&board, &mut pass);
-    assert!(rt; came_out.try_extend_from_slice(left.as_slice()).is_ok());
-    assert_eq!(rt; came_out.as_slice(), put_in.as_slice());
-    assert_eq!(rt; waiting(&board, &mut pass), (0, true));
+    if came_out.try_extend_from_slice(left.as_slice()).is_err() {
+        return Err(Fail::new("too many buffers came out"));
+    }
+    if came_out.as_slice() != put_in.as_slice() {
+        return Err(Fail::new("others came out than were put in"));
+    }
+    if waiting(&board, &mut pass) != (0, true) {
+        return Err(Fail::new("the output isn't empty and closed"));
+    }
+    Ok(counts)
+}
+
+// Hundreds of times three threads begin at once, and the stream is closed after 0 to 29 looks. Each taker
+// tries once before anybody fills, and finds nothing. That a fill or a take is lost, or that the close comes
+// between two fills, hangs on the schedule: it's counted and told.
+#[test]
+fn fill_take_close(rt: HostRuntime) -> Result<(), Fail> {
+    let mut all = Counts {
+        lost: 0,
+        empty: 0,
+        cut: 0,
+    };
+    for round in 0..ROUNDS {
+        let counts = meet(&rt, rt.alloc(), round % 30)?;
+        assert!(rt; counts.empty >= 1);
+        all.lost = all.lost.saturating_add(counts.lost);
+        all.empty = all.empty.saturating_add(counts.empty);
+        all.cut = all.cut.saturating_add(counts.cut);
+    }
+    println!(&rt;
+        "{ROUNDS} rounds: lost tries {}, takes of nothing {}, rounds with a late fill {}",
+        all.lost, all.empty, all.cut
+    )?;
     Ok(())
 }

@@ -3,4 +3,4 @@ use Rattle.buffer_words.specs.Passes.{IsEmptyHanded}
 use Rattle.output_queue.proofs.tests.close_late.Given as goal
 
 abbrev pub invariant-loop : goal.invariant-loop
-invariant-loop l = (l.pass.table ≡ l.fn.pass.table) × IsEmptyHanded l.pass
+invariant-loop g l = (l.pass.table ≡ l.fn.pass.table) × IsEmptyHanded l.pass
