@@ -47,7 +47,7 @@ keeps_then a b c first second = record {
   config = second.config ∙ first.config;
 }
 
-keeps_all : (a : Machine) → KeepsBlocks a a
+pub keeps_all : (a : Machine) → KeepsBlocks a a
 keeps_all a = record { stands = λ q old. old; buffers = refl; opens = refl; asked = refl; config = refl }
 
 -- Some of the buffers that waited are filled.

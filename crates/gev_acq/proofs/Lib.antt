@@ -5,3 +5,5 @@ pub mod Emptying
 pub mod Picking
 pub mod Listening
 pub mod Moving
+pub mod Sending
+pub mod Hearings

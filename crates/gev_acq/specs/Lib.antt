@@ -5,3 +5,8 @@ pub mod Claiming
 pub mod Heard
 pub mod Hearing
 pub mod Turning
+pub mod Sends
+pub mod Controlled
+pub mod Turns
+pub mod Reading
+pub mod Acquired
