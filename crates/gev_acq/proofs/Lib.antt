@@ -7,3 +7,6 @@ pub mod Listening
 pub mod Moving
 pub mod Sending
 pub mod Hearings
+pub mod OneTurn
+pub mod TurnLists
+pub mod AllTurns
