@@ -15,18 +15,18 @@ use Rattle.buffer_words.specs.Passes.{Token, Enters, SameHands}
 use Rattle.buffer_words.specs.Several.{EntersEach}
 use Rattle.buffer_words.proofs.Several.{each_none, each_one, each_first, each_then}
 use Rattle.gev_acq.specs.declared.turn.Turn.{Turn}
-use Rattle.gev_acq.specs.declared.turn_end.TurnEnd.{TurnEnd}
-use Rattle.gev_acq.specs.declared.turn_end.TurnEnd.TheVariants as ends
-use Rattle.gev_acq.specs.declared.acq_end.AcqEnd.{AcqEnd}
-use Rattle.gev_acq.specs.declared.acq_end.AcqEnd.TheVariants as how
+use Rattle.gev_control.specs.declared.turn_end.TurnEnd.{TurnEnd}
+use Rattle.gev_control.specs.declared.turn_end.TurnEnd.TheVariants as ends
+use Rattle.gev_control.specs.declared.acq_end.AcqEnd.{AcqEnd}
+use Rattle.gev_control.specs.declared.acq_end.AcqEnd.TheVariants as how
 use Rattle.gev_acq.specs.Serving.{Serves}
 use Rattle.gev_acq.specs.Claims.{Claims}
-use Rattle.gev_acq.specs.Sends.{addressed}
-use Rattle.gev_acq.specs.Controlled.{listed, control_of}
+use Rattle.gev_control.specs.Sends.{addressed}
+use Rattle.gev_control.specs.Controlled.{listed, control_of}
 use Rattle.gev_acq.specs.Turns.{Turned, Outside, inputs_of, TakesTurn, TakesOne}
 use Rattle.gev_acq.specs.Acquired.{inputs_in, answers_in, moments_in, heards_in, sends_in, TurnsOn, AllGoOn, EndsIn, FindsStopped, Acquires}
 use Rattle.gev_acq.proofs.Owning.{claims_none, claims_then}
-use Rattle.gev_acq.proofs.Sending.{added_then}
+use Rattle.gev_control.proofs.Fronts.{added_then}
 use Rattle.gev_acq.proofs.TurnLists.{inputs-push, answers-push, moments-push, heards-push, sends-push, go_on-push, turns-push, notes-push, controls-push}
 
 -- So many turns were made, and all went on.

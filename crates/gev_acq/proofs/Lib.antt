@@ -5,8 +5,7 @@ pub mod Emptying
 pub mod Picking
 pub mod Listening
 pub mod Moving
-pub mod Sending
-pub mod Hearings
+pub mod Requesting
 pub mod OneTurn
 pub mod TurnLists
 pub mod AllTurns

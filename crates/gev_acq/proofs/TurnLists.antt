@@ -9,9 +9,9 @@ use Rattle.acquisition_machine.specs.Machine.{Input, State}
 use Rattle.acquisition_machine.specs.Runs.{after_from}
 use Rattle.acquisition_machine.proofs.Joining.{after_from-append}
 use Rattle.gev_acq.specs.declared.turn.Turn.{Turn}
-use Rattle.gev_acq.specs.declared.turn_end.TurnEnd.TheVariants as ends
+use Rattle.gev_control.specs.declared.turn_end.TurnEnd.TheVariants as ends
 use Rattle.gev_acq.specs.Serving.{Serves}
-use Rattle.gev_acq.specs.Controlled.{listed, control_of}
+use Rattle.gev_control.specs.Controlled.{listed, control_of}
 use Rattle.gev_acq.specs.Turns.{Turned, inputs_of, Notes, IsControlled}
 use Rattle.gev_acq.specs.Acquired.{inputs_in, answers_in, moments_in, heards_in, sends_in, ServesTurns, NoteEach, ControlEach, AllGoOn}
 

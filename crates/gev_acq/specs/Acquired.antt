@@ -11,14 +11,14 @@ use Rattle.gev_links.specs.Moments.{TellsEach}
 use Rattle.buffer_words.specs.Passes.{Token}
 use Rattle.buffer_words.specs.Several.{EntersEach}
 use Rattle.gev_acq.specs.declared.turn.Turn.{Turn}
-use Rattle.gev_acq.specs.declared.turn_end.TurnEnd.{TurnEnd}
-use Rattle.gev_acq.specs.declared.turn_end.TurnEnd.TheVariants as ends
-use Rattle.gev_acq.specs.declared.acq_end.AcqEnd.{AcqEnd}
-use Rattle.gev_acq.specs.declared.acq_end.AcqEnd.TheVariants as how
+use Rattle.gev_control.specs.declared.turn_end.TurnEnd.{TurnEnd}
+use Rattle.gev_control.specs.declared.turn_end.TurnEnd.TheVariants as ends
+use Rattle.gev_control.specs.declared.acq_end.AcqEnd.{AcqEnd}
+use Rattle.gev_control.specs.declared.acq_end.AcqEnd.TheVariants as how
 use Rattle.gev_acq.specs.Serving.{Serves}
 use Rattle.gev_acq.specs.Claims.{Claims}
-use Rattle.gev_acq.specs.Sends.{addressed}
-use Rattle.gev_acq.specs.Controlled.{listed, control_of}
+use Rattle.gev_control.specs.Sends.{addressed}
+use Rattle.gev_control.specs.Controlled.{listed, control_of}
 use Rattle.gev_acq.specs.Turns.{Turned, Outside, inputs_of, Notes, IsControlled}
 
 -- the inputs of these turns

@@ -5,8 +5,6 @@ pub mod Claiming
 pub mod Heard
 pub mod Hearing
 pub mod Turning
-pub mod Sends
-pub mod Controlled
 pub mod Turns
 pub mod Reading
 pub mod Acquired

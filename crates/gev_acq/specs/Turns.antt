@@ -8,14 +8,14 @@ use Rattle.acquisition_machine.specs.Runs.{turn}
 use Rattle.gev_links.specs.Links.{Address, Answer, nothing, failed, came, Adds}
 use Rattle.gev_links.specs.Moments.{Tells, TellsEach}
 use Rattle.buffer_words.specs.Passes.{Token}
-use Rattle.gev_acq.specs.declared.turn_end.TurnEnd.{TurnEnd}
-use Rattle.gev_acq.specs.declared.turn_end.TurnEnd.TheVariants as ends
+use Rattle.gev_control.specs.declared.turn_end.TurnEnd.{TurnEnd}
+use Rattle.gev_control.specs.declared.turn_end.TurnEnd.TheVariants as ends
 use Rattle.gev_acq.specs.declared.turn.Turn.{Turn}
 use Rattle.gev_acq.specs.declared.heard.Heard.{Heard}
 use Rattle.gev_acq.specs.Claims.{ServesOn}
 use Rattle.gev_acq.specs.Turning.{inputs_if, IsHeardIf}
-use Rattle.gev_acq.specs.Sends.{addressed}
-use Rattle.gev_acq.specs.Controlled.{EndsAs, listed, sent_by, control_of}
+use Rattle.gev_control.specs.Sends.{addressed}
+use Rattle.gev_control.specs.Controlled.{EndsAs, listed, sent_by, control_of}
 
 pub record Turned : Type 0 where
   -- what the receive on the stream gave

@@ -8,13 +8,12 @@ ghost use Rattle.gev_acq.specs.Buffers.{Backs, HoldsAlone};
 ghost use Rattle.gev_acq.specs.Reading.{FaultsOf};
 ghost use Rattle.gev_acq.specs.Acquired.{Acquires, is_fault_end};
 
-use crate::acq_end::AcqEnd;
 use crate::turn::Turn;
-use crate::turn_end::TurnEnd;
 use crate::turn_once::turn_once;
 use acq_core::Acq;
 use buffer_words::{Board, Pass};
 use control_client::Client;
+use gev_control::{AcqEnd, TurnEnd};
 use gev_links::{Clock, Gate, Link};
 use gev_types::Peer;
 use std::sync::Wait;

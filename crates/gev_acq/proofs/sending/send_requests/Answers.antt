@@ -1,6 +1,6 @@
 -- One more request is taken out, and sent where nothing has failed.
-use Rattle.gev_acq.proofs.Sending.{sending_begins, sending_goes_on}
-use Rattle.gev_acq.proofs.controlling.send_requests.Goals as goal
+use Rattle.gev_acq.proofs.Requesting.{sending_begins, sending_goes_on}
+use Rattle.gev_acq.proofs.sending.send_requests.Goals as goal
 
 pub requests-init : goal.requests-init
 requests-init g c =

@@ -2,8 +2,8 @@
 use Rattle.std.proofs.Common.{Ok, subst, take}
 use Rattle.gev_links.specs.Links.{came, nothing, answer_of}
 use Rattle.gev_links.specs.Moments.{Tells}
-use Rattle.gev_acq.proofs.Hearings.{turn_heard, turn_failed}
-use Rattle.gev_acq.proofs.controlling.client_turn.Goals as goal
+use Rattle.gev_control.proofs.Hearings.{turn_heard, turn_failed}
+use Rattle.gev_control.proofs.controlling.client_turn.Goals as goal
 
 pub returns-in-Some-clause-turn : goal.returns-in-Some-clause-turn
 returns-in-Some-clause-turn g c =

@@ -1,12 +1,12 @@
 -- The control part of a turn, by what the receive on the control link gave.
-use Rattle.std.proofs.Common.{◌≡◌, ℕ, Bool, true, false, List, [], ◌∷◌, take, Option, Some, None, Result, Ok, Err, refl, ap, sym, ◌∙◌, subst, inr}
+use Rattle.std.proofs.Common.{◌≡◌, ℕ, Bool, false, List, [], ◌∷◌, Option, Some, refl, sym, subst, inr}
 use Rattle.client_machine.specs.Machine.{Client}
-use Rattle.gev_links.specs.Links.{Address, Answer, nothing, failed, came, Adds}
+use Rattle.gev_links.specs.Links.{Address, Answer, failed}
 use Rattle.gev_links.specs.Moments.{Tells, TellsEach}
 use Rattle.gev_links.proofs.Growing.{tells_first, adds_none}
-use Rattle.gev_acq.specs.declared.turn_end.TurnEnd.{TurnEnd}
-use Rattle.gev_acq.specs.declared.turn_end.TurnEnd.TheVariants as ends
-use Rattle.gev_acq.specs.Controlled.{ControlTurn, control_of, Does, ClientTurn}
+use Rattle.gev_control.specs.declared.turn_end.TurnEnd.{TurnEnd}
+use Rattle.gev_control.specs.declared.turn_end.TurnEnd.TheVariants as ends
+use Rattle.gev_control.specs.Controlled.{control_of, Does, ClientTurn}
 
 -- the receive gave this, and the client did the turn that follows from it
 pub turn_heard : (camera : Address) (s u : Client) (moment : ℕ) (was : Bool) (end : TurnEnd) (answer : Answer) (h k l : Option (List Answer))

@@ -1,5 +1,5 @@
 -- What is sent on one link, in order, up to the first send that fails.
-use Rattle.std.specs.Prelude.{◌≡◌, ℕ, Bool, true, false, List, [], ◌∷◌, ◌++◌, Option, Some, None}
+use Rattle.std.specs.Prelude.{◌≡◌, ℕ, Bool, true, false, List, [], ◌∷◌, ◌++◌, Option}
 use Rattle.gev_links.specs.Faults.{Rose}
 use Rattle.gev_links.specs.Links.{Address, Adds}
 

@@ -1,9 +1,9 @@
-/// How the turns of a live run's reader ended.
+/// How a worker of the reader ended: the setup of the camera, or the acquisition's turns.
 #[derive(Clone, Copy, Debug, PartialEq, Eq)]
 pub enum AcqEnd {
-    /// The run word wasn't 1.
+    /// Of the setup, all its commands were acknowledged; of the turns, the acquisition doesn't run any more.
     Stopped,
-    /// All turns were made.
+    /// It made all its turns.
     Spent,
     /// A receive or a send failed.
     Fault,

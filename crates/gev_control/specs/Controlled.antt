@@ -6,9 +6,9 @@ use Rattle.client_machine.specs.Machine.{Client, ticked, received, taken, to_sen
 use Rattle.client_machine.specs.Events.{Event, receives, ticks, takes}
 use Rattle.gev_links.specs.Links.{Address, Answer, nothing, failed, came, Adds}
 use Rattle.gev_links.specs.Moments.{TellsEach}
-use Rattle.gev_acq.specs.declared.turn_end.TurnEnd.{TurnEnd}
-use Rattle.gev_acq.specs.declared.turn_end.TurnEnd.TheVariants as ends
-use Rattle.gev_acq.specs.Sends.{addressed}
+use Rattle.gev_control.specs.declared.turn_end.TurnEnd.{TurnEnd}
+use Rattle.gev_control.specs.declared.turn_end.TurnEnd.TheVariants as ends
+use Rattle.gev_control.specs.Sends.{addressed}
 
 -- What the client goes through in a turn, first in first, how it is then, what it has to send, and how the turn
 -- ends.

@@ -1,7 +1,7 @@
 use Rattle.std.proofs.Common.{length}
 use Rattle.acq_core.specs.Waiting.{waiting_requests}
-use Rattle.gev_acq.proofs.Sending.{IsSending}
-use Rattle.gev_acq.proofs.controlling.send_requests.Given as goal
+use Rattle.gev_acq.proofs.Requesting.{IsSending}
+use Rattle.gev_acq.proofs.sending.send_requests.Given as goal
 
 abbrev pub invariant-requests : goal.invariant-requests
 invariant-requests g l =
