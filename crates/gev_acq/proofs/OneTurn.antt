@@ -32,17 +32,17 @@ come_is_some (Err error) out = refl
 
 -- a turn in which a link failed before the client's receive ends by a fault
 ends_failed : (s : Client) (heard : Option Answer) (moment : ℕ) (end : TurnEnd) → heard ≡ None → EndsAs end (control_of s heard moment).end → end ≡ ends.Fault
-ends_failed s (Some answer) moment end is as = let bad : ⊥ = cc in absurd bad
-ends_failed s None moment ends.GoesOn is as = let bad : ⊥ = cc in absurd bad
-ends_failed s None moment ends.Fault is as = refl
-ends_failed s None moment (ends.NoAnswer req) is as = let bad : ⊥ = cc in absurd bad
-ends_failed s None moment (ends.Refused status) is as = let bad : ⊥ = cc in absurd bad
+ends_failed s (Some answer) moment end is how_so = let bad : ⊥ = cc in absurd bad
+ends_failed s None moment ends.GoesOn is how_so = let bad : ⊥ = cc in absurd bad
+ends_failed s None moment ends.Fault is how_so = refl
+ends_failed s None moment (ends.NoAnswer req) is how_so = let bad : ⊥ = cc in absurd bad
+ends_failed s None moment (ends.Refused status) is how_so = let bad : ⊥ = cc in absurd bad
 
 -- without a fault all requests were sent
 rest_none : (peer : Address) (asks : List (List ℕ)) (was now : Bool) (o n : Option (List (Address × List ℕ))) (s : Client) (heard : Option Answer) (moment : ℕ) (end : TurnEnd)
     → (sends : SendsOn peer asks was now o n) → (now ≡ true → heard ≡ None) → EndsAs end (control_of s heard moment).end → end ≢ ends.Fault → sends.rest ≡ []
-rest_none peer asks was false o n s heard moment end sends lost as fine = sends.whole refl
-rest_none peer asks was true o n s heard moment end sends lost as fine = absurd (fine (ends_failed s heard moment end (lost refl) as))
+rest_none peer asks was false o n s heard moment end sends lost how_so fine = sends.whole refl
+rest_none peer asks was true o n s heard moment end sends lost how_so fine = absurd (fine (ends_failed s heard moment end (lost refl) how_so))
 
 -- where the control link was received from all requests were sent
 rest_before : (peer : Address) (asks : List (List ℕ)) (was now : Bool) (o n : Option (List (Address × List ℕ))) (heard : Option Answer) (answer : Answer)
@@ -108,17 +108,3 @@ takes_one c camera Old Mid New r m h k l w v x d b s u answer e requests was now
     sent = added_then camera w v x sends.done (sent_by end (control_of s turn.heard e.moment).send) sends.sent turn.does.sent;
   };
 }
-
--- a failed receive, and what came of the control link after it
-counts_lost : (n : Bool) (a b x y : ℕ) → Rose a b → Fails true n x y → FaultsOf n a b x y
-counts_lost true a b x y rose fails = inl (rose, fails)
-counts_lost false a b x y rose fails = absurd fails
-
-counts_heard : (n : Bool) (a b x y : ℕ) → b ≡ a → Fails false n x y → FaultsOf n a b x y
-counts_heard true a b x y stays fails = inr (stays, fails)
-counts_heard false a b x y stays fails = (stays, fails)
-
--- which counts of faults rose in a turn
-pub turn_faults : (lost now n : Bool) (a b x y z : ℕ) → (lost ≡ true → Rose a b) → (lost ≡ false → b ≡ a) → Fails lost now x y → Fails now n y z → FaultsOf n a b x z
-turn_faults true now n a b x y z rose stays first second = counts_lost n a b x z (rose refl) (fails_then true now n x y z first second)
-turn_faults false now n a b x y z rose stays first second = counts_heard n a b x z (stays refl) (fails_then false now n x y z first second)
