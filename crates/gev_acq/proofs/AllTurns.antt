@@ -1,30 +1,27 @@
 -- All turns of the reader, one after the other.
-use Rattle.std.proofs.Common.{◌≡◌, ◌≢◌, ℕ, ◌+◌, ◌<◌, ◌≤◌, List, [], ◌∷◌, ◌++◌, length, Option, refl, ap, sym, ◌∙◌, subst, append_assoc, length-append, arith}
+use Rattle.std.proofs.Common.{◌≡◌, ◌≢◌, ℕ, ◌+◌, ◌<◌, ◌≤◌, List, [], ◌∷◌, ◌++◌, length, refl, ap, sym, ◌∙◌, subst, append_assoc, length-append, arith}
 use Rattle.std.proofs.lemmas.List.{append-nil}
-use Rattle.board_machine.specs.declared.events.Event.{Event}
 use Rattle.board_machine.specs.declared.events.Event.TheVariants.{LookRun}
-use Rattle.client_machine.specs.Machine.{Client}
 use Rattle.acquisition_machine.specs.declared.config.AcqConfig.{AcqConfig}
 use Rattle.acquisition_machine.specs.Machine.{Input}
 use Rattle.acquisition_machine.specs.Runs.{first_state, After}
 use Rattle.acquisition_machine.proofs.Joining.{after_from-append}
-use Rattle.gev_links.specs.Links.{Address, Answer, Adds}
+use Rattle.gev_links.specs.Links.{Address, Adds}
 use Rattle.gev_links.specs.Moments.{TellsEach}
 use Rattle.gev_links.proofs.Growing.{tells_none, tells_more, tells_then, adds_none}
-use Rattle.buffer_words.specs.Passes.{Token, Enters, SameHands}
-use Rattle.buffer_words.specs.Several.{EntersEach}
+use Rattle.buffer_words.specs.Passes.{Token, Enters}
 use Rattle.buffer_words.proofs.Several.{each_none, each_one, each_first, each_then}
 use Rattle.gev_acq.specs.declared.turn.Turn.{Turn}
 use Rattle.gev_control.specs.declared.turn_end.TurnEnd.{TurnEnd}
 use Rattle.gev_control.specs.declared.turn_end.TurnEnd.TheVariants as ends
-use Rattle.gev_control.specs.declared.acq_end.AcqEnd.{AcqEnd}
 use Rattle.gev_control.specs.declared.acq_end.AcqEnd.TheVariants as how
 use Rattle.gev_acq.specs.Serving.{Serves}
 use Rattle.gev_acq.specs.Claims.{Claims}
 use Rattle.gev_control.specs.Sends.{addressed}
-use Rattle.gev_control.specs.Controlled.{listed, control_of}
+use Rattle.gev_control.specs.Controlled.{listed, is_fault}
+use Rattle.gev_acq.specs.Reading.{FaultsOf}
 use Rattle.gev_acq.specs.Turns.{Turned, Outside, inputs_of, TakesTurn, TakesOne}
-use Rattle.gev_acq.specs.Acquired.{inputs_in, answers_in, moments_in, heards_in, sends_in, TurnsOn, AllGoOn, EndsIn, FindsStopped, Acquires}
+use Rattle.gev_acq.specs.Acquired.{inputs_in, answers_in, moments_in, heards_in, sends_in, TurnsOn, AllGoOn, EndsIn, Acquires}
 use Rattle.gev_acq.proofs.Owning.{claims_none, claims_then}
 use Rattle.gev_control.proofs.Fronts.{added_then}
 use Rattle.gev_acq.proofs.TurnLists.{inputs-push, answers-push, moments-push, heards-push, sends-push, go_on-push, turns-push, notes-push, controls-push}
@@ -220,3 +217,9 @@ ends_spent c camera Old New o n journal journal_now count turns s t so all = rec
   ends = (so.number ∙ all, so.all);
   journal_is = so.journal_is;
 }
+
+-- a turn that went on had no fault
+pub counts_stay : (end : TurnEnd) (stream stream_after control control_after : ℕ) → FaultsOf (is_fault end) stream stream_after control control_after → end ≡ ends.GoesOn
+    → (stream_after ≡ stream) × (control_after ≡ control)
+counts_stay end stream stream_after control control_after faults fine =
+    subst (λ e. FaultsOf (is_fault e) stream stream_after control control_after) fine faults

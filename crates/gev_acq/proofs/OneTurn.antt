@@ -1,24 +1,23 @@
 -- One turn of the reader, put together from its calls.
-use Rattle.std.proofs.Common.{◌≡◌, ◌≢◌, ◌⊎◌, ℕ, Bool, true, false, List, [], ◌∷◌, ◌++◌, map, Option, Some, None, Result, Ok, Err, refl, ap, sym, ◌∙◌, subst, append_assoc, inl, inr}
+use Rattle.std.proofs.Common.{◌≡◌, ◌≢◌, ℕ, Bool, true, false, List, [], ◌++◌, Option, Some, None, Result, Ok, Err, refl, ap, sym, ◌∙◌, subst}
 use Rattle.std.specs.Prelude.{is_some}
 use Rattle.std.proofs.lemmas.List.{append-nil}
 use Rattle.client_machine.specs.Machine.{Client}
 use Rattle.acquisition_machine.specs.declared.config.AcqConfig.{AcqConfig}
 use Rattle.acquisition_machine.specs.Machine.{Input}
 use Rattle.gev_links.specs.declared.failed.Failed.{Failed}
-use Rattle.gev_links.specs.Faults.{Rose}
-use Rattle.gev_links.specs.Links.{Address, Answer, nothing, failed, came, answer_of, Adds}
+use Rattle.gev_links.specs.Links.{Address, Answer, failed, answer_of}
 use Rattle.gev_links.specs.Moments.{Tells, TellsEach}
 use Rattle.buffer_words.specs.Passes.{Token}
 use Rattle.gev_control.specs.declared.turn_end.TurnEnd.{TurnEnd}
 use Rattle.gev_control.specs.declared.turn_end.TurnEnd.TheVariants as ends
 use Rattle.gev_acq.specs.declared.turn.Turn.{Turn}
-use Rattle.gev_control.specs.Sends.{addressed, SendsOn, Fails}
-use Rattle.gev_control.specs.Controlled.{EndsAs, listed, sent_by, is_fault, control_of, ClientTurn}
-use Rattle.gev_acq.specs.Reading.{is_lost, has_come, FaultsOf}
+use Rattle.gev_control.specs.Sends.{SendsOn}
+use Rattle.gev_control.specs.Controlled.{EndsAs, listed, sent_by, control_of, ClientTurn}
+use Rattle.gev_acq.specs.Reading.{is_lost, has_come}
 use Rattle.gev_acq.specs.Turning.{ServesTurn}
 use Rattle.gev_acq.specs.Turns.{bytes_in, heard_of, SendsAll, TakesOne}
-use Rattle.gev_control.proofs.Fronts.{added_then, fails_then}
+use Rattle.gev_control.proofs.Fronts.{added_then}
 
 pub failed_is_lost : (r : Result (Option (ℕ × Address)) Failed) (out : List ℕ) → answer_of r out ≡ failed → is_lost r ≡ true
 failed_is_lost (Ok None) out is = let bad : ⊥ = cc in absurd bad

@@ -1,5 +1,5 @@
 -- The lists of turns, with one more turn.
-use Rattle.std.proofs.Common.{◌≡◌, ℕ, ◌+◌, List, [], ◌∷◌, ◌++◌, length, refl, ap, sym, ◌∙◌, subst, append_assoc}
+use Rattle.std.proofs.Common.{◌≡◌, List, [], ◌∷◌, ◌++◌, refl, ap, sym, ◌∙◌, subst, append_assoc}
 use Rattle.std.proofs.lemmas.List.{append-nil}
 use Rattle.board_machine.specs.declared.events.Event.{Event}
 use Rattle.board_machine.specs.declared.events.Event.TheVariants.{LookRun}
