@@ -28,6 +28,9 @@ pub record SetupTurned : Type 0 where
   -- what the receive gave; None: the turn ended before its receive
   pub heard : Option Answer
 
+abbrev pub turned_at : ℕ → Option Answer → SetupTurned
+turned_at moment heard = record { moment = moment; heard = heard }
+
 -- What the client goes through, first in first, and how the setup is then.
 pub record SetupPart : Type 0 where
   pub events : List Event

@@ -5,8 +5,8 @@ ghost use Rattle.client_machine.specs.Machine.{HasSubmittedNone};
 ghost use Rattle.client_machine.specs.Setup.{SETUP_SIZE as COMMANDS};
 ghost use Rattle.gev_control.specs.Ends.{is_fault_end, ends_in_fault};
 ghost use Rattle.gev_control.specs.Sends.{Fails};
-ghost use Rattle.gev_control.specs.SetupTurns.{set_up, begins};
-ghost use Rattle.gev_control.specs.SetsUp.{MakesSetupTurn, SetsUp};
+ghost use Rattle.gev_control.specs.SetupTurns.{set_up, begins, ends_by};
+ghost use Rattle.gev_control.specs.SetsUp.{HearsSetup, TakesSetupTurn, SetsUp};
 
 use crate::acq_end::AcqEnd;
 use crate::controlling::tick_client;
@@ -34,8 +34,10 @@ fn submit_next(client: &mut Client, stream: Peer, begun: u8, moment: u64) -> u8
     begun + 1
 }
 
-// How an outcome of a receive ends the setup, of which so many commands were submitted.
-fn end_by(outcome: Outcome, begun: u8) -> Option<AcqEnd> {
+// How the outcome of a receive ends the setup, of which so many commands were submitted.
+fn end_by(outcome: Outcome, begun: u8) -> Option<AcqEnd>
+    ensures { result ≡ ends_by begun outcome }
+{
     match outcome {
         Outcome::Acked => {
             if begun == SETUP_SIZE {
@@ -45,7 +47,55 @@ fn end_by(outcome: Outcome, begun: u8) -> Option<AcqEnd> {
             }
         }
         Outcome::Refused(status) => Some(AcqEnd::Refused(status)),
-        Outcome::Waiting(_) | Outcome::Idle | Outcome::NoAnswer(_) => None,
+        Outcome::Waiting(_) => None,
+        Outcome::Idle => None,
+        Outcome::NoAnswer(_) => None,
+    }
+}
+
+// Receives once and gives the client what came: how the setup ended, if it did.
+fn hear_next<L: Link>(
+    client: &mut Client,
+    control: &mut L,
+    begun: u8,
+    moment: u64,
+    out: &mut [u8],
+) -> Option<AcqEnd>
+    ensures hears { HearsSetup client.old begun moment (L.received control.old) (L.received control.new) client.new result }
+    ensures sent { L.sent control.new ≡ L.sent control.old }
+    ensures fails { Fails false (ends_in_fault result) (L.faults control.old) (L.faults control.new) }
+{
+    match control.recv(out) {
+        Ok(came) => match came {
+            Some((count, _)) => end_by(client.receive(&out[..count], moment), begun),
+            None => None,
+        },
+        Err(_) => Some(AcqEnd::Fault),
+    }
+}
+
+// One turn of the setup, of which `begun` commands were submitted: how it ended, if it did.
+fn setup_once<L: Link>(
+    client: &mut Client,
+    control: &mut L,
+    camera: Peer,
+    stream: Peer,
+    begun: &mut u8,
+    moment: u64,
+    out: &mut [u8],
+) -> Option<AcqEnd>
+    requires { begun.old ≤ COMMANDS }
+    ensures turn { TakesSetupTurn camera stream (set_up client.old begun.old) (set_up client.new begun.new) moment
+        (L.received control.old) (L.received control.new) (L.sent control.old) (L.sent control.new) result }
+    ensures few { begun.new ≤ COMMANDS }
+    ensures fails { Fails false (ends_in_fault result) (L.faults control.old) (L.faults control.new) }
+{
+    *begun = submit_next(client, stream, *begun, moment);
+    match tick_client(client, control, camera, moment) {
+        TurnEnd::GoesOn => hear_next(client, control, *begun, moment, out),
+        TurnEnd::Fault => Some(AcqEnd::Fault),
+        TurnEnd::NoAnswer(req) => Some(AcqEnd::NoAnswer(req)),
+        TurnEnd::Refused(status) => Some(AcqEnd::Refused(status)),
     }
 }
 
@@ -65,15 +115,18 @@ pub fn setup<R: Wait, L: Link, C: Clock>(
     stream: Peer,
 ) -> AcqEnd
     requires { HasSubmittedNone client.old }
-    ensures sets_up { (begun : ℕ) × SetsUp camera stream
-        (record { heard = L.received control.old; sent = L.sent control.old; told = C.told clock.old; state = set_up client.old 0 })
-        (record { heard = L.received control.new; sent = L.sent control.new; told = C.told clock.new; state = set_up client.new begun }) result }
+    ensures sets_up { SetsUp camera stream
+        (record { heard = L.received control.old; sent = L.sent control.old; told = C.told clock.old; client = client.old })
+        (record { heard = L.received control.new; sent = L.sent control.new; told = C.told clock.new; client = client.new }) result }
     ensures fails { Fails false (is_fault_end result) (L.faults control.old) (L.faults control.new) }
 {
     let mut out = [0; RECEIVE_ROOM];
     let mut begun = 0;
     'turns: for _ in rt.forever() {
-        match setup_once(client, control, clock, camera, stream, &mut begun, &mut out) {
+        let moment = clock.now();
+        match setup_once(
+            client, control, camera, stream, &mut begun, moment, &mut out,
+        ) {
             Some(end) => return end,
             None => {}
         }
