@@ -1,5 +1,5 @@
 -- The control part of a turn: what comes on the control link, what the client makes of it, and what it sends.
-use Rattle.std.specs.Prelude.{◌≡◌, ◌⊎◌, ℕ, Bool, true, false, List, [], ◌∷◌, ◌++◌, Option, Some, None}
+use Rattle.std.specs.Prelude.{◌≡◌, ◌⊎◌, ⊤, ℕ, Bool, true, false, List, [], ◌∷◌, ◌++◌, Option, Some, None, IsSome}
 use Rattle.client_machine.specs.declared.outcome.Outcome.{Outcome}
 use Rattle.client_machine.specs.declared.outcome.Outcome.TheVariants.{Waiting, Idle, Acked, Refused, NoAnswer}
 use Rattle.client_machine.specs.Machine.{Client, ticked, received, taken, to_send}
@@ -73,6 +73,13 @@ sent_by ends.GoesOn send = listed send
 sent_by ends.Fault send = []
 sent_by (ends.NoAnswer req) send = []
 sent_by (ends.Refused status) send = []
+
+-- a turn that ends by a fault had something to send
+abbrev pub HadToSend : TurnEnd → Option (List ℕ) → Type 0
+HadToSend ends.GoesOn send = ⊤
+HadToSend ends.Fault send = IsSome send
+HadToSend (ends.NoAnswer req) send = ⊤
+HadToSend (ends.Refused status) send = ⊤
 
 abbrev pub is_fault : TurnEnd → Bool
 is_fault ends.GoesOn = false

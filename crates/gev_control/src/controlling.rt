@@ -2,7 +2,7 @@
 
 ghost use Rattle.std.specs.Prelude.{◌≡◌, [], false};
 ghost use Rattle.gev_control.specs.Sends.{Fails};
-ghost use Rattle.gev_control.specs.Controlled.{is_fault, ticks_turn, hears_turn, Does, ClientTurn};
+ghost use Rattle.gev_control.specs.Controlled.{is_fault, ticks_turn, hears_turn, Does, HadToSend, ClientTurn};
 
 use crate::sending::send_waiting;
 use crate::turn_end::TurnEnd;
@@ -11,8 +11,14 @@ use gev_links::Link;
 use gev_types::Peer;
 
 /// The client ticks, and sends what it has to send.
-fn tick_client<M: Link>(client: &mut Client, control: &mut M, camera: Peer, moment: u64) -> TurnEnd
+pub(crate) fn tick_client<M: Link>(
+    client: &mut Client,
+    control: &mut M,
+    camera: Peer,
+    moment: u64,
+) -> TurnEnd
     ensures does { Does (ticks_turn [] client.old moment) camera result client.new (M.sent control.old) (M.sent control.new) }
+    ensures had { HadToSend result (ticks_turn [] client.old moment).send }
     ensures fails { Fails false (is_fault result) (M.faults control.old) (M.faults control.new) }
     ensures received { M.received control.new ≡ M.received control.old }
 {

@@ -8,9 +8,11 @@
 mod acq_end;
 mod controlling;
 mod sending;
+mod setting_up;
 mod turn_end;
 
 pub use acq_end::AcqEnd;
 pub use controlling::client_turn;
 pub use sending::send_unless;
+pub use setting_up::setup;
 pub use turn_end::TurnEnd;

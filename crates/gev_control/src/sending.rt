@@ -4,7 +4,7 @@ ghost use Rattle.std.specs.Prelude.{◌≡◌, [], ◌∷◌, false};
 ghost use Rattle.client_machine.specs.Machine.{taken, to_send};
 ghost use Rattle.gev_links.specs.Links.{Adds};
 ghost use Rattle.gev_control.specs.Sends.{addressed, SendsOn, Fails};
-ghost use Rattle.gev_control.specs.Controlled.{sent_by, is_fault, IsPlainEnd};
+ghost use Rattle.gev_control.specs.Controlled.{sent_by, is_fault, HadToSend, IsPlainEnd};
 
 use crate::turn_end::TurnEnd;
 use control_client::Client;
@@ -30,6 +30,7 @@ pub fn send_unless<M: Link>(control: &mut M, camera: Peer, bytes: &[u8], failed:
 pub(crate) fn send_waiting<M: Link>(client: &mut Client, control: &mut M, camera: Peer) -> TurnEnd
     ensures state { client.new ≡ taken client.old }
     ensures plain { IsPlainEnd result }
+    ensures had { HadToSend result (to_send client.old.asked) }
     ensures sent { Adds (M.sent control.old) (M.sent control.new) (addressed camera (sent_by result (to_send client.old.asked))) }
     ensures fails { Fails false (is_fault result) (M.faults control.old) (M.faults control.new) }
     ensures received { M.received control.new ≡ M.received control.old }
