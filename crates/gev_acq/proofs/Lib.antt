@@ -9,3 +9,4 @@ pub mod Requesting
 pub mod OneTurn
 pub mod TurnLists
 pub mod AllTurns
+pub mod Filled

@@ -1,5 +1,5 @@
 -- What a live run's reader did.
-use Rattle.std.specs.Prelude.{◌≡◌, ◌≢◌, ⊤, ℕ, ◌<◌, ◌≤◌, List, [], ◌∷◌, ◌++◌, length, Bool, true, false}
+use Rattle.std.specs.Prelude.{◌≡◌, ◌≢◌, ⊤, ℕ, ◌<◌, ◌≤◌, List, [], ◌∷◌, ◌++◌, length}
 use Rattle.board_machine.specs.declared.events.Event.{Event}
 use Rattle.board_machine.specs.declared.events.Event.TheVariants.{LookRun}
 use Rattle.client_machine.specs.Machine.{Client}
@@ -118,13 +118,6 @@ LooksLast how.Spent s u = u ≡ s
 LooksLast how.Fault s u = u ≡ s
 LooksLast (how.NoAnswer req) s u = u ≡ s
 LooksLast (how.Refused status) s u = u ≡ s
-
-abbrev pub is_fault_end : AcqEnd → Bool
-is_fault_end how.Stopped = false
-is_fault_end how.Spent = false
-is_fault_end how.Fault = true
-is_fault_end (how.NoAnswer req) = false
-is_fault_end (how.Refused status) = false
 
 -- The reader made turns, at most the asked number, and ended so. The journal has an entry more for each.
 pub record Acquires (c : AcqConfig) (camera : Address) (Old New : List Input → Type 0) (o n : Outside) (journal journal_after : List Turn) (turns : ℕ) (end : AcqEnd) (s u : Token) : Type 0 where

@@ -8,3 +8,4 @@ pub mod Turning
 pub mod Turns
 pub mod Reading
 pub mod Acquired
+pub mod Laws

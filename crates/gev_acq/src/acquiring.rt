@@ -4,9 +4,10 @@ ghost use Rattle.std.specs.Prelude.{◌≡◌, ◌+◌, ◌≤◌, [], vec_len, 
 ghost use Rattle.acq_core.specs.Receiver.{config_of, buffers, Stands};
 ghost use Rattle.acq_core.specs.Waiting.{waiting_fills, waiting_requests};
 ghost use Rattle.buffer_words.specs.Boards.{board_id};
+ghost use Rattle.gev_control.specs.Ends.{is_fault_end};
 ghost use Rattle.gev_acq.specs.Buffers.{Backs, HoldsAlone};
 ghost use Rattle.gev_acq.specs.Reading.{FaultsOf};
-ghost use Rattle.gev_acq.specs.Acquired.{Acquires, is_fault_end};
+ghost use Rattle.gev_acq.specs.Acquired.{Acquires};
 
 use crate::turn::Turn;
 use crate::turn_once::turn_once;

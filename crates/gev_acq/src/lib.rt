@@ -7,6 +7,7 @@ mod draining;
 mod filling;
 mod heard;
 mod hearing;
+mod laws;
 mod sending;
 mod turn;
 mod turn_once;
@@ -18,5 +19,9 @@ pub use filling::fill_all;
 pub use gev_control::{AcqEnd, TurnEnd};
 pub use heard::Heard;
 pub use hearing::hear;
+pub use laws::{
+    client_goes_through_turns, readers_fill_the_retired, served_fills_are_retired,
+    turns_fill_the_retired,
+};
 pub use turn::Turn;
 pub use turning::serve_turn;
