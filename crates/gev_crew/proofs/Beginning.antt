@@ -1,20 +1,19 @@
 -- The beginning of a live run, buffer by buffer, by a pass that is alone on an empty board.
-use Rattle.std.proofs.Common.{◌≡◌, ◌⊎◌, inl, inr, ℕ, zero, suc, ◌+◌, ◌<◌, ◌≤◌, List, [], ◌∷◌, ◌++◌, length, Ok, Err, refl, sym, ap, subst, ◌∙◌, arith, append_assoc, append-nil, length-append, eq-eqb, ◌==◌}
+use Rattle.std.proofs.Common.{◌≡◌, inl, inr, ℕ, zero, suc, ◌+◌, ◌<◌, ◌≤◌, List, [], ◌∷◌, ◌++◌, Ok, Err, refl, sym, ap, subst, ◌∙◌, arith, append_assoc, append-nil, length-append, eq-eqb, ◌==◌}
 use Rattle.std.proofs.lemmas.List.{get_or-replicate}
 use Rattle.std.proofs.lemmas.Bool.{cond-true}
 use Rattle.gev_types.specs.Limits.{place_count}
 use Rattle.gentl_types.specs.declared.buffer_id.BufferId.{BufferId}
 use Rattle.gentl_types.specs.declared.errors.GcError.{GcError}
-use Rattle.board_machine.specs.declared.events.Entry.{Entry}
 use Rattle.board_machine.specs.declared.events.Event.{Event}
-use Rattle.board_machine.specs.Machine.{Board, empty_board, IsActor, vacant, word_at, entry}
-use Rattle.board_machine.specs.Histories.{Run, After, after_from, own_of}
+use Rattle.board_machine.specs.Machine.{empty_board, IsActor, vacant, entry}
+use Rattle.board_machine.specs.Histories.{Run, After, own_of}
 use Rattle.board_machine.specs.Adding.{entries_of}
 use Rattle.board_machine.specs.Actors.{born}
 use Rattle.board_machine.specs.Laws.{IsAlone}
 use Rattle.board_machine.proofs.Runs.{after-append, runs_rest}
 use Rattle.board_calls.specs.Rounds.{refused_from}
-use Rattle.board_calls.specs.Calls.{IsSize, OpensWith, LooksOut, Announces, Queues, Starts}
+use Rattle.board_calls.specs.Calls.{IsSize, OpensWith, Announces, Queues, Starts}
 use Rattle.gentl_types.specs.declared.word.Word.{Word}
 use Rattle.buffer_words.specs.Passes.{Token, own}
 use Rattle.buffer_words.specs.Several.{EntersEach, EntersOf, BearNone}
@@ -190,3 +189,36 @@ childless t K bear number saw =
     ap (λ n. born (own_of n t.seen)) number
     ∙ (ap (λ l. born (own_of 0 l)) saw.seen
     ∙ (ap (λ l. born l) (own_only 0 saw.events) ∙ born_none 0 saw.events (bear saw.events saw.kind)))
+
+-- ---- where memory was wanting
+
+pub short_table : (s t : Token) (size buffers : ℕ) → LacksMemory size buffers s t → t.table ≡ s.table
+short_table s t size buffers lacks = lacks.enters.enters.table
+
+pub short_number : (s t : Token) (size buffers : ℕ) → s.number ≡ 0 → LacksMemory size buffers s t → t.number ≡ 0
+short_number s t size buffers number lacks = lacks.enters.enters.number ∙ number
+
+pub short_alone : (s t : Token) (size buffers : ℕ) → s.number ≡ 0 → s.seen ≡ [] → LacksMemory size buffers s t → IsAlone (After t.seen) 0
+short_alone s t size buffers number unseen lacks = alone_still s t (λ events. (prepared : List Event) × PreparesEach size lacks.ids prepared × (events ≡ prepared ++ lacks.last)) number unseen lacks.enters
+
+pub short_childless : (s t : Token) (size buffers : ℕ) → s.number ≡ 0 → s.seen ≡ [] → LacksMemory size buffers s t → born (own t) ≡ []
+short_childless s t size buffers number unseen lacks =
+    childless t (FallsShort size buffers) (bear_short size buffers) (short_number s t size buffers number lacks) (short_seen s t size buffers number unseen lacks)
+
+-- ---- where all was done
+
+pub started_only : (s t u : Token) (size buffers : ℕ) → s.number ≡ 0 → s.seen ≡ [] → HasPrepared size buffers s t → EntersOf t (Starts (Ok tt)) u → SawOnly (Prepares size buffers) u
+started_only s t u size buffers number unseen before starts = saw_only s u (Prepares size buffers) number unseen (started s t u size buffers before starts)
+
+pub started_table : (s t u : Token) (size buffers : ℕ) → HasPrepared size buffers s t → EntersOf t (Starts (Ok tt)) u → u.table ≡ s.table
+started_table s t u size buffers before starts = (started s t u size buffers before starts).enters.table
+
+pub started_number : (s t u : Token) (size buffers : ℕ) → s.number ≡ 0 → HasPrepared size buffers s t → EntersOf t (Starts (Ok tt)) u → u.number ≡ 0
+started_number s t u size buffers number before starts = (started s t u size buffers before starts).enters.number ∙ number
+
+pub started_alone : (s t u : Token) (size buffers : ℕ) → s.number ≡ 0 → s.seen ≡ [] → HasPrepared size buffers s t → EntersOf t (Starts (Ok tt)) u → IsAlone (After u.seen) 0
+started_alone s t u size buffers number unseen before starts = alone_still s u (Prepares size buffers) number unseen (started s t u size buffers before starts)
+
+pub started_childless : (s t u : Token) (size buffers : ℕ) → s.number ≡ 0 → s.seen ≡ [] → HasPrepared size buffers s t → EntersOf t (Starts (Ok tt)) u → born (own u) ≡ []
+started_childless s t u size buffers number unseen before starts =
+    childless u (Prepares size buffers) (bear_prepared size buffers) (started_number s t u size buffers number before starts) (started_only s t u size buffers number unseen before starts)

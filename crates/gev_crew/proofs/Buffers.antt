@@ -1,5 +1,5 @@
 -- What the preparation of one buffer leaves of a board, and why it's refused for want of memory alone.
-use Rattle.std.proofs.Common.{◌≡◌, ◌≢◌, ◌⊎◌, inl, inr, ℕ, ◌+◌, ◌<◌, ◌≤◌, true, false, List, [], ◌∷◌, ◌++◌, length, set, Ok, Err, refl, sym, ap, subst, ◌∙◌, arith, append-nil, length-set}
+use Rattle.std.proofs.Common.{◌≡◌, inl, inr, ℕ, ◌+◌, ◌<◌, true, false, List, [], ◌∷◌, ◌++◌, length, set, Ok, Err, refl, sym, ap, subst, ◌∙◌, arith, append-nil, length-set}
 use Rattle.std.proofs.lemmas.List.{get_or-set_same}
 use Rattle.gev_types.specs.Limits.{place_count}
 use Rattle.gentl_types.specs.declared.buffer_id.BufferId.{BufferId}
@@ -7,7 +7,7 @@ use Rattle.gentl_types.specs.declared.errors.GcError.{GcError}
 use Rattle.gentl_types.specs.declared.errors.GcError.TheVariants.{InvalidHandle, InvalidParameter, ResourceInUse, ResourceExhausted, OutOfMemory}
 use Rattle.gentl_types.specs.declared.errors.Shown.TheVariants as shown
 use Rattle.gentl_types.specs.declared.word.Word.{Word}
-use Rattle.gentl_types.specs.declared.word.State.TheVariants.{Vacant, Held, Away}
+use Rattle.gentl_types.specs.declared.word.State.TheVariants.{Held, Away}
 use Rattle.board_machine.specs.declared.events.Event.{Event}
 use Rattle.board_machine.specs.declared.events.Event.TheVariants.{LookOut, Enrol, Grab, Lay, Pool, Start}
 use Rattle.board_machine.specs.Machine.{Board, word_at, vacant, with_state, after_event, IsHeldAs}
@@ -16,9 +16,9 @@ use Rattle.board_machine.specs.Adding.{entries_of}
 use Rattle.board_machine.proofs.Adding.{entries_of-append}
 use Rattle.board_machine.proofs.Runs.{after-append, runs_front, runs_rest}
 use Rattle.board_calls.specs.Rounds.{refused_from}
-use Rattle.board_calls.specs.Calls.{IsSize, LooksOut, Announces, Queues, RefusesGrab, Starts}
-use Rattle.gev_crew.specs.Prepared.{PreparesOne, PreparesBuffer, LooksLast, HasBuffers}
-use Rattle.gev_crew.proofs.Vacancies.{skip_refused, after_refused, not_free, takes_lowest, has_more}
+use Rattle.board_calls.specs.Calls.{IsSize, LooksOut, Announces, Queues, Starts}
+use Rattle.gev_crew.specs.Prepared.{PreparesOne, PreparesBuffer, HasBuffers}
+use Rattle.gev_crew.proofs.Vacancies.{after_refused, not_free, takes_lowest, has_more}
 
 -- These events are the next ones, and leave this board.
 pub record Goes (b : Board) (k : ℕ) (events : List Event) (c : Board) : Type 0 where

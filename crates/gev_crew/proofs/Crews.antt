@@ -1,12 +1,11 @@
 -- Whose the entries are after three workers came home.
-use Rattle.std.proofs.Common.{◌≡◌, ◌≢◌, ◌⊎◌, inl, inr, ℕ, Bool, true, false, ◌+◌, ◌≤◌, List, [], ◌∷◌, ◌++◌, length, refl, sym, ap, subst, ◌∙◌, arith, length-append}
+use Rattle.std.proofs.Common.{◌≡◌, ◌≢◌, ◌⊎◌, inl, inr, ℕ, Bool, ◌+◌, ◌≤◌, List, [], ◌∷◌, ◌++◌, length, refl, ap, subst, ◌∙◌, arith, length-append}
 use Rattle.std.proofs.lemmas.Bool.{cases_eq}
 use Rattle.board_machine.specs.declared.events.Event.{Event}
 use Rattle.board_machine.specs.declared.events.Event.TheVariants.{Split, Join}
 use Rattle.board_machine.specs.Places.{times}
 use Rattle.board_machine.specs.Machine.{Board, empty_board, empty_hands, IsActor}
-use Rattle.board_machine.specs.Histories.{Run, After, own_of, splits}
-use Rattle.board_machine.specs.Actors.{born}
+use Rattle.board_machine.specs.Histories.{After, own_of, splits}
 use Rattle.board_machine.specs.Laws.{IsEnded}
 use Rattle.board_machine.proofs.Places.{same_le, same_other}
 use Rattle.board_machine.proofs.Runs.{after-append}
@@ -16,6 +15,7 @@ use Rattle.buffer_words.specs.Workers.{AreOf, IsChildless, Worker, IsHome, Hosts
 use Rattle.buffer_words.proofs.Several.{enters_may, enters_after}
 use Rattle.buffer_words.proofs.Working.{hosts_first, hosts_splits, hosts_joins, hosted_all}
 use Rattle.gev_crew.specs.Kinds.{is_hosts}
+use Rattle.gev_crew.specs.Homes.{CameHome, CrewHome}
 
 -- an actor's number is one less than how many there are after its split
 number_of : (s t : Token) (a : ℕ) → Enters s (Split a) t → a + 1 ≡ length (After t.seen).hands
@@ -33,24 +33,6 @@ higher s t u a b first second =
     let later : length (After (t.seen ++ second.between)).hands ≡ length (After t.seen).hands + splits second.between =
     ap (λ (c : Board). length c.hands) (after-append empty_board t.seen second.between) ∙ splits_from (After t.seen) second.between in
     omega (arith, number_of s t a first, two, later)
-
--- A pass was split off in this step, and was joined in that one.
-pub record CameHome (s t given worked u v : Token) : Type 0 where
-  pub splits : Enters s (Split given.number) t
-  pub number : worked.number ≡ given.number
-  pub joins : Enters u (Join worked.number) v
-  pub did : own_of worked.number v.seen ≡ own worked
-  pub ended : IsEnded (After v.seen) worked.number
-
--- Three passes a, b and d were split off from the token s on, and joined up to the token u.
-pub record CrewHome (s one two three home back u a worked_a b worked_b d worked_d : Token) : Type 0 where
-  pub number : s.number ≡ 0
-  pub run : Run s.seen
-  pub childless : born (own s) ≡ []
-  pub first : CameHome s one a worked_a three home
-  pub second : CameHome one two b worked_b home back
-  pub third : CameHome two three d worked_d back u
-  pub actor : IsActor (After u.seen) u.number
 
 abbrev pub home_worker : (Event → Bool) → Token → Token → Worker
 home_worker acts given worked = record { number = given.number; kind = acts; did = own worked }

@@ -1,14 +1,13 @@
 -- What an announce finds and leaves on a board that has its buffers at the lowest places.
-use Rattle.std.proofs.Common.{◌≡◌, ◌≢◌, ◌⊎◌, inl, inr, ℕ, zero, suc, ◌+◌, ◌<◌, ◌≤◌, List, [], ◌∷◌, ◌++◌, length, set, get_or, Ok, Err, refl, sym, ap, subst, ◌∙◌, arith, length-set}
+use Rattle.std.proofs.Common.{◌≡◌, ◌≢◌, ◌⊎◌, inl, inr, ℕ, zero, suc, ◌+◌, ◌<◌, ◌≤◌, List, [], ◌∷◌, ◌++◌, length, set, get_or, Ok, refl, sym, ap, subst, ◌∙◌, arith, length-set}
 use Rattle.std.proofs.lemmas.List.{get_or-set_same, get_or-set_other}
 use Rattle.std.proofs.lemmas.Bool.{cases_eq, cases_lt}
 use Rattle.gev_types.specs.Limits.{place_count}
 use Rattle.gentl_types.specs.declared.word.Word.{Word}
 use Rattle.gentl_types.specs.declared.word.State.TheVariants.{Vacant, Away}
-use Rattle.board_machine.specs.declared.events.Entry.{Entry}
 use Rattle.board_machine.specs.declared.events.Event.{Event}
-use Rattle.board_machine.specs.declared.events.Event.TheVariants.{LookOut, Enrol, Grab, Lay, Pool}
-use Rattle.board_machine.specs.Machine.{Board, word_at, vacant, CanEnrol, IsHeldAs}
+use Rattle.board_machine.specs.declared.events.Event.TheVariants.{Enrol}
+use Rattle.board_machine.specs.Machine.{Board, word_at, vacant, CanEnrol}
 use Rattle.board_machine.specs.Histories.{after_from, RunsFrom}
 use Rattle.board_machine.specs.Adding.{entries_of}
 use Rattle.board_calls.specs.Rounds.{refused_from}
@@ -24,13 +23,14 @@ after_refused b k i size [] rest = refl
 after_refused b k i size (w ∷ words) rest = after_refused b k (i + 1) size words rest
 
 -- each was refused by a word that can't take a buffer
-refused_at : (b : Board) (k i size j : ℕ) (words : List Word) (rest : List Event) → RunsFrom b (entries_of k (refused_from i size words ++ rest)) → j < length words → ¬ CanEnrol (word_at b (i + j))
-refused_at b k i size j [] rest runs within = absurd (omega arith)
-refused_at b k i size zero (w ∷ words) rest runs within can =
+refused_at : (b : Board) (k i size j n : ℕ) (words : List Word) (rest : List Event) → RunsFrom b (entries_of k (refused_from i size words ++ rest)) → j < length words → n ≡ i + j → CanEnrol (word_at b n) → ⊥
+refused_at b k i size j n [] rest runs within at can = absurd (omega arith)
+refused_at b k i size zero n (w ∷ words) rest runs within at can =
     let here : w ≡ word_at b i = runs.0.meets.3 in
-    runs.0.meets.4 (subst (λ v. CanEnrol v) (ap (λ n. word_at b n) (omega arith) ∙ sym here) can)
-refused_at b k i size (suc j) (w ∷ words) rest runs within can =
-    refused_at b k (i + 1) size j words rest runs.1 (omega arith) (subst (λ n. CanEnrol (word_at b n)) (omega arith) can)
+    let same_place : n ≡ i = omega arith in
+    runs.0.meets.4 (subst (λ v. CanEnrol v) (ap (λ m. word_at b m) same_place ∙ sym here) can)
+refused_at b k i size (suc j) n (w ∷ words) rest runs within at can =
+    refused_at b k (i + 1) size j n words rest runs.1 (omega arith) (omega arith) can
 
 -- so the lowest free place isn't among them
 vacant_can : CanEnrol vacant
@@ -40,7 +40,7 @@ pub not_free : (n : ℕ) (b : Board) (k size : ℕ) (words : List Word) (rest : 
 not_free n b k size words rest has below runs = go (cases_lt n (length words))
   where
     go : (n < length words) ⊎ (length words ≤ n) → length words ≤ n
-    go (inl within) = absurd (refused_at b k 0 size n words rest runs within (subst (λ w. CanEnrol w) (sym (has.free n (omega arith) below)) vacant_can))
+    go (inl within) = absurd (refused_at b k 0 size n n words rest runs within (omega arith) (subst (λ w. CanEnrol w) (sym (has.free n (omega arith) below)) vacant_can))
     go (inr few) = few
 
 -- the place that took the buffer is the lowest free one
@@ -92,4 +92,4 @@ has_more n b c x y z has below words away closed run = record {
 
     taken : (i : ℕ) → i < n + 1 → (i ≡ n) ⊎ (i ≢ n) → (word_at c i).state ≢ Vacant
     taken i less (inl e) = subst (λ j. (word_at c j).state ≢ Vacant) (sym e) (away_not_vacant (word_at c n) (ap (λ (w : Word). w.state) there ∙ away))
-    taken i less (inr apart) = subst (λ w. w.state ≢ Vacant) (sym (other i apart)) (has.taken i (omega arith) )
+    taken i less (inr apart) = subst (λ w. w.state ≢ Vacant) (sym (other i apart)) (has.taken i (omega arith))

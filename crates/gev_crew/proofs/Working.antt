@@ -1,8 +1,8 @@
 -- The acts of the camera's and of the application's worker are of their kinds.
-use Rattle.std.proofs.Common.{◌≡◌, ◌⊎◌, inl, inr, ℕ, Bool, true, false, List, [], ◌∷◌, ◌++◌, Option, Result, Ok, Err, refl, sym, subst, ◌∙◌}
+use Rattle.std.proofs.Common.{◌≡◌, inl, inr, ℕ, Bool, true, false, List, [], ◌∷◌, ◌++◌, Option, Result, Ok, Err, refl, sym, subst}
 use Rattle.board_machine.specs.declared.events.Event.{Event}
 use Rattle.board_machine.specs.declared.events.Event.TheVariants.{LookRun, Stop}
-use Rattle.buffer_words.specs.Passes.{Token, Enters}
+use Rattle.buffer_words.specs.Passes.{Token}
 use Rattle.buffer_words.specs.Workers.{AreEvents, Works}
 use Rattle.buffer_words.proofs.Working.{works_stays, works_enters, works_each, works_then}
 use Rattle.camera_machine.specs.Camera.{Camera}
@@ -10,13 +10,13 @@ use Rattle.gev_serve.specs.declared.ends.ServeEnd.{ServeEnd}
 use Rattle.gev_serve.specs.declared.ends.ServeEnd.TheVariants.{Stopped, Fault, NoMemory, Spent}
 use Rattle.gev_serve.specs.Wires.{Wire}
 use Rattle.gev_serve.specs.Turns.{Served, looks_in}
-use Rattle.gev_serve.specs.Serving.{TurnsOn, ServesOn, Begins, ServesTo}
+use Rattle.gev_serve.specs.Serving.{ServesOn, Begins, ServesTo}
 use Rattle.gev_apply.specs.Kinds.{is_turns}
 use Rattle.gev_apply.specs.Looks.{Looked}
 use Rattle.gev_apply.specs.Applied.{Looks, Applies}
 use Rattle.gev_apply.proofs.OfKind.{turns_are}
 use Rattle.gev_crew.specs.Kinds.{is_cameras, is_applications}
-use Rattle.gev_crew.specs.Work.{StopsIf, has_failed, ServesAndStops, has_enough, AppliesAndStops}
+use Rattle.gev_crew.specs.Work.{StopsIf}
 
 works_same : (kind : Event → Bool) (s : Token) → Works kind s s
 works_same kind s = works_stays kind s s (record { table = refl; number = refl; seen = refl })

@@ -81,9 +81,11 @@ pub fn prepare(
     ensures childless { born (own pass.new) ≡ [] }
     ensures hands { SameHands pass.old pass.new }
 {
-    prepare_buffers(alloc, board, pass, size, buffers)?;
-    match ds_start(board, pass) {
-        Ok(()) => Ok(()),
-        Err(_error) => Err(NoMemory),
+    match prepare_buffers(alloc, board, pass, size, buffers) {
+        Ok(()) => match ds_start(board, pass) {
+            Ok(()) => Ok(()),
+            Err(_refusal) => Err(NoMemory),
+        },
+        Err(error) => Err(error),
     }
 }
