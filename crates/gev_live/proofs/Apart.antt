@@ -6,7 +6,7 @@ use Rattle.board_machine.specs.declared.events.Event.TheVariants.{LookOut, LookR
 use Rattle.board_machine.specs.Places.{times}
 use Rattle.buffer_words.specs.Workers.{AreApart, AreOf, OnlyBy, IsChildless}
 use Rattle.gev_crew.specs.Kinds.{is_cameras, is_applications, is_hosts}
-use Rattle.gev_reader.specs.Kinds.{is_readers}
+use Rattle.gev_reader.specs.Kinds.{is_readers, is_strict_readers}
 use Rattle.gev_live.specs.Kinds.{is_live, is_filling, is_handing}
 
 -- what isn't of a live run
@@ -24,14 +24,6 @@ is_other (Split number) = false
 is_other (Join number) = false
 is_other (Stop kill answer) = false
 is_other _ = true
-
--- a reader that lays no buffer
-abbrev pub is_strict : Event → Bool
-is_strict (LookRun run) = true
-is_strict (Claim place) = true
-is_strict (Fill place filling filled) = true
-is_strict (Stop kill answer) = true
-is_strict _ = false
 
 pub hosts_live : AreApart is_hosts is_other
 hosts_live (Split n) is = refl
@@ -93,7 +85,7 @@ cameras_hand (LookRun run) is = refl
 cameras_hand (Stop kill answer) is = refl
 cameras_hand _ is = absurd (cc)
 
-pub strict_hand : AreApart is_strict is_handing
+pub strict_hand : AreApart is_strict_readers is_handing
 strict_hand (LookRun run) is = refl
 strict_hand (Claim place) is = refl
 strict_hand (Fill place filling filled) is = refl
@@ -106,7 +98,7 @@ childless_cameras n = refl
 pub childless_readers : IsChildless is_readers
 childless_readers n = refl
 
-pub childless_strict : IsChildless is_strict
+pub childless_strict : IsChildless is_strict_readers
 childless_strict n = refl
 
 pub childless_applications : IsChildless is_applications
@@ -135,3 +127,10 @@ bool_false false bad = refl
 pub all_live : (es : List Entry) → OnlyBy is_other [] es → AreOf is_live es
 all_live [] only = tt
 all_live (e ∷ es) only = (not_other e.event (bool_false (is_other e.event) only.0), all_live es only.1)
+
+pub strict_live : AreApart is_strict_readers is_other
+strict_live (LookRun run) is = refl
+strict_live (Claim place) is = refl
+strict_live (Fill place filling filled) is = refl
+strict_live (Stop kill answer) is = refl
+strict_live _ is = absurd (cc)

@@ -1,0 +1,4 @@
+pub mod Fronts
+pub mod Hearings
+pub mod SetupSteps
+pub mod SetupRuns

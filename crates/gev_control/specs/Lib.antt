@@ -1,0 +1,5 @@
+pub mod Sends
+pub mod Controlled
+pub mod Ends
+pub mod SetupTurns
+pub mod SetsUp
