@@ -20,7 +20,7 @@ use Rattle.gev_acq.specs.Acquired.{inputs_in, ServesTurns, ControlEach}
 use Rattle.gev_acq.specs.Laws.{client_events, and_then}
 
 -- what two lists of events put into the output
-tried_both : (k : ℕ) (es fs : List Event) → tried (entries_of k (es ++ fs)) ≡ tried (entries_of k es) ++ tried (entries_of k fs)
+pub tried_both : (k : ℕ) (es fs : List Event) → tried (entries_of k (es ++ fs)) ≡ tried (entries_of k es) ++ tried (entries_of k fs)
 tried_both k es fs = ap tried (entries-append k es fs) ∙ tried-append (entries_of k es) (entries_of k fs)
 
 claims_try_nothing : (k : ℕ) (i : Input) → tried (entries_of k (claim_events i)) ≡ []

@@ -11,3 +11,11 @@ is_readers (Fill place filling filled) = true
 is_readers (Lay place) = true
 is_readers (Stop kill answer) = true
 is_readers _ = false
+
+-- the same without the lay
+abbrev pub is_strict_readers : Event → Bool
+is_strict_readers (LookRun run) = true
+is_strict_readers (Claim place) = true
+is_strict_readers (Fill place filling filled) = true
+is_strict_readers (Stop kill answer) = true
+is_strict_readers _ = false
