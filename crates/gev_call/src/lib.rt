@@ -2,7 +2,5 @@
 #![tactic(auto)]
 
 mod running;
-mod top;
 
 pub use running::run_live;
-pub use top::gevacq_top;
