@@ -3,3 +3,4 @@ pub mod Controlled
 pub mod Ends
 pub mod SetupTurns
 pub mod SetsUp
+pub mod SetupLaws

@@ -7,12 +7,18 @@
 
 mod acq_end;
 mod controlling;
+mod laws;
 mod sending;
 mod setting_up;
+#[cfg(test)]
+mod tests;
 mod turn_end;
 
 pub use acq_end::AcqEnd;
 pub use controlling::client_turn;
+pub use laws::{
+    the_setup_ends_as_its_client, the_setup_stops_when_acknowledged, turns_are_steps_of_the_client,
+};
 pub use sending::send_unless;
 pub use setting_up::setup;
 pub use turn_end::TurnEnd;
