@@ -1,9 +1,8 @@
 -- Which kinds of acts have nothing in common.
-use Rattle.std.proofs.Common.{◌≡◌, ℕ, Bool, true, false, ◌≤◌, List, [], ◌∷◌, ◌++◌, refl, arith}
+use Rattle.std.proofs.Common.{◌≡◌, Bool, true, false, ◌≤◌, List, [], ◌∷◌, refl, arith}
 use Rattle.board_machine.specs.declared.events.Entry.{Entry}
 use Rattle.board_machine.specs.declared.events.Event.{Event}
-use Rattle.board_machine.specs.declared.events.Event.TheVariants.{LookOut, LookRun, Grab, Lay, Pool, Claim, Fill, Take, Unpost, Stop, Split, Join, Close, Enrol}
-use Rattle.board_machine.specs.Places.{times}
+use Rattle.board_machine.specs.declared.events.Event.TheVariants.{LookOut, LookRun, Grab, Lay, Pool, Claim, Fill, Take, Unpost, Stop, Split, Join}
 use Rattle.buffer_words.specs.Workers.{AreApart, AreOf, OnlyBy, IsChildless}
 use Rattle.gev_crew.specs.Kinds.{is_cameras, is_applications, is_hosts}
 use Rattle.gev_reader.specs.Kinds.{is_readers, is_strict_readers}

@@ -1,10 +1,10 @@
 -- The history of a live run, by what the preparation, the splits, the workers and the joins ensured.
-use Rattle.std.proofs.Common.{◌≡◌, ◌⊎◌, inl, inr, ℕ, Bool, ◌+◌, ◌≤◌, List, [], ◌∷◌, ◌++◌, refl, sym, ap, subst, ◌∙◌, arith, append_assoc, append-nil}
+use Rattle.std.proofs.Common.{◌≡◌, inl, inr, ℕ, ◌≤◌, List, [], ◌∷◌, ◌++◌, refl, sym, ap, subst, ◌∙◌, arith, append_assoc}
 use Rattle.board_machine.specs.declared.events.Entry.{Entry}
 use Rattle.board_machine.specs.declared.events.Event.{Event}
-use Rattle.board_machine.specs.declared.events.Event.TheVariants.{Split, Join}
+use Rattle.board_machine.specs.declared.events.Event.TheVariants.{Join}
 use Rattle.board_machine.specs.Places.{times, IsPrefix}
-use Rattle.board_machine.specs.Machine.{empty_board, entry}
+use Rattle.board_machine.specs.Machine.{entry}
 use Rattle.board_machine.specs.Histories.{Run, After, own_of}
 use Rattle.board_machine.specs.Owners.{IsOwned}
 use Rattle.board_machine.specs.Handout.{IsLegal}
@@ -13,8 +13,7 @@ use Rattle.board_machine.specs.Adding.{entries_of}
 use Rattle.board_machine.proofs.Places.{same_self}
 use Rattle.board_machine.proofs.Quiet.{open_takes_fills}
 use Rattle.buffer_words.specs.Passes.{Token, own, Enters}
-use Rattle.buffer_words.specs.Workers.{AreOf, OnlyBy, Works, Worker, HostedAll}
-use Rattle.buffer_words.specs.Witness.{StaysOwn}
+use Rattle.buffer_words.specs.Workers.{AreOf, OnlyBy, Works, HostedAll}
 use Rattle.buffer_words.proofs.Working.{works_own, own_for_good}
 use Rattle.gev_crew.specs.Prepared.{Prepares, SawOnly}
 use Rattle.gev_crew.specs.Kinds.{is_cameras, is_applications, is_hosts}
@@ -22,7 +21,7 @@ use Rattle.gev_crew.specs.Homes.{CameHome, CrewHome}
 use Rattle.gev_crew.proofs.Crews.{home_worker, crew_hosted, crew_apart}
 use Rattle.gev_reader.specs.Kinds.{is_readers, is_strict_readers}
 use Rattle.gev_live.specs.Kinds.{is_live, is_filling, is_handing}
-use Rattle.gev_live.specs.History.{Crew, workers_of, live_size, LiveHistory}
+use Rattle.gev_live.specs.History.{Crew, live_size, LiveHistory}
 use Rattle.gev_live.proofs.Apart.{is_other, hosts_live, cameras_live, readers_live, applications_live, hosts_fill, cameras_fill, applications_fill, hosts_hand, cameras_hand, strict_hand, childless_cameras, childless_readers, childless_strict, childless_applications, all_live, strict_live}
 use Rattle.gev_live.proofs.Quiet.{never_closed, own_none}
 

@@ -1,13 +1,15 @@
-// A library with one function.
+//! Live runs: camera, reader and application as threads that share one board.
+//!
+//! `specs/History.antt` says what the history of a run is, `specs/Parts.antt` what each worker did,
+//! `specs/Endings.antt` how a run ends, and `specs/LiveRun.antt` all of it together.
 #![tactic(auto)]
 
-ghost use Rattle.std.specs.Prelude.{◌≡◌};
-ghost use Rattle.gev_live.specs.Echo.{echo_of};
+mod crew;
+mod ends;
+mod finishing;
+mod live;
+mod running;
+mod tools;
 
-// The `ensures` clause is the contract: what `echo` returns is `echo_of` of its argument, a definition
-// in `specs/Echo.antt`, which a caller's clause can cite too.
-pub fn echo(x: usize) -> usize
-    ensures { result ≡ echo_of x }
-{
-    x
-}
+pub use ends::Ends;
+pub use live::live_over;
