@@ -20,13 +20,16 @@ use Rattle.gev_status.specs.declared.status.Status.TheVariants.{NoMemory}
 use Rattle.gev_crew.specs.Prepared.{Prepares, SawOnly}
 use Rattle.gev_reader.specs.Kinds.{is_strict_readers}
 use Rattle.gev_reader.specs.History.{LiveReading}
-use Rattle.gev_reader.proofs.Whole.{part_stays, part_fills}
+use Rattle.gev_reader.proofs.Whole.{part_stays, part_fills, part_sized}
 use Rattle.gev_reader.proofs.Strict.{part_lays_nothing}
 use Rattle.gev_live.specs.Told.{Told, reader_side, live_config, live_camera}
-use Rattle.gev_live.specs.History.{live_size}
+use Rattle.gev_live.specs.History.{live_size, LiveHistory}
 use Rattle.gev_live.specs.Endings.{taken_of, status_by, EndsSo}
 use Rattle.gev_live.specs.LiveRun.{Numbers, LiveRun, RunsLive}
 use Rattle.gev_live.specs.Ran.{RanCrew}
+use Rattle.gev_live.proofs.Quiet.{one_size, takes_by}
+use Rattle.gev_live.proofs.CameraPart.{camera_part}
+use Rattle.gev_live.proofs.ApplicationPart.{application_part}
 use Rattle.gev_live.proofs.Stories.{seen_more, prefix_then, home_own, home_prefix, Story, crew_of, live_history}
 
 -- what was seen when a worker was home stands in all that is seen at the end
@@ -48,16 +51,9 @@ pub ran_live : (n : Numbers) (camera stream : Address) (answer : Status) (o e : 
     → LiveRun n camera stream answer o e written written_after faults faults_after u.seen
 ran_live n camera stream answer o e served read taken lines written written_after faults faults_after s u saw r ends = record {
   crew = crew_of r.a r.b r.d;
-  history = live_history n.buffers s r.one r.two r.three r.home r.back u r.a r.worked_a r.b r.worked_b r.d r.worked_d story;
+  history = history;
   served = served;
-  camera_part = record {
-    given = r.a;
-    back = r.worked_a;
-    number = refl;
-    new = r.crew.first.new;
-    serves = r.serves;
-    own = home_own s r.one r.a r.worked_a r.three r.home u.seen r.crew.first (first_in r) r.crew.ended_run;
-  };
+  camera_part = camera_part served (live_camera n.seed) r.serves.camera o.camera e.camera o.camera_clock e.camera_clock r.a r.serves.middle r.serves.serves;
   read = read;
   reader_part = record {
     client = r.client;
@@ -67,19 +63,17 @@ ran_live n camera stream answer o e served read taken lines written written_afte
     last = r.reads.last;
     on = r.reads.on;
     reading = reading;
+    sized = part_sized live_config r.b.number read r.reads.made u.seen live_size reading r.crew.ended_run
+        (one_size live_size n.buffers history.prepared history.since u.seen history.prepares history.begins history.kinds);
     fills = part_fills live_config r.b.number read r.reads.made u.seen reading;
     faults = r.faults;
   };
   applied = taken;
   lines = lines;
-  application_part = record {
-    given = r.d;
-    back = r.worked_d;
-    number = refl;
-    new = r.crew.third.new;
-    applies = r.applies;
-    own = home_own r.two r.three r.d r.worked_d r.back u u.seen r.crew.third (third_in u.seen) r.crew.ended_run;
-  };
+  application_part = application_part n.frames o.app_clock e.app_clock lines taken r.d r.worked_d u.seen r.applies r.crew.third.new r.crew.ended_run
+      (home_prefix r.two r.three r.d r.worked_d r.back u u.seen r.crew.third (third_in u.seen))
+      (home_own r.two r.three r.d r.worked_d r.back u u.seen r.crew.third (third_in u.seen) r.crew.ended_run)
+      (takes_by r.d.number live_size n.buffers history.prepared history.since u.seen history.prepares history.begins history.hands);
   ended = ends;
 }
   where
@@ -105,6 +99,9 @@ ran_live n camera stream answer o e served read taken lines written written_afte
       owned = r.owned;
       legal = r.legal;
     }
+
+    history : LiveHistory n.buffers (crew_of r.a r.b r.d) u.seen
+    history = live_history n.buffers s r.one r.two r.three r.home r.back u r.a r.worked_a r.b r.worked_b r.d r.worked_d story
 
 pub ends_as : (first second status : Status) (lines : List ℕ) (frames taken count : ℕ) (written written_after : Option (List ℕ)) (faults faults_after : ℕ) → first ≡ second → taken ≡ count
     → EndsSo first status (lines ++ live_line frames taken) written written_after faults faults_after → EndsSo second status (lines ++ live_line frames count) written written_after faults faults_after

@@ -31,12 +31,12 @@ pub record LiveRun (n : Numbers) (camera stream : Address) (answer : Status) (o 
   pub crew : Crew
   pub history : LiveHistory n.buffers crew h
   pub served : ServeEnd
-  pub camera_part : LiveCamera (live_camera n.seed) o e crew.camera served h
+  pub camera_part : LiveCamera (live_camera n.seed) o.camera e.camera o.camera_clock e.camera_clock served
   pub read : AcqEnd
   pub reader_part : LiveReader live_config camera stream o e n.turns crew.reader read h
   pub applied : Result ℕ NoMemory
   pub lines : List ℕ
-  pub application_part : LiveApplication o e n.frames crew.application lines applied h
+  pub application_part : LiveApplication o.app_clock e.app_clock n.frames crew.application lines applied h
   pub ended : EndsSo (status_by served read n.frames n.turns applied) answer (lines ++ live_line n.frames (taken_of applied)) written written_after faults faults_after
 
 -- Memory was wanting before the workers began: fewer buffers than asked were prepared, and nothing was received,
