@@ -8,9 +8,7 @@ use Rattle.board_machine.specs.Kinds.{TakesAreBy}
 use Rattle.board_machine.specs.Handout.{handed_items, taken_items}
 use Rattle.board_machine.proofs.Quiet.{handed_own}
 use Rattle.buffer_words.specs.Passes.{Token, own}
-use Rattle.gev_apply.specs.Looks.{Looked}
-use Rattle.gev_apply.specs.Applied.{Looks}
-use Rattle.gev_apply.specs.History.{StopsAtMost, LiveTakes}
+use Rattle.gev_apply.specs.History.{StopsAtMost}
 use Rattle.gev_apply.proofs.Whole.{part_stays}
 use Rattle.gev_crew.specs.Work.{StopsIf, AppliesAndStops}
 use Rattle.gev_live.specs.Parts.{LiveApplication}

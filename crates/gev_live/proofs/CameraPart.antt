@@ -1,8 +1,8 @@
 -- What the camera's worker did, by its promise.
-use Rattle.std.proofs.Common.{◌≡◌, ◌⊎◌, inl, inr, ℕ, List, [], ◌∷◌, ◌++◌, length, Option, ◌<◌, refl, sym, ap, subst, ◌∙◌, append_assoc, append-nil}
+use Rattle.std.proofs.Common.{◌≡◌, inl, inr, ℕ, List, [], ◌∷◌, ◌++◌, length, Option, ◌<◌, refl, sym, ap, subst, ◌∙◌, append_assoc, append-nil}
 use Rattle.buffer_words.specs.Passes.{Token}
 use Rattle.camera_machine.specs.Camera.{Camera}
-use Rattle.gev_links.specs.Links.{Address, Answer, failed, Adds}
+use Rattle.gev_links.specs.Links.{Address, failed, Adds}
 use Rattle.gev_links.specs.Moments.{TellsEach}
 use Rattle.gev_links.specs.Faults.{Rose}
 use Rattle.gev_links.proofs.Growing.{tells_more, adds_then}
@@ -10,7 +10,7 @@ use Rattle.gev_serve.specs.declared.ends.ServeEnd.{ServeEnd}
 use Rattle.gev_serve.specs.declared.ends.ServeEnd.TheVariants.{Stopped, Fault, NoMemory, Spent}
 use Rattle.gev_serve.specs.Wires.{Wire, SendEnd, send_failed, gave_up, EndsSending}
 use Rattle.gev_serve.specs.Turns.{Served, answer_with, framed_turn, sent_in, after_turns, sent_over, answers_in, moments_in}
-use Rattle.gev_serve.specs.Serving.{TurnsOn, ServesOn, MakesPart, MissesReceive, EndsMissing, EndsCut, ServesTo}
+use Rattle.gev_serve.specs.Serving.{TurnsOn, MakesPart, EndsMissing, EndsCut, ServesTo}
 use Rattle.gev_crew.specs.Work.{most_turns}
 use Rattle.gev_live.specs.Parts.{LiveCamera}
 

@@ -6,3 +6,4 @@ pub mod Telling
 pub mod Taking
 pub mod CameraPart
 pub mod ApplicationPart
+pub mod Meaning
