@@ -1,5 +1,5 @@
 -- Words that ask for no live run.
-use Rattle.std.proofs.Common.{◌≡◌, ◌≢◌, ℕ, List, [], ◌∷◌, Option, Some, None, Result, Ok, Err, refl, ap, sym, ◌∙◌, subst}
+use Rattle.std.proofs.Common.{◌≡◌, ℕ, List, Option, Some, None, Ok, Err, refl, ap, sym, ◌∙◌, subst}
 use Rattle.gev_world.specs.declared.soak_end.SoakEnd.{SoakEnd}
 use Rattle.gev_world.specs.declared.soak_end.SoakEnd.TheVariants as soaks
 use Rattle.gev_status.specs.declared.status.Status.{Status}
@@ -10,7 +10,7 @@ use Rattle.gev_top.specs.declared.live_numbers.LiveNumbers.{LiveNumbers}
 use Rattle.gev_top.specs.Answers.{Answers}
 use Rattle.gev_top.specs.Soaking.{status_after}
 use Rattle.gev_top.specs.Usage.{Said, command_of, place_of, usage_fault}
-use Rattle.gev_top.specs.LiveWords.{Errand, plain, live, live_said, errand_by, errand_of, place_in, errand_fault}
+use Rattle.gev_top.specs.LiveWords.{plain, live, live_said, errand_by, errand_of, place_in, errand_fault}
 
 same_place : (said : Said Command) → place_in (errand_by None said) ≡ place_of said
 same_place (Ok command) = refl

@@ -1,5 +1,5 @@
 -- The words ask for no live run, and what they ask for is done.
-use Rattle.std.proofs.Common.{◌≡◌, ◌↔◌, Some, map, sym, ◌∙◌}
+use Rattle.std.proofs.Common.{map, sym, ◌∙◌}
 use Rattle.std.specs.String.{string_bytes}
 use Rattle.gev_call.proofs.Errands.{fault_same, command_is, never_live, never_links}
 use Rattle.gev_call.proofs.top.gevacq_top.Goals as goal
