@@ -1,5 +1,5 @@
 -- All blocks retire.
-use Rattle.std.proofs.Common.{◌≡◌, ℕ, ◌<◌, List, [], ◌∷◌, ◌++◌, length, Bool, refl, sym, ap, subst, ◌∙◌, append_assoc, arith}
+use Rattle.std.proofs.Common.{◌≡◌, ℕ, ◌+◌, ◌<◌, List, [], ◌∷◌, ◌++◌, length, Bool, refl, sym, ap, subst, ◌∙◌, append_assoc, arith}
 use Rattle.std.specs.Prelude.{Some, None, vec_len}
 use Rattle.acquisition_machine.specs.declared.config.AcqConfig.{AcqConfig}
 use Rattle.acquisition_machine.specs.Blocks.{Open, fill_of, fills}

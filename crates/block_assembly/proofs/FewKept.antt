@@ -1,8 +1,8 @@
 -- No more packets are kept than there are ids.
-use Rattle.std.proofs.Common.{◌≡◌, ◌⊎◌, inl, inr, ℕ, zero, suc, ◌+◌, ◌-◌, ◌<◌, ◌≤◌, ◌^◌, min, List, [], ◌∷◌, length, Bool, true, false, refl, sym, ◌∙◌, ap, subst, arith}
-use Rattle.std.specs.Prelude.{◌==◌, ◌||◌, nat_le, if◌then◌else◌}
+use Rattle.std.proofs.Common.{◌≡◌, ◌⊎◌, inl, inr, ℕ, zero, suc, ◌+◌, ◌-◌, ◌<◌, ◌≤◌, ◌^◌, min, List, [], ◌∷◌, length, Bool, true, false, refl, ap, subst, arith}
+use Rattle.std.specs.Prelude.{◌==◌, if◌then◌else◌}
 use Rattle.std.specs.List.{AllByRecursion}
-use Rattle.std.proofs.lemmas.Bool.{cases_Bool, cases_lt, cases_order, eqb-true, eqb-false, leb-true, or_parts, or_from, ne_eqb}
+use Rattle.std.proofs.lemmas.Bool.{cases_order, eqb-true, eqb-false, leb-true, or_parts, or_from}
 use Rattle.stream_packets.specs.Packets.{StreamPacket, head_of}
 use Rattle.block_image.specs.Kept.{has_id}
 use Rattle.block_image.specs.KeptFacts.{HasDistinctIds, may_keep, IsKept}

@@ -1,18 +1,17 @@
 -- What bitmap, trailer and shortest payload tell of an image's payloads.
-use Rattle.std.proofs.Common.{◌≡◌, ◌⊎◌, inl, inr, ℕ, zero, suc, ◌+◌, ◌-◌, ◌<◌, ◌≤◌, min, List, [], ◌∷◌, length, Bool, true, false, Option, Some, None, refl, sym, ◌∙◌, ap, subst, arith}
+use Rattle.std.proofs.Common.{◌≡◌, ◌⊎◌, inl, inr, ℕ, zero, suc, ◌-◌, ◌<◌, ◌≤◌, List, [], ◌∷◌, length, Bool, true, false, Option, Some, None, refl, sym, ◌∙◌, ap, subst, arith}
 use Rattle.std.specs.Prelude.{◌==◌, ◌&&◌, ◌||◌, not, nat_lt, nat_le}
 use Rattle.std.specs.List.{AllByRecursion}
-use Rattle.std.proofs.lemmas.Bool.{cases_Bool, cases_eq, cases_lt, eq-eqb, ne_eqb, eqb-true, leb-true, ltb-true, ltb-false, lt-ltb, le-ltb, le-leb, lt-leb, and_parts, and_from, and_left, and_right, or_cases, or_from, or_parts, or_left, or_right, not-true, not_from_true, false≢true}
-use Rattle.stream_packets.specs.declared.fields.Head.{Head}
+use Rattle.std.proofs.lemmas.Bool.{cases_Bool, cases_eq, cases_lt, eq-eqb, ne_eqb, eqb-true, leb-true, lt-ltb, le-ltb, le-leb, lt-leb, and_parts, and_from, and_left, and_right, or_cases, or_from, or_left, or_right, not-true, not_from_true, false≢true}
 use Rattle.stream_packets.specs.Packets.{StreamPacket, leader, payload, trailer, notice}
 use Rattle.stream_packets.specs.FramePackets.{payload_count, payload_start}
 use Rattle.block_image.specs.Kept.{has_id}
-use Rattle.block_image.specs.KeptFacts.{HasDistinctIds, may_keep, IsKept, ArePayloadsNumbered, AreLeadersFirst}
+use Rattle.block_image.specs.KeptFacts.{HasDistinctIds, IsKept, ArePayloadsNumbered, AreLeadersFirst}
 use Rattle.block_image.specs.Image.{is_long_enough, has_trailer_at}
 use Rattle.block_image.proofs.IsKept.{may_keep_parts, may_keep-payload}
 use Rattle.packet_bitmap.specs.Bits.{has}
 use Rattle.block_reasons.specs.Reasons.{has_payload_at, has_payloads_to, place_of, is_short_at, has_short_to}
-use Rattle.block_reasons.proofs.Payloads.{rest_is, long_is, payload_at-none, short_at-none}
+use Rattle.block_reasons.proofs.Payloads.{long_is, payload_at-none, short_at-none}
 use Rattle.block_assembly.specs.declared.progress.Progress.{Progress}
 use Rattle.block_assembly.specs.declared.progress.Ending.{Ending}
 use Rattle.block_assembly.specs.declared.progress.Short.{Short}

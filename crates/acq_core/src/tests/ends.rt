@@ -6,7 +6,14 @@ use std::process::Abort;
 use std::test::Fail;
 
 /// The next block that is told has these numbers: how many packets were kept of it, and how many were lost.
-fn take_end(rt: &impl Abort, acq: &mut Acq, block: u64, floor: u64, cause: Cause, held: Option<(u8, u32, u32)>) {
+fn take_end(
+    rt: &impl Abort,
+    acq: &mut Acq,
+    block: u64,
+    floor: u64,
+    cause: Cause,
+    held: Option<(u8, u32, u32)>,
+) {
     match acq.next_ended() {
         Some(end) => {
             assert_eq!(rt; end.block, block);
@@ -27,7 +34,10 @@ fn tells_what_retires(rt: HostRuntime) -> Result<(), Fail> {
     let third = hex::decode(rt.alloc(), THIRD)?;
     let mut acq = Acq::new(rt.alloc(), ONE_BLOCK)?;
     acq.tell_ends();
-    assert_eq!(rt; tell(&mut acq, &leader, buffer(rt.alloc(), Some(5))?), Need::Buffer(1));
+    assert_eq!(rt;
+        tell(&mut acq, &leader, buffer(rt.alloc(), Some(5))?),
+        Need::Buffer(1)
+    );
     take_fills(&rt, &mut acq, &[]);
     assert_eq!(rt; tell(&mut acq, &leader, None), Need::Done);
     take_fills(&rt, &mut acq, &[]);
@@ -36,12 +46,20 @@ fn tells_what_retires(rt: HostRuntime) -> Result<(), Fail> {
     acq.tick(100);
     match acq.first_request() {
         Some((resend, round)) => {
-            assert_eq!(rt; (resend.block, resend.first, resend.last, round), (1, 1, 1, 1));
+            assert_eq!(rt;
+                (resend.block, resend.first, resend.last, round),
+                (1, 1, 1, 1)
+            );
         }
         None => panic!(rt; "a request is missing"),
     }
     take_fills(&rt, &mut acq, &[]);
-    take_requests(&rt, rt.alloc(), &mut acq, &["42100040001400010000000000000001000000010000000000000001"])?;
+    take_requests(
+        &rt,
+        rt.alloc(),
+        &mut acq,
+        &["42100040001400010000000000000001000000010000000000000001"],
+    )?;
     acq.tick(1000);
     assert_eq!(rt; acq.now(), 1000);
     take_fills(&rt, &mut acq, &[(5, 1, false, 0)]);

@@ -44,12 +44,18 @@ fn tells_of_a_block(rt: HostRuntime) -> Result<(), Fail> {
     assert_eq!(rt; account.leader.map(|info| info.size), Some(3));
     assert_eq!(rt; account.lines, Some(1));
 
-    let small = Reasons { small: true, ..Reasons::none() };
+    let small = Reasons {
+        small: true,
+        ..Reasons::none()
+    };
     let account = told(rt.alloc(), 2, &whole)?;
     expect(&rt, &account, 3, small, 0, 0, &[]);
 
     let account = told(rt.alloc(), 3, &[Sent::Leader(3), Sent::Trailer(2)])?;
-    let lacks = Reasons { no_payload: true, ..Reasons::none() };
+    let lacks = Reasons {
+        no_payload: true,
+        ..Reasons::none()
+    };
     expect(&rt, &account, 2, lacks, 1, 1, &[(1, 1)]);
     Ok(())
 }
@@ -68,8 +74,21 @@ fn tells_the_first_eight_ranges(rt: HostRuntime) -> Result<(), Fail> {
         Sent::Payload(18, 528),
     ];
     let account = told(rt.alloc(), 600, &sents)?;
-    let why = Reasons { no_leader: true, no_trailer: true, ..Reasons::none() };
-    let first = [(0, 0), (2, 2), (4, 4), (6, 6), (8, 8), (10, 10), (12, 12), (14, 14)];
+    let why = Reasons {
+        no_leader: true,
+        no_trailer: true,
+        ..Reasons::none()
+    };
+    let first = [
+        (0, 0),
+        (2, 2),
+        (4, 4),
+        (6, 6),
+        (8, 8),
+        (10, 10),
+        (12, 12),
+        (14, 14),
+    ];
     expect(&rt, &account, 9, why, 10, 9, &first);
     assert!(rt; account.leader.is_none());
     assert!(rt; account.lines.is_none());

@@ -1,4 +1,3 @@
-use Rattle.std.proofs.Common.{arith}
 use Rattle.packet_bitmap.specs.Bits.{has}
 use Rattle.block_assembly.proofs.Losses.{loses_none, loses_one, loses_all}
 use Rattle.block_assembly.proofs.lost.lost_to.Goals as goal
