@@ -2,7 +2,6 @@
 use Rattle.std.proofs.Common.{◌≡◌, ℕ, ◌<◌, List, [], ◌∷◌, length, get_or, map, refl, sym, ap, subst, ◌∙◌, arith}
 use Rattle.std.specs.Prelude.{◌==◌, position, remove, Option, Some, None, IfSome}
 use Rattle.gvcp_aux.specs.declared.resend.Resend.{Resend}
-use Rattle.acquisition_machine.specs.Blocks.{Open}
 use Rattle.acquisition_machine.specs.Machine.{Input, State, open_at}
 use Rattle.acquisition_machine.specs.Runs.{After}
 use Rattle.acquisition_machine.specs.Sound.{IsSound}

@@ -27,8 +27,6 @@ use Rattle.acq_core.specs.declared.slot.Hold.TheVariants.{Without, With}
 use Rattle.acq_core.specs.declared.machine.Machine.{Machine}
 use Rattle.acq_core.specs.Standing.{HoldsFor, SlotsStand, Acts, HasRoom, HasPlace, asked_of, floor_of}
 use Rattle.acq_core.specs.Turning.{Gives, Answers}
-use Rattle.gvcp_aux.specs.declared.resend.Resend.{Resend}
-use Rattle.acq_core.specs.declared.ended.Ended.{Ended}
 use Rattle.acq_core.specs.Ending.{ends_of}
 use Rattle.acq_core.specs.Waiting.{asked_bytes, waiting_fills, waiting_requests, waiting_ends, AreNumbered}
 use Rattle.acq_core.specs.Receiver.{config_of, open_count, given_in, given_to, buffers, Stands, ReceiversShowTheirInputs, Takes, KeepsBuffers, IsReceiver}

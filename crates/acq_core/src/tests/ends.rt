@@ -1,5 +1,8 @@
 //! What is told of blocks that retire, and of requests: a lost payload, and a block without a buffer.
 
+ghost use Rattle.std.specs.Prelude.{◌≡◌};
+ghost use Rattle.acq_core.specs.Waiting.{waiting_fills, waiting_requests};
+
 use super::{LEADER, ONE_BLOCK, SECOND, THIRD, TRAILER, buffer, take_fills, take_requests, tell};
 use crate::{Acq, Cause, Need};
 use std::process::Abort;
@@ -13,7 +16,10 @@ fn take_end(
     floor: u64,
     cause: Cause,
     held: Option<(u8, u32, u32)>,
-) {
+)
+    ensures fills { waiting_fills acq.new ≡ waiting_fills acq.old }
+    ensures requests { waiting_requests acq.new ≡ waiting_requests acq.old }
+{
     match acq.next_ended() {
         Some(end) => {
             assert_eq!(rt; end.block, block);

@@ -1,4 +1,4 @@
-use Rattle.std.proofs.Common.{◌≡◌, ◌<◌, ◌∷◌, length, subst, sym, ◌∙◌, arith, List}
+use Rattle.std.proofs.Common.{◌≡◌, ◌<◌, ◌∷◌, length, subst, sym, arith, List}
 use Rattle.acq_core.specs.declared.asked.Asked.{Asked}
 use Rattle.gvcp_aux.specs.declared.resend.Resend.{Resend}
 use Rattle.acq_core.proofs.FirstOnes.{resends, resend_taken}

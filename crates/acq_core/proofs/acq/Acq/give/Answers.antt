@@ -1,4 +1,4 @@
-use Rattle.std.proofs.Common.{refl, subst, ap}
+use Rattle.std.proofs.Common.{refl, subst}
 use Rattle.std.specs.Prelude.{None}
 use Rattle.acquisition_machine.specs.Machine.{claimed}
 use Rattle.acquisition_machine.specs.TurnLaws.{TakesGiven}

@@ -1,7 +1,7 @@
 use Rattle.std.proofs.Common.{ap, subst, ◌∙◌}
 use Rattle.acquisition_machine.specs.Machine.{restart}
 use Rattle.acq_core.specs.Receiver.{open_count, Takes}
-use Rattle.acq_core.proofs.Receiving.{takes, none_restarted, receiver_unasked, forgotten, takes_forgotten}
+use Rattle.acq_core.proofs.Receiving.{takes, none_restarted, forgotten, takes_forgotten}
 use Rattle.acq_core.proofs.acq.Acq.restart.Goals as goal
 
 pub restart-requires : goal.restart-requires
