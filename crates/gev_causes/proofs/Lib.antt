@@ -2,3 +2,4 @@ pub mod Keeping
 pub mod Turns
 pub mod Links
 pub mod Unanswered
+pub mod Refusals

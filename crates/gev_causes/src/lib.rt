@@ -4,9 +4,14 @@
 //! functions do nothing: their contracts are laws.
 #![tactic(auto)]
 
-ghost use Rattle.gev_causes.specs.Causes.{NoAnswerIsUnanswered};
+ghost use Rattle.gev_causes.specs.Causes.{NoAnswerIsUnanswered, RefusedIsRead};
 
 /// A client that gives up a command has sent it three times, and heard no acknowledge of it since.
 pub fn no_answer_is_unanswered()
     ensures { NoAnswerIsUnanswered }
+{}
+
+/// A reader ends with Refused exactly where its client told a refusal of what came, with its status.
+pub fn refused_is_read()
+    ensures { RefusedIsRead }
 {}
