@@ -129,17 +129,17 @@ drops_none c b n end actor goes ends hands words = record {
 
 drops_can : (c : List (Option Filling)) (n : ℕ) (b : Board) → IsActor b acquirer → DropsSo c b n
 drops_can c zero b actor = record { places = []; tail = []; ends = inr (refl, refl); passes = passes_none c b actor }
-drops_can c (suc n) b actor = go (cases_Bool b.closed) b.out refl
+drops_can c (suc n) b actor = go (cases_Bool b.closed) b.out refl (λ new stays. drops_can c n new stays)
   where
-    go : (b.closed ≡ true) ⊎ (b.closed ≡ false) → (out : List Item) → b.out ≡ out → DropsSo c b (suc n)
-    go (inl closed) out is =
+    go : (b.closed ≡ true) ⊎ (b.closed ≡ false) → (out : List Item) → b.out ≡ out → ((new : Board) → IsActor new acquirer → DropsSo c new n) → DropsSo c b (suc n)
+    go (inl closed) out is later =
         drops_none c b n end.Closed actor (goes_last c b acquirer (Take end.Closed) actor closed tt tt) (inl (end.Closed, tt, omega arith, refl)) (λ j. refl) refl
-    go (inr opened) [] is =
+    go (inr opened) [] is later =
         drops_none c b n end.Empty actor (goes_last c b acquirer (Take end.Empty) actor (opened, is) tt tt) (inl (end.Empty, tt, omega arith, refl)) (λ j. refl) refl
-    go (inr opened) (x ∷ rest) is =
+    go (inr opened) (x ∷ rest) is later =
         let two : List Event = Take (end.Taken x.place) ∷ Pool x.place ∷ [] in
         let first : Passes c b two = one_dropped c b x rest actor opened is in
-        let more : DropsSo c (after_events b acquirer two) n = drops_can c n (after_events b acquirer two) first.actor in
+        let more : DropsSo c (after_events b acquirer two) n = later (after_events b acquirer two) first.actor in
         record {
           places = x.place ∷ more.places;
           tail = more.tail;

@@ -96,7 +96,7 @@ again_agrees c t bytes part h =
     let s : State = After c t.inputs in
     let told : Input = claimed (outcome (board t) (place_of h.claim)) in
     let later : List Input = t.inputs ++ datagram bytes ∷ told ∷ [] in
-    let events : List Event = h.first ++ h.claims ++ h.second in
+    let events : List Event = h.first ++ (h.claims ++ h.second) in
     let second_retired : map item_of (retired_by c later (datagram bytes)) ≡ map item_of (fills c.p (step c (step c (step c s (datagram bytes)).after told).after (datagram bytes)).retired)
     = ap (λ u. map item_of (fills c.p (step c u (datagram bytes)).retired)) (after_from-append c first_state t.inputs (datagram bytes ∷ told ∷ [])) in
     let claims_tried : tried (entries_of acquirer (h.claims ++ h.second)) ≡ tried (entries_of acquirer h.second)

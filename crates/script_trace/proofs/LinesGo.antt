@@ -188,7 +188,7 @@ again_on c t bytes some ready =
     subst (λ u. GivesBack c.p u.opens (step c u d)) twice (no_buffer_is_lost c (t.inputs ++ d ∷ told ∷ []) d some) in
     let last : FillsAll contents t.mode b2 (fills c.p (step c s2 d).retired) (held (step c s2 d).after.opens) =
     fills_all contents t.mode (fills c.p (step c s2 d).retired) b2 (held (step c s2 d).after.opens) claim.actor (subst (Holds b2) (sym back2) holds2) in
-    let events : List Event = first.events ++ claim.events ++ last.events in
+    let events : List Event = first.events ++ (claim.events ++ last.events) in
     let middle : Goes contents b1 acquirer (claim.events ++ last.events) =
     goes_both contents b1 acquirer claim.events last.events claim.goes last.goes in
     let goes : Goes contents b acquirer events = goes_both contents b acquirer first.events (claim.events ++ last.events) first.goes middle in

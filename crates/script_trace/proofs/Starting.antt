@@ -88,12 +88,12 @@ running_clean c t bytes part on s =
 again_clean : (c : AcqConfig) (t : Trace) (bytes : List ℕ) (part : Part) → (board t).run ≡ 1 → HeardAgain c t bytes part → PartClean c t part
 again_clean c t bytes part on h =
     let later : List Input = t.inputs ++ datagram bytes ∷ claimed (outcome (board t) (place_of h.claim)) ∷ [] in
-    let keep : KeepRun (h.first ++ h.claims ++ h.second)
+    let keep : KeepRun (h.first ++ (h.claims ++ h.second))
     = all_append KeepsRun h.first (h.claims ++ h.second) (retired_keep t.mode (retired_by c t.inputs (datagram bytes)) h.first h.displaced)
     (all_append KeepsRun h.claims h.second (quiet_keep h.claims (claims_quiet t.mode h.claim h.claims h.got))
     (retired_keep t.mode (retired_by c later (datagram bytes)) h.second h.filled)) in
     subst (PartClean c t) (sym h.is)
-    (record { starts = tt; rests = λ off. absurd (off (run_kept (board t) acquirer (h.first ++ h.claims ++ h.second) keep ∙ on)) })
+    (record { starts = tt; rests = λ off. absurd (off (run_kept (board t) acquirer (h.first ++ (h.claims ++ h.second)) keep ∙ on)) })
 
 -- ---- start and stop
 

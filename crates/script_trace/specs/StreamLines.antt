@@ -104,7 +104,7 @@ pub record HeardAgain (c : AcqConfig) (t : Trace) (bytes : List ℕ) (part : Par
       second
   pub is :
       part ≡ record {
-        entries = entries_of acquirer (first ++ claims ++ second);
+        entries = entries_of acquirer (first ++ (claims ++ second));
         inputs = told_twice t bytes (place_of claim);
         handles = t.handles;
         idle = 0;
