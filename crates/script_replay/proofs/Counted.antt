@@ -1,5 +1,6 @@
 -- Counts of fills and drops follow what was filled and dropped.
 use Rattle.std.proofs.Common.{◌≡◌, ◌≢◌, ℕ, zero, suc, ◌+◌, ◌==◌, min, not, Bool, true, false, cond, ne_eqb, if◌then◌else◌, List, [], ◌∷◌, ◌++◌, length, refl, sym, ap, ◌∙◌, arith, append-nil, append_assoc}
+use Rattle.std.proofs.lemmas.Bool.{cond-false}
 use Rattle.std.proofs.lemmas.List.{length-append}
 use Rattle.std.proofs.lemmas.List.Sums.{sum_by-append}
 use Rattle.std.specs.List.{count_by}
@@ -94,10 +95,17 @@ dropped_apart : (a : FillCounts) (xs : List Item) → (counted_on a xs).dropped 
 dropped_apart a [] = refl
 dropped_apart a (x ∷ xs) = dropped_apart (with_fill a x.filling.rec.complete) xs
 
+some_dropped : (a : FillCounts) (n : ℕ) → with_dropped a (suc n) ≡ record a { dropped = min (a.dropped + suc n) most_count }
+some_dropped a n =
+    let apart : suc n ≢ 0 = λ e. omega (arith, e) in
+    cond-false (suc n == 0) a (record a { dropped = min (a.dropped + suc n) most_count }) (ne_eqb (suc n) 0 apart)
+
 drops_past_fills : (a : FillCounts) (n : ℕ) (xs : List Item) → counted_on (with_dropped a n) xs ≡ with_dropped (counted_on a xs) n
 drops_past_fills a zero xs = refl
 drops_past_fills a (suc n) xs =
-    fills_apart a (min (a.dropped + suc n) most_count) xs ∙ ap (λ d. record (counted_on a xs) { dropped = min (d + suc n) most_count }) (sym (dropped_apart a xs))
+    ap (λ (c : FillCounts). counted_on c xs) (some_dropped a n)
+    ∙ (fills_apart a (min (a.dropped + suc n) most_count) xs
+    ∙ (ap (λ d. record (counted_on a xs) { dropped = min (d + suc n) most_count }) (sym (dropped_apart a xs)) ∙ sym (some_dropped (counted_on a xs) n)))
 
 dropped_twice : (a : FillCounts) (m n : ℕ) → with_dropped (with_dropped a m) n ≡ with_dropped a (m + n)
 dropped_twice a zero n = let same : n ≡ zero + n = omega arith in ap (with_dropped a) same
@@ -105,7 +113,9 @@ dropped_twice a (suc m) zero = let same : suc m ≡ suc m + zero = omega arith i
 dropped_twice a (suc m) (suc n) =
     let same : suc (m + suc n) ≡ suc m + suc n = omega arith in
     let most : min (min (a.dropped + suc m) most_count + suc n) most_count ≡ min (a.dropped + suc (m + suc n)) most_count = omega arith in
-    ap (λ d. record a { dropped = d }) most ∙ ap (with_dropped a) same
+    ap (λ (c : FillCounts). with_dropped c (suc n)) (some_dropped a m)
+    ∙ (some_dropped (record a { dropped = min (a.dropped + suc m) most_count }) n
+    ∙ (ap (λ d. record a { dropped = d }) most ∙ (sym (some_dropped a (m + suc n)) ∙ ap (with_dropped a) same)))
 
 -- with more entries
 pub counted-more : (a : FillCounts) (es more : List Entry) → counted_in a (es ++ more) ≡ counted_in (counted_in a es) more
@@ -126,15 +136,17 @@ counted-none a k es apart =
 -- what was counted before and what is dropped now
 pub drops_follow : (b : FillCounts) (m n : ℕ) → b.dropped ≡ min m most_count → (with_dropped b n).dropped ≡ min (m + n) most_count
 drops_follow b m zero was = omega (arith, was)
-drops_follow b m (suc n) was = omega (arith, was)
+drops_follow b m (suc n) was =
+    let more : min (b.dropped + suc n) most_count ≡ min (m + suc n) most_count = omega (arith, was) in
+    ap (λ (c : FillCounts). c.dropped) (some_dropped b n) ∙ more
 
 pub same_fills : (b : FillCounts) (n : ℕ) → (with_dropped b n).fills ≡ b.fills
 same_fills b zero = refl
-same_fills b (suc n) = refl
+same_fills b (suc n) = ap (λ (c : FillCounts). c.fills) (some_dropped b n)
 
 pub same_complete : (b : FillCounts) (n : ℕ) → (with_dropped b n).complete ≡ b.complete
 same_complete b zero = refl
-same_complete b (suc n) = refl
+same_complete b (suc n) = ap (λ (c : FillCounts). c.complete) (some_dropped b n)
 
 pub still_dropped : (b : FillCounts) (xs : List Item) → (counted_on b xs).dropped ≡ b.dropped
 still_dropped b xs = dropped_apart b xs

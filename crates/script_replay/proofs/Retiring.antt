@@ -20,7 +20,11 @@ use Rattle.board_machine.proofs.Runs.{stands_lists, run_owned, after-append, run
 use Rattle.board_machine.proofs.Counts.{stands_below, hand_tally}
 use Rattle.board_machine.proofs.Others.{other_word}
 use Rattle.board_calls.specs.Rounds.{filled_or_laid}
+use Rattle.board_calls.specs.Ends.{is_filled, IfClosed}
+use Rattle.board_calls.specs.declared.ends.FillEnd.{FillEnd}
+use Rattle.board_calls.specs.declared.ends.FillEnd.TheVariants.{Filled, Closed}
 use Rattle.board_model.specs.Plain.{PlainState, lying, nothing, HasBuf}
+use Rattle.board_model.specs.Holdings.{contents_after_fill}
 use Rattle.board_model.proofs.CallsHands.{filled, laid}
 use Rattle.acquisition_machine.specs.declared.retired.Retired.{Retired}
 use Rattle.acquisition_machine.specs.Blocks.{Given}
@@ -156,9 +160,11 @@ parts_of mode count i f filled b new called =
       };
     }
 
-pub one_filled : (mode : Mode) (x : Retired) (s new : PlainState) (a mid b : FillCounts) (count : ℕ) → AddsOf s.board acquirer (FillsDropping mode count x.place x.buf true) new.board → new.contents ≡ set s.contents x.place (Some x.buf)
-    → mid ≡ with_dropped a count → b ≡ with_fill mid x.buf.rec.complete → CountsOne mode x s a new b
-one_filled mode x s new a mid b count called contents dropped_is counted =
+pub one_filled : (mode : Mode) (x : Retired) (s new : PlainState) (a mid b : FillCounts) (count : ℕ) (end : FillEnd) → end ≡ Filled → AddsOf s.board acquirer (FillsDropping mode count x.place x.buf (is_filled end)) new.board
+    → new.contents ≡ contents_after_fill s.contents x.place x.buf (is_filled end) → mid ≡ with_dropped a count → b ≡ with_fill mid x.buf.rec.complete → CountsOne mode x s a new b
+one_filled mode x s new a mid b count end is called_so contents_so dropped_is counted =
+    let called : AddsOf s.board acquirer (FillsDropping mode count x.place x.buf true) new.board =
+    subst (λ (e : FillEnd). AddsOf s.board acquirer (FillsDropping mode count x.place x.buf (is_filled e)) new.board) is called_so in
     let p : Parts mode count x.place x.buf true s.board new.board = parts_of mode count x.place x.buf true s.board new.board called in
     record {
       dropped = p.dropped;
@@ -166,14 +172,23 @@ one_filled mode x s new a mid b count called contents dropped_is counted =
       drops = p.drops;
       mid = p.mid;
       adds = p.adds;
-      one = record { filled = true; adds = adds_one p.mid new.board acquirer (Fill x.place x.buf true) p.step; contents = contents };
+      one = record {
+        filled = true;
+        adds = adds_one p.mid new.board acquirer (Fill x.place x.buf true) p.step;
+        contents = contents_so ∙ ap (λ (e : FillEnd). contents_after_fill s.contents x.place x.buf (is_filled e)) is;
+      };
       counted = counted ∙ ap (λ (c : FillCounts). with_fill c x.buf.rec.complete) (dropped_is ∙ ap (with_dropped a) (sym p.counted));
     }
 
 -- the close mark stood: set down, and laid
-pub one_laid : (mode : Mode) (x : Retired) (s mid down new : PlainState) (a b : FillCounts) (count : ℕ) (back : Filling) → AddsOf s.board acquirer (FillsDropping mode count x.place x.buf false) mid.board → mid.contents ≡ s.contents → back ≡ x.buf
+pub one_laid : (mode : Mode) (x : Retired) (s mid down new : PlainState) (a b : FillCounts) (count : ℕ) (end : FillEnd) (back : Filling) → end ≡ Closed back → AddsOf s.board acquirer (FillsDropping mode count x.place x.buf (is_filled end)) mid.board
+    → mid.contents ≡ contents_after_fill s.contents x.place x.buf (is_filled end) → IfClosed end (λ came. came ≡ x.buf)
     → down.board ≡ mid.board → down.contents ≡ set mid.contents x.place (Some back) → AddsEntry down.board acquirer (Lay x.place) new.board → new.contents ≡ down.contents → b ≡ with_dropped a count → CountsOne mode x s a new b
-one_laid mode x s mid down new a b count back called same is put contents lay same_too counted =
+one_laid mode x s mid down new a b count end back closed called_so contents_so came put contents lay same_too counted =
+    let called : AddsOf s.board acquirer (FillsDropping mode count x.place x.buf false) mid.board =
+    subst (λ (e : FillEnd). AddsOf s.board acquirer (FillsDropping mode count x.place x.buf (is_filled e)) mid.board) closed called_so in
+    let same : mid.contents ≡ s.contents = contents_so ∙ ap (λ (e : FillEnd). contents_after_fill s.contents x.place x.buf (is_filled e)) closed in
+    let is : back ≡ x.buf = subst (λ (e : FillEnd). IfClosed e (λ f. f ≡ x.buf)) closed came in
     let p : Parts mode count x.place x.buf false s.board mid.board = parts_of mode count x.place x.buf false s.board mid.board called in
     record {
       dropped = p.dropped;

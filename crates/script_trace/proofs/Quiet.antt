@@ -39,7 +39,7 @@ newest_quiet dropped es (inl d) =
     quiet_along es (takes_and_pools dropped ++ Take d.end ∷ []) d.is (all_append IsQuiet (takes_and_pools dropped) (Take d.end ∷ []) (pools_quiet dropped) (tt, tt))
 newest_quiet dropped es (inr d) = quiet_along es (takes_and_pools dropped) d.is (pools_quiet dropped)
 
-drops_quiet : (mode : Mode) (dropped : List ℕ) (es : List Event) → DropsFor mode dropped es → AreQuiet es
+pub drops_quiet : (mode : Mode) (dropped : List ℕ) (es : List Event) → DropsFor mode dropped es → AreQuiet es
 drops_quiet OldestFirst dropped es (none, is) = quiet_along es [] is tt
 drops_quiet OldestFirstOverwrite dropped es (none, is) = quiet_along es [] is tt
 drops_quiet NewestOnly dropped es drops = newest_quiet dropped es drops
