@@ -1,5 +1,5 @@
 -- What claims and drops by a mode leave: hands, words, and what lies at the places.
-use Rattle.std.proofs.Common.{◌≡◌, ◌≢◌, ◌⊎◌, inl, inr, ℕ, ◌≤◌, Bool, true, false, if◌then◌else◌, List, [], ◌∷◌, ◌++◌, length, get_or, Option, Some, None, refl, sym, ap, subst, ◌∙◌, arith}
+use Rattle.std.proofs.Common.{◌≡◌, ◌≢◌, ◌⊎◌, inl, inr, ℕ, ◌≤◌, Bool, true, false, List, [], ◌∷◌, ◌++◌, length, get_or, Option, Some, None, refl, sym, ap, subst, ◌∙◌, arith}
 use Rattle.std.specs.Prelude.{⊤}
 use Rattle.std.specs.List.{AllByRecursion}
 use Rattle.gev_types.specs.Filling.{Filling}
@@ -33,7 +33,7 @@ use Rattle.script_trace.specs.Modes.{dropped}
 use Rattle.script_trace.proofs.Quiet.{IsQuiet, AreQuiet, drops_quiet}
 use Rattle.script_replay.specs.declared.fill_counts.FillCounts.{FillCounts}
 use Rattle.script_replay.specs.Boards.{LiesAsTold, IsLeftBy}
-use Rattle.script_replay.specs.Acquiring.{IsAway, AreApart, AreAway, with_board}
+use Rattle.script_replay.specs.Acquiring.{IsAway, AreAway, with_board}
 use Rattle.script_replay.specs.Counting.{with_dropped, counted_claim, counted_on, blocks_in, counted_in}
 use Rattle.script_replay.proofs.Lines.{contents-append}
 

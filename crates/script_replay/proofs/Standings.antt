@@ -16,7 +16,6 @@ use Rattle.script_trace.specs.Opening.{opening, first_handles}
 use Rattle.script_trace.specs.Ending.{end_text}
 use Rattle.script_trace.specs.Wide.{nothing_wide, Does, kept_behind}
 use Rattle.script_trace.specs.Standing.{first, running, config_of as config_from}
-use Rattle.script_replay.specs.declared.running.Running.{Running}
 use Rattle.script_replay.specs.declared.script.Script.{Script}
 use Rattle.script_replay.specs.Boards.{IsLeftBy, IsReady}
 use Rattle.script_replay.specs.Acquiring.{AreAway}

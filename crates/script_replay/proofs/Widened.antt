@@ -1,6 +1,6 @@
 -- Lines of both versions do what they mean.
-use Rattle.std.proofs.Common.{◌≡◌, ◌≢◌, ℕ, ◌+◌, ◌-◌, ◌^◌, ◌≤◌, Bool, true, false, List, [], ◌∷◌, ◌++◌, length, take, map, min, max, Result, Ok, Err, refl, sym, ap, subst, ◌∙◌, arith, nat_eq}
-use Rattle.std.specs.Prelude.{◌&&◌, if◌then◌else◌}
+use Rattle.std.proofs.Common.{◌≡◌, ◌≢◌, ℕ, ◌+◌, ◌-◌, ◌^◌, Bool, true, false, List, [], ◌∷◌, ◌++◌, length, take, map, min, max, Result, Ok, Err, refl, sym, ap, subst, ◌∙◌, arith, nat_eq}
+use Rattle.std.specs.Prelude.{if◌then◌else◌}
 use Rattle.std.proofs.lemmas.List.{take_at}
 use Rattle.std.proofs.lemmas.Bool.{cond-true, cond-false, and_parts, eqb-true, ne_eqb}
 use Rattle.hex.specs.declared.error.FromHexError.{FromHexError}
@@ -17,14 +17,14 @@ use Rattle.gev_script.specs.Lines.{ScriptLine}
 use Rattle.board_machine.specs.Machine.{Board}
 use Rattle.board_model.specs.Plain.{PlainState}
 use Rattle.acquisition_machine.specs.declared.config.AcqConfig.{AcqConfig}
-use Rattle.acquisition_machine.specs.Machine.{Request, request_bytes, datagram, tick}
+use Rattle.acquisition_machine.specs.Machine.{Request, request_bytes, tick}
 use Rattle.acquisition_machine.specs.Runs.{turn}
 use Rattle.acq_core.specs.declared.machine.Machine.{Machine}
 use Rattle.acq_core.specs.Receiver.{config_of, Takes, KeepsBlocks}
 use Rattle.acq_core.specs.Waiting.{waiting_fills, waiting_requests}
 use Rattle.script_trace.specs.Trace.{Trace, board, grown}
 use Rattle.script_trace.specs.Ending.{as_count}
-use Rattle.script_trace.specs.Wide.{Wide, is_standard_at, is_standard, Meaning, itself, meaning_widened, standard_meaning, meaning_of_bytes, meaning_decoded, meaning, said_by, DoesAs, standard_form, standard_text, is_started_at, kept_behind, is_narrow, asked_in}
+use Rattle.script_trace.specs.Wide.{Wide, is_standard_at, is_standard, itself, meaning_widened, standard_meaning, meaning_of_bytes, meaning_decoded, meaning, said_by, DoesAs, standard_form, standard_text, is_started_at, kept_behind, is_narrow, asked_in}
 use Rattle.script_trace.proofs.Meanings.{said_plain}
 use Rattle.script_replay.specs.declared.fill_counts.FillCounts.{FillCounts}
 use Rattle.script_replay.specs.declared.running.Running.{Running}

@@ -1,12 +1,12 @@
 -- What the acquisition does can be done on the board: the buffers of its open blocks are in its hands.
-use Rattle.std.proofs.Common.{◌≡◌, ◌⊎◌, inl, inr, ℕ, zero, suc, ◌+◌, ◌<◌, ◌≤◌, Bool, true, false, List, [], ◌∷◌, ◌++◌, length, map, Option, Some, None, refl, sym, ap, subst, ◌∙◌, append_assoc, append-nil, arith}
+use Rattle.std.proofs.Common.{◌≡◌, ◌⊎◌, inl, inr, ℕ, zero, suc, ◌+◌, ◌≤◌, Bool, true, false, List, [], ◌∷◌, ◌++◌, map, Option, Some, None, refl, sym, ap, subst, ◌∙◌, append-nil, arith}
 use Rattle.std.specs.List.{AllByRecursion}
 use Rattle.std.proofs.lemmas.Bool.{cases_Bool}
 use Rattle.gev_types.specs.Filling.{Filling}
 use Rattle.gev_types.specs.Limits.{place_count}
 use Rattle.board_machine.specs.declared.events.Entry.{Entry}
 use Rattle.board_machine.specs.declared.events.Event.{Event}
-use Rattle.board_machine.specs.declared.events.Event.TheVariants.{Claim, Take, Pool, Fill}
+use Rattle.board_machine.specs.declared.events.Event.TheVariants.{Claim, Take, Pool}
 use Rattle.board_machine.specs.declared.events.TakeEnd.{TakeEnd}
 use Rattle.board_machine.specs.declared.events.TakeEnd.TheVariants as end
 use Rattle.board_machine.specs.Places.{same, times}

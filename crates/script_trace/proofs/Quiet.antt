@@ -5,7 +5,7 @@ use Rattle.std.specs.Prelude.{⊤, Option, Some, None}
 use Rattle.std.specs.List.{AllByRecursion}
 use Rattle.gev_types.specs.Filling.{Filling}
 use Rattle.board_machine.specs.declared.events.Event.{Event}
-use Rattle.board_machine.specs.declared.events.Event.TheVariants.{Claim, Take, Pool, Fill, Lay}
+use Rattle.board_machine.specs.declared.events.Event.TheVariants.{Claim, Take, Pool, Fill}
 use Rattle.board_machine.specs.Adding.{entries_of}
 use Rattle.board_calls.specs.Rounds.{filled_or_laid}
 use Rattle.acquisition_machine.specs.declared.retired.Retired.{Retired}
