@@ -4,6 +4,8 @@
 #![tactic(auto)]
 
 mod running;
+#[cfg(test)]
+mod tests;
 mod top;
 
 pub use running::run_live;
