@@ -1,0 +1,4 @@
+pub mod Reports
+pub mod Shapes
+pub mod Lines
+pub mod Accounts

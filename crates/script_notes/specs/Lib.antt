@@ -1,0 +1,4 @@
+pub mod Drops
+pub mod LineNotes
+pub mod Explaining
+pub mod Laws
