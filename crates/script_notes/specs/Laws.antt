@@ -1,5 +1,5 @@
 -- What explanations are, in words of their own.
-use Rattle.std.specs.Prelude.{◌≡◌, ⊤, ℕ, ◌+◌, ◌≤◌, Bool, true, false, List, [], ◌∷◌, ◌++◌, length}
+use Rattle.std.specs.Prelude.{◌≡◌, ⊤, ℕ, ◌+◌, ◌≤◌, Bool, true, false, List, length}
 use Rattle.std.specs.List.{AllByRecursion}
 use Rattle.script_runs.specs.declared.ran.Ran.{Ran}
 use Rattle.script_runs.specs.Runs.{RunsLines}
@@ -10,43 +10,27 @@ use Rattle.acquisition_notes.specs.Notes.{Note, idle, unwidened}
 use Rattle.acquisition_notes.specs.Counted.{counted, is_opening, is_ending, times_so}
 use Rattle.acquisition_notes.specs.Spans.{spans, AreAccounted}
 use Rattle.acquisition_notes.specs.Laws.{IsReasonedNote}
-use Rattle.acquisition_notes.specs.Texts.{words_line}
 use Rattle.script_trace.specs.Trace.{Trace}
 use Rattle.script_trace.specs.Wide.{Wide}
 use Rattle.script_trace.specs.Standing.{Standing, running, ReplayRuns, replay_verdict, IsBehind}
 use Rattle.script_trace.specs.Standing.{first as at_first}
+use Rattle.script_notes.specs.NoteLines.{LeavesOut}
 use Rattle.script_notes.specs.Explaining.{Telling, untold, ExplainRuns, ExplainRefuses}
 
 -- ---- the report
 
--- lines of notes of one line
-abbrev pub lines_told : ℕ → ℕ → List (List ℕ) → List ℕ
-lines_told n moment [] = []
-lines_told n moment (words ∷ more) = words_line n moment words ++ lines_told n moment more
-
--- The first text is the second with lines of notes before it.
-pub record HasNotes (n : ℕ) (told said : List ℕ) : Type 0 where
-  pub moment : ℕ
-  pub words : List (List ℕ)
-  pub is : told ≡ lines_told n moment words ++ said
-
--- the first text is the second with lines of notes before the reports of lines, which are counted from here
-pub data HaveNotes : ℕ → List ℕ → List ℕ → Type 0 where
-  none : {n : ℕ} → HaveNotes n [] []
-  more : {n : ℕ} {told said rest rest_said : List ℕ} → HasNotes (n + 1) told said → HaveNotes (n + 1) rest rest_said
-      → HaveNotes n (told ++ rest) (said ++ rest_said)
-
--- The lines so far are run by a replay too, with this report.
+-- The lines so far are run by a replay too, and its report is what was told with the lines left out that begin with
+-- `# `.
 pub record HoldsReport (lines : List (List ℕ)) (told : List ℕ) (new : Telling) : Type 0 where
   pub said : List ℕ
   pub replays : RunsLines ReplayRuns at_first 0 lines said new.standing
-  pub notes : HaveNotes 0 told said
+  pub leaves : LeavesOut told said
 
 -- So is the last line.
 pub record HoldsLast (m : Telling) (n : ℕ) (line : List ℕ) (ran : Ran) (told : List ℕ) (new : Telling) : Type 0 where
   pub said : List ℕ
   pub replays : ReplayRuns m.standing n line ran said new.standing
-  pub notes : HasNotes n told said
+  pub leaves : LeavesOut told said
 
 pub record ExplanationsHoldReports : Type 0 where
   pub so_far :

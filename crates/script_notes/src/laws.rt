@@ -2,8 +2,8 @@
 
 ghost use Rattle.script_notes.specs.Laws.{ExplanationsAreJudged, ExplanationsHoldReports, ScriptsAreAccounted};
 
-/// The lines of an explained script are run as by a replay, to the same standing, and what is written is the
-/// replay's report with lines of notes before the reports of its lines.
+/// The lines of an explained script are run as by a replay, to the same standing, and the replay's report is
+/// what is written with the lines left out that begin with `# `.
 pub fn explanations_hold_reports()
     ensures { ExplanationsHoldReports }
 {}
