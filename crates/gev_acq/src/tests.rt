@@ -489,7 +489,10 @@ fn a_closed_output_gives_the_buffer_back(rt: HostRuntime) -> Result<(), Fail> {
         None => {}
     }
     let second = serve_turn(&rt, &board, &mut pass, &mut acq, &OpenGate, None, 1000);
-    assert_eq!(rt; (second.kept, second.opened, second.claim), (false, 0, None));
+    assert_eq!(rt;
+        (second.kept, second.opened, second.claim),
+        (false, 0, None)
+    );
     assert_eq!(rt; board.load(&mut pass, 0).state, State::Held);
     assert_eq!(rt; board.look_out(&mut pass).0.len(), 0);
     Ok(())
