@@ -71,8 +71,7 @@ const ACKS: &[Option<(&[u8], Peer)>] = &[
 ];
 
 // A refusal of the first command with status 0x8006.
-const REFUSAL: &[Option<(&[u8], Peer)>] =
-    &[Some((b"\x80\x06\0\x83\0\x04\0\x01\0\0\0\0", CAMERA))];
+const REFUSAL: &[Option<(&[u8], Peer)>] = &[Some((b"\x80\x06\0\x83\0\x04\0\x01\0\0\0\0", CAMERA))];
 
 // A board whose acquisition runs, with a buffer of 4 bytes in the pool.
 fn new_board(alloc: Global) -> Result<(Board, Pass), Fail>
