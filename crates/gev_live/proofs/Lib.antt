@@ -7,3 +7,4 @@ pub mod Taking
 pub mod CameraPart
 pub mod ApplicationPart
 pub mod Meaning
+pub mod Steady

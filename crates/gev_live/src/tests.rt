@@ -1,0 +1,89 @@
+use super::*;
+use buffer_words::Board;
+use gev_links::{MemoryClock, MemoryLink, MemorySink, OpenGate};
+use gev_status::Status;
+use gev_types::Peer;
+use std::alloc::Global;
+use std::process::Abort;
+use std::sync::Wait;
+use std::test::Fail;
+use std::thread::Threads;
+
+const CAMERA: Peer = Peer {
+    address: 0x7f00_0001,
+    port: 3956,
+};
+
+const STREAM: Peer = Peer {
+    address: 0x7f00_0001,
+    port: 49_152,
+};
+
+const HOST: Peer = Peer {
+    address: 0x7f00_0001,
+    port: 49_153,
+};
+
+// The acknowledges of the setup's four commands, and a refusal of the first one.
+const ACKS: [&[u8]; 4] = [
+    b"\x00\x00\x00\x83\x00\x04\x00\x01\x00\x00\x00\x01",
+    b"\x00\x00\x00\x83\x00\x04\x00\x02\x00\x00\x00\x01",
+    b"\x00\x00\x00\x83\x00\x04\x00\x03\x00\x00\x00\x01",
+    b"\x00\x00\x00\x83\x00\x04\x00\x04\x00\x00\x00\x01",
+];
+
+const REFUSAL: &[u8] = b"\x80\x06\x00\x83\x00\x04\x00\x01\x00\x00\x00\x00";
+
+// The host's clock rises by one with each moment.
+const MOMENTS: [u64; 16] = [0, 1, 2, 3, 4, 5, 6, 7, 8, 9, 10, 11, 12, 13, 14, 15];
+
+// What a live run over links in memory whose stream gives nothing answers and writes: by the first answer on the
+// control link, by the receives of the stream's link that fail, and by the writes that fail.
+fn check_run<R: Abort + Threads + Wait + Sync>(
+    rt: &R,
+    alloc: Global,
+    first: &[u8],
+    failing_receives: &[u64],
+    failing_writes: &[u64],
+    status: Status,
+    text: &str,
+) -> Result<(), Fail> {
+    let answers = [
+        Some((first, CAMERA)),
+        Some((ACKS[1], CAMERA)),
+        Some((ACKS[2], CAMERA)),
+        Some((ACKS[3], CAMERA)),
+    ];
+    let (board, mut pass) = Board::new(alloc)?;
+    let ends = Ends {
+        camera: MemoryLink::new(alloc, CAMERA, &[], &[], &[], 0)?,
+        stream: MemoryLink::new(alloc, STREAM, &[None, None], failing_receives, &[], 0)?,
+        control: MemoryLink::new(alloc, HOST, &answers, &[], &[], 16)?,
+        camera_clock: MemoryClock::new(&[]),
+        host_clock: MemoryClock::new(&MOMENTS),
+        app_clock: MemoryClock::new(&[]),
+    };
+    let mut sink = MemorySink::new(alloc, 100, failing_writes);
+    let (answer, _ends) = live_over(
+        rt, alloc, &board, &mut pass, 1, 20, 10, 1, 3, ends, &OpenGate, &mut sink,
+    );
+    assert_eq!(rt; answer, status);
+    assert_eq!(rt; sink.written(), text.as_bytes());
+    Ok(())
+}
+
+#[test]
+fn answers_and_last_lines(rt: HostRuntime) -> Result<(), Fail> {
+    let alloc = rt.alloc();
+    let spent = Status::TurnsSpent {
+        turns: 3,
+        frames: 0,
+    };
+    let refused = Status::Refused { status: 0x8006 };
+    let last = "live frames=20 taken=0\n";
+    check_run(&rt, alloc, ACKS[0], &[], &[], spent, last)?;
+    check_run(&rt, alloc, REFUSAL, &[], &[], refused, last)?;
+    check_run(&rt, alloc, ACKS[0], &[1], &[], Status::LinkFault, "")?;
+    check_run(&rt, alloc, ACKS[0], &[], &[1], Status::WriteFault, "")?;
+    Ok(())
+}
