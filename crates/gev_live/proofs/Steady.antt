@@ -1,5 +1,5 @@
 -- Which counts of faults stay and which rose, by a live run's answer.
-use Rattle.std.proofs.Common.{◌≡◌, ◌≢◌, ◌⊎◌, inl, inr, ℕ, List, Option, refl, sym, ap, subst}
+use Rattle.std.proofs.Common.{◌≡◌, ◌≢◌, ◌⊎◌, inl, inr, ℕ, List, Option, refl, ap}
 use Rattle.board_machine.specs.declared.events.Entry.{Entry}
 use Rattle.gev_links.specs.Links.{Address}
 use Rattle.gev_links.specs.Faults.{Rose}
@@ -7,7 +7,7 @@ use Rattle.gev_status.specs.declared.status.Status.{Status}
 use Rattle.gev_status.specs.declared.status.Status.TheVariants.{Done, Usage, BadScript, ReadFault, WriteFault, LinkFault, NoMemory, NoAnswer, Refused, TurnsSpent}
 use Rattle.gev_live.specs.Told.{Told}
 use Rattle.gev_live.specs.Endings.{Wrote}
-use Rattle.gev_live.specs.LiveRun.{Numbers, LinksStay, LinkFailed, RunsLive}
+use Rattle.gev_live.specs.LiveRun.{Numbers, LinkFailed, RunsLive}
 
 pub runs_steady : (n : Numbers) (camera stream : Address) (answer : Status) (o e : Told) (written written_after : Option (List ℕ)) (faults faults_after : ℕ) (h : List Entry)
     → RunsLive n camera stream answer o e written written_after faults faults_after h → answer ≢ LinkFault
