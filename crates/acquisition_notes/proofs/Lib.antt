@@ -1,0 +1,5 @@
+pub mod Counts
+pub mod Opened
+pub mod Spans
+pub mod Reasoned
+pub mod Rows
