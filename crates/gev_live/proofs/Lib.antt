@@ -6,3 +6,7 @@ pub mod Telling
 pub mod Taking
 pub mod CameraPart
 pub mod ApplicationPart
+pub mod Unstopped
+pub mod Splitting
+pub mod Looking
+pub mod Emptied
