@@ -1,6 +1,7 @@
 pub mod Histories
 pub mod BlockFills
 pub mod RunWord
+pub mod Quiet
 pub mod Starting
 pub mod Handing
 pub mod Between

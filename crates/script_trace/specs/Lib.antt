@@ -1,5 +1,6 @@
 pub mod Trace
 pub mod Contents
+pub mod Modes
 pub mod Answers
 pub mod BoardLines
 pub mod StreamLines
