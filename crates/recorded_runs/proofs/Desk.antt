@@ -1,16 +1,15 @@
 -- The board of a recorded script, told by whose each of its three places is, and the acts on it.
-use Rattle.std.proofs.Common.{◌≡◌, ◌≢◌, ℕ, zero, suc, ◌+◌, ◌<◌, ◌≤◌, ◌==◌, nat_le, Bool, true, false, cond, List, [], ◌∷◌, ◌++◌, length, replicate, if◌then◌else◌, refl, sym, ap, subst, ◌∙◌, arith, eq-eqb, eqb-true, leb-false, leb-true, lit≤, lit<, ap₂, append_assoc}
-use Rattle.std.specs.Prelude.{Option, Some, None, Ok}
+use Rattle.std.proofs.Common.{◌≡◌, ◌≢◌, ℕ, zero, suc, ◌+◌, ◌<◌, ◌≤◌, ◌==◌, nat_le, Bool, true, false, cond, List, [], ◌∷◌, ◌++◌, length, replicate, if◌then◌else◌, refl, sym, ap, subst, ◌∙◌, arith, eq-eqb, eqb-true, leb-false, leb-true, lit≤, lit<, ap₂}
+use Rattle.std.specs.Prelude.{Some, None, Ok}
 use Rattle.std.proofs.lemmas.Bool.{cond_both, eqb-false}
 use Rattle.gentl_types.specs.declared.word.Word.{Word}
 use Rattle.gentl_types.specs.declared.word.State.TheVariants.{Held, Away}
 use Rattle.gev_types.specs.Filling.{Filling}
 use Rattle.board_machine.specs.declared.events.Entry.{Entry}
-use Rattle.board_machine.specs.declared.events.Event.{Event}
 use Rattle.board_machine.specs.declared.events.Event.TheVariants.{LookOut, Grab, Lay, Pool, Claim, Fill, Take}
 use Rattle.board_machine.specs.declared.events.TakeEnd.TheVariants.{Taken}
-use Rattle.board_machine.specs.Places.{same, times, put_in, without, put_all}
-use Rattle.board_machine.specs.Machine.{Board, Item, item, places, vacant, empty_hands, word_at, CanBeNext, entry, next}
+use Rattle.board_machine.specs.Places.{times, put_in, without, put_all}
+use Rattle.board_machine.specs.Machine.{Board, Item, item, places, vacant, empty_hands, word_at}
 use Rattle.board_machine.specs.Histories.{after_from, RunsFrom}
 use Rattle.board_machine.specs.Adding.{entries_of}
 use Rattle.board_machine.proofs.Places.{times-append, times-put, same_self, same_other}
@@ -127,13 +126,13 @@ put_middle p (q ∷ front) back = put_swap p q (put_all (front ++ back) []) ∙ 
 
 -- ---- the acquisition's acts
 
-is_sized : (r : ℕ) (a b c : ℕ) (out : List Item) (pool his : List ℕ) (p : ℕ) → p < 3 → (word_at (desk_by r a b c out pool his) p).size ≡ buffer_size
+pub is_sized : (r : ℕ) (a b c : ℕ) (out : List Item) (pool his : List ℕ) (p : ℕ) → p < 3 → (word_at (desk_by r a b c out pool his) p).size ≡ buffer_size
 is_sized r a b c out pool his p h = three (λ i. (word_at (desk_by r a b c out pool his) i).size ≡ buffer_size) p h refl refl refl
 
 uses_fill : (p : ℕ) (f : Filling) (his : List ℕ) (out : List Item) (pool : List ℕ) (i : ℕ) → uses (p ∷ his) out pool i ≡ uses his (out ++ item p f ∷ []) pool i
 uses_fill p f his out pool i =
     let parts : times i (places (out ++ item p f ∷ [])) ≡ times i (places out) + times i (p ∷ []) =
-        ap (times i) (places-append out (item p f ∷ [])) ∙ times-append i (places out) (p ∷ []) in
+    ap (times i) (places-append out (item p f ∷ [])) ∙ times-append i (places out) (p ∷ []) in
     omega (arith, parts)
 
 pub fill_done : (r : ℕ) (p : ℕ) (f : Filling) (his : List ℕ) (out : List Item) (pool : List ℕ) → p < 3 → length f.bytes ≡ buffer_size
@@ -142,10 +141,13 @@ fill_done r p f his out pool low sized =
     let mine : 1 ≤ times p (put_all (p ∷ his) []) = (let t = times-put p p (put_all his []) in let s = same_self p in omega (arith, t, s)) in
     let more : List Item = out ++ item p f ∷ [] in
     record {
-      runs = (record {
-        actor = some_not (put_all (p ∷ his) []);
-        meets = (mine, sized ∙ sym (is_sized r (uses (p ∷ his) out pool 0) (uses (p ∷ his) out pool 1) (uses (p ∷ his) out pool 2) out pool (put_all (p ∷ his) []) p low), refl);
-      }, tt);
+      runs = (
+        record {
+          actor = some_not (put_all (p ∷ his) []);
+          meets = (mine, sized ∙ sym (is_sized r (uses (p ∷ his) out pool 0) (uses (p ∷ his) out pool 1) (uses (p ∷ his) out pool 2) out pool (put_all (p ∷ his) []) p low), refl);
+        },
+        tt,
+      );
       after = same_parts r (uses (p ∷ his) out pool 0) (uses (p ∷ his) out pool 1) (uses (p ∷ his) out pool 2)
           (uses his more pool 0) (uses his more pool 1) (uses his more pool 2) more pool (without p (put_all (p ∷ his) [])) (put_all his [])
           (uses_fill p f his out pool 0) (uses_fill p f his out pool 1) (uses_fill p f his out pool 2) (without-put p (put_all his []));
@@ -168,7 +170,7 @@ claims_none r his out = record { runs = (record { actor = some_not (put_all his 
 pub desk_middle : (r : ℕ) (p : ℕ) (front back : List ℕ) (out : List Item) (pool : List ℕ) → desk r (p ∷ (front ++ back)) out pool ≡ desk r (front ++ p ∷ back) out pool
 desk_middle r p front back out pool =
     let moved : (i : ℕ) → uses (p ∷ (front ++ back)) out pool i ≡ uses (front ++ p ∷ back) out pool i =
-        λ i. (let x = times-append i front back in let y = times-append i front (p ∷ back) in omega (arith, x, y)) in
+    λ i. (let x = times-append i front back in let y = times-append i front (p ∷ back) in omega (arith, x, y)) in
     same_parts r (uses (p ∷ (front ++ back)) out pool 0) (uses (p ∷ (front ++ back)) out pool 1) (uses (p ∷ (front ++ back)) out pool 2)
     (uses (front ++ p ∷ back) out pool 0) (uses (front ++ p ∷ back) out pool 1) (uses (front ++ p ∷ back) out pool 2) out pool
     (put_all (p ∷ (front ++ back)) []) (put_all (front ++ p ∷ back) []) (moved 0) (moved 1) (moved 2) (put_middle p front back)
@@ -211,9 +213,9 @@ pub take_done : (r : ℕ) (p : ℕ) (f : Filling) (his : List ℕ) (out : List I
 take_done r p f his out low once =
     let all : List Item = item p f ∷ out in
     let clears : (i : ℕ) → cleared p i (uses his all [] i) ≡ uses his out [] i =
-        λ i. cleared_is p i (uses his all [] i) (uses his out [] i)
-        (λ e. (let s = same_self p in let there : uses his out [] p ≡ 0 = omega (arith, s, once) in subst (λ j. uses his out [] j ≡ 0) (sym e) there))
-        (λ e. (let s = same_other i p e in omega (arith, s))) in
+    λ i. cleared_is p i (uses his all [] i) (uses his out [] i)
+    (λ e. (let s = same_self p in let there : uses his out [] p ≡ 0 = omega (arith, s, once) in subst (λ j. uses his out [] j ≡ 0) (sym e) there))
+    (λ e. (let s = same_other i p e in omega (arith, s))) in
     done_to (desk r his all []) (desk_by r (cleared p 0 (uses his all [] 0)) (cleared p 1 (uses his all [] 1)) (cleared p 2 (uses his all [] 2)) out [] (put_all his []))
     (desk r his out []) (entries_of 0 (Take (Taken p) ∷ Lay p ∷ []))
     (take_by r p f (uses his all [] 0) (uses his all [] 1) (uses his all [] 2) out [] (put_all his []) low)
@@ -222,7 +224,7 @@ take_done r p f his out low once =
 
 queue_by : (r : ℕ) (p a b c : ℕ) (his : List ℕ) → p < 3
     → Done (desk_by r (cleared p 0 a) (cleared p 1 b) (cleared p 2 c) [] [] his) (entries_of 0 (LookOut [] false ∷ Grab p 1 (Ok tt) ∷ Pool p ∷ []))
-      (desk_by r (raised p 0 a) (raised p 1 b) (raised p 2 c) [] (p ∷ []) his)
+    (desk_by r (raised p 0 a) (raised p 1 b) (raised p 2 c) [] (p ∷ []) his)
 queue_by r zero a b c his low = record {
   runs = (record { actor = some_not []; meets = (refl, refl) }, (record { actor = some_not []; meets = (lit< tt, (refl, refl)) }, (record { actor = some_not (0 ∷ []); meets = lit≤ tt }, tt)));
   after = refl;
@@ -241,12 +243,12 @@ pub queue_done : (r : ℕ) (p : ℕ) (his : List ℕ) → p < 3 → times p his 
     → Done (desk r his [] []) (entries_of 0 (LookOut [] false ∷ Grab p 1 (Ok tt) ∷ Pool p ∷ [])) (desk r his [] (p ∷ []))
 queue_done r p his low free =
     let is_clear : (i : ℕ) → cleared p i (uses his [] [] i) ≡ uses his [] [] i =
-        λ i. cleared_is p i (uses his [] [] i) (uses his [] [] i)
-        (λ e. (let there : times i his ≡ 0 = subst (λ j. times j his ≡ 0) (sym e) free in omega (arith, there))) (λ e. refl) in
+    λ i. cleared_is p i (uses his [] [] i) (uses his [] [] i)
+    (λ e. (let there : times i his ≡ 0 = subst (λ j. times j his ≡ 0) (sym e) free in omega (arith, there))) (λ e. refl) in
     let rises : (i : ℕ) → raised p i (uses his [] [] i) ≡ uses his [] (p ∷ []) i =
-        λ i. raised_is p i (uses his [] [] i) (uses his [] (p ∷ []) i)
-        (λ e. (let s = same_self p in let there : uses his [] (p ∷ []) p ≡ 1 = omega (arith, s, free) in subst (λ j. uses his [] (p ∷ []) j ≡ 1) (sym e) there))
-        (λ e. (let s = same_other i p e in omega (arith, s))) in
+    λ i. raised_is p i (uses his [] [] i) (uses his [] (p ∷ []) i)
+    (λ e. (let s = same_self p in let there : uses his [] (p ∷ []) p ≡ 1 = omega (arith, s, free) in subst (λ j. uses his [] (p ∷ []) j ≡ 1) (sym e) there))
+    (λ e. (let s = same_other i p e in omega (arith, s))) in
     let es : List Entry = entries_of 0 (LookOut [] false ∷ Grab p 1 (Ok tt) ∷ Pool p ∷ []) in
     done_from (desk r his [] [])
     (desk_by r (cleared p 0 (uses his [] [] 0)) (cleared p 1 (uses his [] [] 1)) (cleared p 2 (uses his [] [] 2)) [] [] (put_all his []))

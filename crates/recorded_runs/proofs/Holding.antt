@@ -1,15 +1,14 @@
 -- The buffers of the open blocks of a recorded run: at three places, each held once, and what inputs make of them.
-use Rattle.std.proofs.Common.{◌≡◌, ◌≢◌, ◌⊎◌, inl, inr, ℕ, zero, suc, ◌+◌, ◌<◌, ◌≤◌, ◌==◌, Bool, true, false, cond, List, [], ◌∷◌, ◌++◌, length, map, if◌then◌else◌, refl, sym, ap, subst, ◌∙◌, arith, eqb-true}
+use Rattle.std.proofs.Common.{◌≡◌, ◌≢◌, ◌⊎◌, inl, inr, ℕ, suc, ◌+◌, ◌<◌, ◌≤◌, ◌==◌, Bool, true, false, List, [], ◌∷◌, ◌++◌, length, map, if◌then◌else◌, refl, sym, ap, subst, ◌∙◌, arith, eqb-true}
 use Rattle.std.specs.Prelude.{Option, Some, None}
 use Rattle.std.specs.List.{AllByRecursion}
-use Rattle.std.proofs.lemmas.Bool.{cond_both, eqb-false, cases_eq, cases_Bool}
+use Rattle.std.proofs.lemmas.Bool.{eqb-false, cases_eq}
 use Rattle.board_machine.specs.Places.{same, times}
-use Rattle.board_machine.proofs.Places.{times-append, same_self, same_other, same_le, same_is}
-use Rattle.acquisition_machine.specs.declared.config.AcqConfig.{AcqConfig}
+use Rattle.board_machine.proofs.Places.{times-append, same_self, same_other, same_le}
 use Rattle.acquisition_machine.specs.declared.retired.Retired.{Retired}
 use Rattle.acquisition_machine.specs.Blocks.{Given, Open, fills}
 use Rattle.acquisition_machine.specs.Machine.{Input, datagram, claimed, tick, stop, State, step}
-use Rattle.acquisition_machine.specs.Runs.{first_state, After, after_from}
+use Rattle.acquisition_machine.specs.Runs.{first_state, After}
 use Rattle.acquisition_machine.specs.TurnLaws.{held, given_of, with_given, HasOneMore, TakesGiven, GivesBack}
 use Rattle.acquisition_machine.proofs.Joining.{after_from-append}
 use Rattle.acquisition_machine.proofs.Order.{all_append, all_front, all_back}
@@ -100,13 +99,15 @@ takes_given q s given e =
 -- No buffer was given, and none is held in addition.
 pub none_given : (s : State) → Live s → (Live (step live_config s (claimed None)).after) × (held_places (step live_config s (claimed None)).after ≡ held_places s)
 none_given s live =
-    let same : held (step live_config s (claimed None)).after.opens ≡ held s.opens = takes_given live.inputs s None live.reached in
-    (record {
-      inputs = live.inputs ++ claimed None ∷ [];
-      reached = reaches_on live.inputs s (claimed None) live.reached;
-      each = subst (λ l. AllByRecursion IsLive l) (sym same) live.each;
-      once = λ k. subst (λ l. times k (places_in l) ≤ 1) (sym same) (live.once k);
-    }, ap places_in same)
+    let same : held (step live_config s (claimed None)).after.opens ≡ held s.opens = takes_given live.inputs s None live.reached in (
+      record {
+        inputs = live.inputs ++ claimed None ∷ [];
+        reached = reaches_on live.inputs s (claimed None) live.reached;
+        each = subst (λ l. AllByRecursion IsLive l) (sym same) live.each;
+        once = λ k. subst (λ l. times k (places_in l) ≤ 1) (sym same) (live.once k);
+      },
+      ap places_in same,
+    )
 
 -- A buffer at a free place was given, and it is held somewhere among the others.
 pub record HoldsMore (p : ℕ) (s new : State) : Type 0 where
@@ -123,7 +124,7 @@ pub one_given : (p b : ℕ) (s : State) → Live s → p < 3 → times p (held_p
 one_given p b s live low free asked =
     let new : State = (step live_config s (claimed (Some (given_at p)))).after in
     let more : HasOneMore (given_at p) (held s.opens) (held new.opens) =
-        subst (λ a. TakesGiven (Some (given_at p)) a (held s.opens) (held new.opens)) asked (takes_given live.inputs s (Some (given_at p)) live.reached) in
+    subst (λ a. TakesGiven (Some (given_at p)) a (held s.opens) (held new.opens)) asked (takes_given live.inputs s (Some (given_at p)) live.reached) in
     let were : held_places s ≡ places_in more.front ++ places_in more.back = ap places_in more.were ∙ places_in-append more.front more.back in
     let are : held_places new ≡ places_in more.front ++ p ∷ places_in more.back = ap places_in more.are ∙ places_in-append more.front (given_at p ∷ more.back) in
     let all = subst (λ l. AllByRecursion IsLive l) more.were live.each in
@@ -142,14 +143,14 @@ one_given p b s live low free asked =
       are = are;
     }
   where
-  once_more : (k : ℕ) (front back were are : List ℕ) → were ≡ front ++ back → are ≡ front ++ p ∷ back → times k were ≤ 1 → times p were ≡ 0 → times k are ≤ 1
-  once_more k front back were are w a first free =
-      let x : times k were ≡ times k front + times k back = ap (times k) w ∙ times-append k front back in
-      let y : times k are ≡ times k front + (same k p + times k back) = ap (times k) a ∙ times-append k front (p ∷ back) in
-      go (cases_eq k p) x y where
-    go : (k ≡ p) ⊎ (k ≢ p) → times k were ≡ times k front + times k back → times k are ≡ times k front + (same k p + times k back) → times k are ≤ 1
-    go (inl e) x y = let none : times k were ≡ 0 = subst (λ j. times j were ≡ 0) (sym e) free in let l = same_le k p in omega (arith, x, y, none, l)
-    go (inr apart) x y = let s = same_other k p apart in omega (arith, x, y, s, first)
+    once_more : (k : ℕ) (front back were are : List ℕ) → were ≡ front ++ back → are ≡ front ++ p ∷ back → times k were ≤ 1 → times p were ≡ 0 → times k are ≤ 1
+    once_more k front back were are w a first free =
+        let x : times k were ≡ times k front + times k back = ap (times k) w ∙ times-append k front back in
+        let y : times k are ≡ times k front + (same k p + times k back) = ap (times k) a ∙ times-append k front (p ∷ back) in
+        go (cases_eq k p) x y where
+          go : (k ≡ p) ⊎ (k ≢ p) → times k were ≡ times k front + times k back → times k are ≡ times k front + (same k p + times k back) → times k are ≤ 1
+          go (inl e) x y = let none : times k were ≡ 0 = subst (λ j. times j were ≡ 0) (sym e) free in let l = same_le k p in omega (arith, x, y, none, l)
+          go (inr apart) x y = let s = same_other k p apart in omega (arith, x, y, s, first)
 
 -- ---- the lowest free place
 

@@ -4,3 +4,9 @@ pub mod Holding
 pub mod Stages
 pub mod StageLines
 pub mod TurnLines
+pub mod ClaimLines
+pub mod Begins
+pub mod RunLines
+pub mod Ends
+pub mod LinesFit
+pub mod Replaying

@@ -1,35 +1,27 @@
 -- The lines of a recorded script, each from one stage to the next.
-use Rattle.std.proofs.Common.{◌≡◌, ◌⊎◌, inl, inr, ℕ, zero, suc, ◌+◌, ◌<◌, ◌≤◌, ◌==◌, Bool, true, false, List, [], ◌∷◌, ◌++◌, length, map, refl, sym, ap, subst, ◌∙◌, arith, append_assoc, append-nil}
-use Rattle.std.specs.Prelude.{⊤, Option, Some, None, Result, Ok, Err, codes}
+use Rattle.std.proofs.Common.{◌≡◌, inl, ℕ, ◌<◌, ◌≤◌, true, false, List, [], ◌∷◌, ◌++◌, map, refl, sym, ap, subst, arith, append_assoc, append-nil}
+use Rattle.std.specs.Prelude.{Ok, codes}
 use Rattle.std.specs.List.{AllByRecursion}
 use Rattle.gev_types.specs.Filling.{Filling}
-use Rattle.hex.specs.Hex.{decode_of, encode_lower}
 use Rattle.gev_script.specs.Lines as line
 use Rattle.gev_script.specs.Lines.{ScriptLine}
 use Rattle.gev_report.specs.ReplayLines.{take_line}
 use Rattle.board_machine.specs.declared.events.Entry.{Entry}
 use Rattle.board_machine.specs.declared.events.Event.{Event}
-use Rattle.board_machine.specs.declared.events.Event.TheVariants.{LookOut, Grab, Lay, Pool, Claim, Fill, Take, Stop}
+use Rattle.board_machine.specs.declared.events.Event.TheVariants.{LookOut, Grab, Lay, Pool, Fill, Take}
 use Rattle.board_machine.specs.declared.events.TakeEnd.TheVariants.{Taken}
 use Rattle.board_machine.specs.Places.{times}
 use Rattle.board_machine.specs.Machine.{Board, Item, item}
 use Rattle.board_machine.specs.Ids.{buffer_at}
 use Rattle.board_machine.specs.Adding.{entries_of}
-use Rattle.board_machine.proofs.Adding.{entries_of-append}
 use Rattle.acquisition_machine.specs.declared.retired.Retired.{Retired}
-use Rattle.acquisition_machine.specs.Blocks.{Given}
-use Rattle.acquisition_machine.specs.Machine.{Input}
 use Rattle.acquisition_machine.specs.TurnLaws.{given_of}
-use Rattle.acquisition_machine.proofs.Order.{all_append}
 use Rattle.block_fills.specs.Fills.{item_of}
-use Rattle.mode_calls.specs.declared.mode.Mode.{Mode}
 use Rattle.mode_calls.specs.declared.mode.Mode.TheVariants.{OldestFirst}
 use Rattle.script_trace.specs.Trace.{Trace, board, caller, acquirer}
 use Rattle.script_trace.specs.Answers.{done_text}
 use Rattle.script_trace.specs.Modes.{FillsInMode}
 use Rattle.script_trace.specs.BoardLines.{TakeIfOpen}
-use Rattle.acquisition_laws.specs.Turns.{buffer_size}
-use Rattle.recorded_runs.specs.Script.{live_config}
 use Rattle.recorded_runs.proofs.Desk.{desk, uses, Done, done_both, done_none, fill_done, take_done, queue_done}
 use Rattle.recorded_runs.proofs.Holding.{places_in, IsLive}
 use Rattle.recorded_runs.proofs.Stages.{IsRecorded, Stage, Goes, adds, one_line, no_line, goes_both, has_event}
@@ -82,18 +74,20 @@ take_goes t r p f his out s low once =
     let said : List ℕ = take_line (buffer_at (board t) p) f in
     let es : List Entry = entries_of caller (Take (Taken p) ∷ Lay p ∷ []) in
     one_line t line.take es [] said r r his his out (item p f ∷ out) [] [] s
-    (subst (λ e. TakeIfOpen t e (adds t es [] said)) (sym event.is_open)
-    (0, inl (record {
-      place = p;
-      filling = f;
-      rest = out;
-      first = ap (λ (b : Board). b.out) s.is;
-      gets = Take (Taken p) ∷ [];
-      got = refl;
-      returns = Lay p ∷ [];
-      returned = refl;
-      is = refl;
-    })))
+    (subst (λ e. TakeIfOpen t e (adds t es [] said)) (sym event.is_open) (
+      0,
+      inl (record {
+        place = p;
+        filling = f;
+        rest = out;
+        first = ap (λ (b : Board). b.out) s.is;
+        gets = Take (Taken p) ∷ [];
+        got = refl;
+        returns = Lay p ∷ [];
+        returned = refl;
+        is = refl;
+      }),
+    ))
     (take_done r p f his out low once)
     (refl, (tt, tt))
 
@@ -112,11 +106,13 @@ pub queue_goes : (t : Trace) (r p : ℕ) (his : List ℕ) → Stage t r his [] [
 queue_goes t r p his s low free =
     let within : p < 15 = omega arith in
     one_line t (line.queue p 1) (entries_of caller (LookOut [] false ∷ Grab p 1 (Ok tt) ∷ Pool p ∷ [])) [] (done_text (codes "queue"))
-    r r his his [] [] (p ∷ []) [] s
-    (Ok tt, record {
-      events = LookOut [] false ∷ Grab p 1 (Ok tt) ∷ Pool p ∷ [];
-      kind = (within, record { output = []; is = refl });
-      is = refl;
-    })
+    r r his his [] [] (p ∷ []) [] s (
+      Ok tt,
+      record {
+        events = LookOut [] false ∷ Grab p 1 (Ok tt) ∷ Pool p ∷ [];
+        kind = (within, record { output = []; is = refl });
+        is = refl;
+      },
+    )
     (queue_done r p his low free)
     (tt, (tt, (tt, tt)))

@@ -1,22 +1,21 @@
 -- The lines of a turn of a recorded run: from rest to rest.
-use Rattle.std.proofs.Common.{◌≡◌, ◌≢◌, ◌⊎◌, inl, inr, ℕ, zero, suc, ◌+◌, ◌<◌, ◌≤◌, ◌==◌, Bool, true, false, List, [], ◌∷◌, ◌++◌, length, map, refl, sym, ap, subst, ◌∙◌, arith, append_assoc, append-nil}
-use Rattle.std.specs.Prelude.{⊤, Option, Some, None, Result, Ok, Err, codes}
+use Rattle.std.proofs.Common.{◌≡◌, ℕ, ◌+◌, ◌≤◌, ◌==◌, true, false, List, [], ◌∷◌, ◌++◌, map, refl, sym, ap, subst, ◌∙◌, arith, append-nil}
+use Rattle.std.specs.Prelude.{None, Ok, codes}
 use Rattle.std.specs.List.{AllByRecursion}
 use Rattle.hex.specs.Hex.{decode_of, encode_lower}
 use Rattle.gev_script.specs.Lines as line
 use Rattle.gev_script.specs.Lines.{ScriptLine}
 use Rattle.board_machine.specs.declared.events.Entry.{Entry}
 use Rattle.board_machine.specs.declared.events.Event.{Event}
-use Rattle.board_machine.specs.declared.events.Event.TheVariants.{Claim, Stop}
-use Rattle.board_machine.specs.Places.{same, times}
+use Rattle.board_machine.specs.declared.events.Event.TheVariants.{Stop}
+use Rattle.board_machine.specs.Places.{times}
 use Rattle.board_machine.specs.Machine.{Board, Item, places}
 use Rattle.board_machine.specs.Adding.{entries_of}
-use Rattle.board_machine.proofs.Adding.{entries_of-append}
 use Rattle.board_machine.proofs.Places.{times-append}
 use Rattle.acquisition_machine.specs.declared.retired.Retired.{Retired}
-use Rattle.acquisition_machine.specs.Blocks.{Given, Retirement, fills}
-use Rattle.acquisition_machine.specs.Machine.{Input, datagram, claimed, tick, stop, State, step}
-use Rattle.acquisition_machine.specs.Runs.{first_state, After, after_from, retired_from}
+use Rattle.acquisition_machine.specs.Blocks.{Retirement, fills}
+use Rattle.acquisition_machine.specs.Machine.{Input, datagram, tick, stop, State, step}
+use Rattle.acquisition_machine.specs.Runs.{first_state, After, after_from}
 use Rattle.acquisition_machine.specs.TurnLaws.{asked_by, given_of}
 use Rattle.acquisition_machine.proofs.Joining.{after_from-append}
 use Rattle.acquisition_machine.proofs.Order.{all_append}
@@ -30,7 +29,7 @@ use Rattle.script_trace.specs.StreamLines.{Settles, retired_by, requests_text, H
 use Rattle.script_trace.specs.Adding.{Spells}
 use Rattle.recorded_runs.specs.Script.{live_config, held_places, takes, stop_lines}
 use Rattle.recorded_runs.proofs.Desk.{desk, uses, Done, done_both, done_none}
-use Rattle.recorded_runs.proofs.Holding.{places_in, IsLive, Live, came_back, Settled, settled_datagram, settled_tick, settled_stop}
+use Rattle.recorded_runs.proofs.Holding.{places_in, Live, came_back, Settled, settled_datagram, settled_tick, settled_stop}
 use Rattle.recorded_runs.proofs.Stages.{IsRecorded, Stage, Goes, adds, one_line, goes_both}
 use Rattle.recorded_runs.proofs.StageLines.{fill_events, in_mode, fills_recorded, fills_done, takes_go}
 
@@ -97,10 +96,10 @@ settle_goes t l i calls said r run s live settled spells before all =
     let xs : List Retired = came_back (state_of t) i in
     let his : List ℕ = held_places (step live_config (state_of t) i).after in
     let done = done_both (desk run (held_places (state_of t)) [] []) (desk r (held_places (state_of t)) [] []) (desk r his (map item_of xs) [])
-        (entries_of caller calls) (entries_of acquirer (fill_events xs)) before (fills_back r (state_of t) i [] [] settled) in
+    (entries_of caller calls) (entries_of acquirer (fill_events xs)) before (fills_back r (state_of t) i [] [] settled) in
     let first = one_line t l (settling t calls i) (i ∷ []) said r run his (held_places (state_of t)) (map item_of xs) [] [] [] s
-        (spells (settles_is t calls i said s.mode)) done
-        (all_append IsRecorded (entries_of caller calls) (entries_of acquirer (fill_events xs)) all (fills_recorded xs)) in
+    (spells (settles_is t calls i said s.mode)) done
+    (all_append IsRecorded (entries_of caller calls) (entries_of acquirer (fill_events xs)) all (fills_recorded xs)) in
     let rest = takes_go first.to r xs his first.stage settled.back (once_settled (state_of t) i live settled) in
     subst (λ ls. Goes t (l ∷ ls) (i ∷ []) r his [] []) (sym (takes_one (state_of t) i))
     (goes_both t (l ∷ []) (take_each xs) (i ∷ []) [] r r his his [] (map item_of xs) [] [] first rest)
@@ -122,7 +121,7 @@ stop_goes t s live =
 -- ---- a datagram
 
 -- the stream is running
-running : (t : Trace) (his : List ℕ) (out : List Item) (pool : List ℕ) → Stage t 1 his out pool → ((board t).run == 1) ≡ true
+pub running : (t : Trace) (his : List ℕ) (out : List Item) (pool : List ℕ) → Stage t 1 his out pool → ((board t).run == 1) ≡ true
 running t his out pool s = ap (λ (b : Board). b.run == 1) s.is
 
 -- a datagram that asks for no buffer
@@ -133,6 +132,10 @@ heard_goes t bytes s live decoded quiet =
     let part : Part = adds t (settling t [] (datagram bytes)) (datagram bytes ∷ []) [] in
     settle_goes t (line.datagram (encode_lower bytes)) (datagram bytes) [] [] 1 1 s live
     (settled_datagram (state_of t) bytes live)
-    (λ x. (bytes, decoded, subst (λ v. HearsIfRunning live_config t bytes v part) (sym (running t (held_places (state_of t)) [] [] s))
-    (subst (λ a. Hears live_config t bytes a part) (sym quiet) x)))
+    (λ x. (
+      bytes,
+      decoded,
+      subst (λ v. HearsIfRunning live_config t bytes v part) (sym (running t (held_places (state_of t)) [] [] s))
+          (subst (λ a. Hears live_config t bytes a part) (sym quiet) x),
+    ))
     (done_none (desk 1 (held_places (state_of t)) [] [])) tt

@@ -6,4 +6,4 @@
 
 mod laws;
 
-pub use laws::script_tells_the_run;
+pub use laws::{recorded_runs_replay, rests_between_turns, script_tells_the_run};
