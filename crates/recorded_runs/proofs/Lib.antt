@@ -8,5 +8,6 @@ pub mod ClaimLines
 pub mod Begins
 pub mod RunLines
 pub mod Ends
+pub mod Marking
 pub mod LinesFit
 pub mod Replaying

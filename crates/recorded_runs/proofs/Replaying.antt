@@ -14,7 +14,7 @@ use Rattle.acquisition_machine.specs.Machine.{restart, stop, State, step}
 use Rattle.acquisition_machine.specs.Runs.{first_state, retired_from}
 use Rattle.acquisition_machine.specs.TurnLaws.{held}
 use Rattle.acquisition_laws.specs.Erased.{images}
-use Rattle.acquisition_laws.specs.Turns.{Noted, buffer_size, with_byte, with_bytes}
+use Rattle.acquisition_laws.specs.Turns.{Noted, IsRun, buffer_size, with_byte, with_bytes}
 use Rattle.acquisition_laws.proofs.Agreeing.{runs_agree}
 use Rattle.block_fills.specs.Fills.{item_of}
 use Rattle.script_trace.specs.Trace.{Trace, caller, acquirer}
@@ -27,6 +27,8 @@ use Rattle.recorded_runs.specs.Script.{live_config, held_places, run_inputs, aft
 use Rattle.recorded_runs.specs.Marks.{MarksTell, IsReceived, HasWidths}
 use Rattle.recorded_runs.specs.Laws.{taken_images, RecordedRunsReplay, IsAtRest, IsPlace, Between, RestsBetweenTurns}
 use Rattle.recorded_runs.proofs.Telling.{is_run}
+use Rattle.recorded_runs.proofs.Marking.{marked_runs, marks_front, marks_tell_the_script}
+use Rattle.acquisition_machine.proofs.Order.{all_front}
 use Rattle.recorded_runs.proofs.Desk.{desk, uses, three}
 use Rattle.recorded_runs.proofs.Holding.{Live, IsLive, places_in}
 use Rattle.recorded_runs.proofs.Stages.{Stage, Goes, to_both}
@@ -87,7 +89,9 @@ one_trace : (ts : List Noted) → AllByRecursion HasWidths ts → (a b : Trace) 
 one_trace ts widths a b = trace_one live_config (recorded_lines ts) opening a b (lines_fit ts widths)
 
 pub recorded_runs_replay : RecordedRunsReplay
-recorded_runs_replay ts q widths marks run =
+recorded_runs_replay ts q widths marked =
+    let marks = marks_tell_the_script ts q marked in
+    let run : IsRun live_config first_state ts q = marked_runs first_state ts q marked in
     let all = whole ts widths marks in
     let keeps : KeepsPromises live_config all.to = traces_keep live_config (recorded_lines ts) all.to (omega arith) (lines_fit ts widths) all.leads in
     let same : images (fills live_config.p (retired_from live_config first_state q))
@@ -140,7 +144,9 @@ between t s e stage live = record {
 }
 
 pub rests_between_turns : RestsBetweenTurns
-rests_between_turns front widths marks =
+rests_between_turns front back q all_widths marked =
+    let widths : AllByRecursion HasWidths front = all_front HasWidths front back all_widths in
+    let marks = marks_front first_state front back (marks_tell_the_script (front ++ back) q marked) in
     let ns : List Noted = map with_bytes front in
     let s : State = after_turns first_state ns in
     let turns = turns_go begins.to first_state first_there ns marks (all_tellable front widths) begins.stage first_live in

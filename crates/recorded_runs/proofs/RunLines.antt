@@ -160,8 +160,8 @@ turns_go t s e [] marks decoded stage live =
     let stays = no_line t 1 (held_places s) [] [] stage in
     record { goes = stays; live = live; is = state_after t stays.to [] stays.inputs ∙ e }
 turns_go t s e (n ∷ ns) marks decoded stage live =
-    let first = turn_goes t s e n marks.0 marks.1 stage live decoded.0 in
-    let rest = turns_go first.goes.to (after_turn s n) first.is ns marks.2 decoded.1 first.goes.stage first.live in
+    let first = turn_goes t s e n marks.0.0 marks.0.1 stage live decoded.0 in
+    let rest = turns_go first.goes.to (after_turn s n) first.is ns marks.1 decoded.1 first.goes.stage first.live in
     let new : State = after_turns (after_turn s n) ns in
     let all : Goes t (turns_lines s (n ∷ ns)) (turns_told s (n ∷ ns)) 1 (held_places new) [] [] =
     goes_both t (turn_lines s n) (turns_lines (after_turn s n) ns) (told_in s n) (turns_told (after_turn s n) ns) 1 1

@@ -16,7 +16,7 @@ is_told : (bytes : List ℕ) (claim : Bool) (place : ℕ) (asked : Option ℕ) �
 is_told bytes claim place None = refl
 is_told bytes claim place (Some b) = (told_outcome claim place, is_outcome claim place, refl)
 
-is_heard : (s : State) (received : Option (List ℕ)) (claim : Bool) → IsHeard live_config s received claim (heard s received claim)
+pub is_heard : (s : State) (received : Option (List ℕ)) (claim : Bool) → IsHeard live_config s received claim (heard s received claim)
 is_heard s None claim = refl
 is_heard s (Some bytes) claim = is_told bytes claim (queued_place s) (asked_by (step live_config s (datagram bytes)).need)
 

@@ -16,7 +16,7 @@ use Rattle.script_trace.specs.Adding.{Leads}
 use Rattle.acquisition_laws.specs.Erased.{images}
 use Rattle.acquisition_laws.specs.Turns.{Noted, IsRun, buffer_size, with_bytes}
 use Rattle.recorded_runs.specs.Script.{live_config, held_places, run_inputs, after_turns, first_lines, turns_lines, recorded_lines}
-use Rattle.recorded_runs.specs.Marks.{MarksTell, HasWidths}
+use Rattle.recorded_runs.specs.Marks.{MarksTell, IsMarkedRun, HasWidths}
 
 -- What the lines tell are the inputs of a run of these turns, with buffers at places of the script's own.
 abbrev pub ScriptTellsTheRun : Type 0
@@ -36,11 +36,13 @@ pub record Replays (ts : List Noted) (q : List Input) : Type 0 where
   pub taken : (t : Trace) → Leads live_config opening (recorded_lines ts) t
       → taken_images t ≡ images (fills live_config.p (retired_from live_config first_state q))
 
--- so it is of the turns of each run whose marks tell what happened
+-- so it is of each run whose marks tell what happened
 abbrev pub RecordedRunsReplay : Type 0
-RecordedRunsReplay =
-    (ts : List Noted) (q : List Input) → AllByRecursion HasWidths ts → MarksTell first_state (map with_bytes ts)
-    → IsRun live_config first_state ts q → Replays ts q
+RecordedRunsReplay = (ts : List Noted) (q : List Input) → AllByRecursion HasWidths ts → IsMarkedRun first_state ts q → Replays ts q
+
+-- The marks of a run tell the same of the inputs of its script, whose buffers lie at other places.
+abbrev pub MarksTellTheScript : Type 0
+MarksTellTheScript = (ts : List Noted) (q : List Input) → IsMarkedRun first_state ts q → MarksTell first_state (map with_bytes ts)
 
 -- ---- between two turns
 
@@ -74,5 +76,7 @@ pub record RestsBehind (front : List Noted) : Type 0 where
   pub leads : Leads live_config opening (first_lines ++ turns_lines first_state (map with_bytes front)) trace
   pub rests : Between trace (after_turns first_state (map with_bytes front))
 
+-- so it does behind the first turns of each such run, however many
 abbrev pub RestsBetweenTurns : Type 0
-RestsBetweenTurns = (front : List Noted) → AllByRecursion HasWidths front → MarksTell first_state (map with_bytes front) → RestsBehind front
+RestsBetweenTurns =
+    (front back : List Noted) (q : List Input) → AllByRecursion HasWidths (front ++ back) → IsMarkedRun first_state (front ++ back) q → RestsBehind front

@@ -1,9 +1,10 @@
 -- Which marks are those of a run.
-use Rattle.std.specs.Prelude.{◌≡◌, ⊤, ℕ, ◌<◌, ◌≤◌, ◌^◌, false, List, [], ◌∷◌, length, Option, Some, None}
+use Rattle.std.specs.Prelude.{◌≡◌, ⊤, ℕ, ◌<◌, ◌≤◌, ◌^◌, false, List, [], ◌∷◌, ◌++◌, length, Option, Some, None}
 use Rattle.std.specs.List.{AllByRecursion}
-use Rattle.acquisition_machine.specs.Machine.{State, datagram, step}
+use Rattle.acquisition_machine.specs.Machine.{Input, State, datagram, tick, stop, step}
+use Rattle.acquisition_machine.specs.Runs.{after_from}
 use Rattle.acquisition_machine.specs.TurnLaws.{asked_by}
-use Rattle.acquisition_laws.specs.Turns.{Noted}
+use Rattle.acquisition_laws.specs.Turns.{Noted, IsHeard}
 use Rattle.recorded_runs.specs.Script.{live_config, after_turn}
 
 abbrev pub block_or_zero : Option ℕ → ℕ
@@ -15,11 +16,23 @@ abbrev pub opened_in : State → Option (List ℕ) → ℕ
 opened_in s None = 0
 opened_in s (Some bytes) = block_or_zero (asked_by (step live_config s (datagram bytes)).need)
 
--- Each mark names the block that its turn opened, and a claim got a buffer only where one was opened.
+-- The mark names the block that its turn opened in this state, and its claim got a buffer only where one was
+-- opened.
+abbrev pub MarkTells : State → Noted → Type 0
+MarkTells s t = (t.mark.opened ≡ opened_in s t.received) × (t.mark.opened ≡ 0 → t.mark.claimed ≡ false)
+
+-- so does each, where the inputs are those of the script
 abbrev pub MarksTell : State → List Noted → Type 0
 MarksTell s [] = ⊤
-MarksTell s (t ∷ ts) =
-    (t.mark.opened ≡ opened_in s t.received) × (t.mark.opened ≡ 0 → t.mark.claimed ≡ false) × MarksTell (after_turn s t) ts
+MarksTell s (t ∷ ts) = MarkTells s t × MarksTell (after_turn s t) ts
+
+-- These are the inputs of a run of these turns from this state, and each mark tells what happened in its turn.
+abbrev pub IsMarkedRun : State → List Noted → List Input → Type 0
+IsMarkedRun s [] q = q ≡ stop ∷ []
+IsMarkedRun s (t ∷ ts) q =
+    (heard : List Input) × (rest : List Input) × IsHeard live_config s t.received t.mark.claimed heard
+    × (q ≡ (heard ++ tick t.mark.moment ∷ []) ++ rest) × MarkTells s t
+    × IsMarkedRun (after_from live_config s (heard ++ tick t.mark.moment ∷ [])) ts rest
 
 -- a datagram of at most 1,600 bytes, as a recorder takes it
 abbrev pub IsReceived : Option (List ℕ) → Type 0

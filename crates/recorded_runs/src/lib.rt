@@ -6,4 +6,6 @@
 
 mod laws;
 
-pub use laws::{recorded_runs_replay, rests_between_turns, script_tells_the_run};
+pub use laws::{
+    marks_tell_the_script, recorded_runs_replay, rests_between_turns, script_tells_the_run,
+};
