@@ -8,8 +8,8 @@ ghost use Rattle.gev_script.specs.Spelling.{IsScriptLine};
 use crate::fields::{SPACE, is};
 use crate::forms::{
     alone, announce_line, buffer_info_line, camera_header_line, close_all_line, command_line,
-    datagram_line, flush_line, header_line, info_line, mode_line, open_child_line, queue_line, revoke_line,
-    step_line, stop_line, tick_line,
+    datagram_line, flush_line, header_line, info_line, mode_line, open_child_line, queue_line,
+    revoke_line, step_line, stop_line, tick_line,
 };
 use crate::kind::ScriptKind;
 use crate::line::Line;

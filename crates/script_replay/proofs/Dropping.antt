@@ -1,5 +1,5 @@
 -- What claims and drops by a mode leave: hands, words, and what lies at the places.
-use Rattle.std.proofs.Common.{◌≡◌, ◌≢◌, ◌⊎◌, inl, inr, ℕ, ◌≤◌, Bool, true, false, if◌then◌else◌, List, [], ◌∷◌, ◌++◌, length, get_or, Option, Some, None, refl, sym, ap, subst, ◌∙◌, arith}
+use Rattle.std.proofs.Common.{◌≡◌, ◌≢◌, ◌⊎◌, inl, inr, ℕ, ◌≤◌, Bool, true, false, List, [], ◌∷◌, ◌++◌, length, get_or, Option, Some, None, refl, sym, ap, subst, ◌∙◌, arith}
 use Rattle.std.specs.Prelude.{⊤}
 use Rattle.std.specs.List.{AllByRecursion}
 use Rattle.gev_types.specs.Filling.{Filling}
@@ -33,8 +33,8 @@ use Rattle.script_trace.specs.Modes.{dropped}
 use Rattle.script_trace.proofs.Quiet.{IsQuiet, AreQuiet, drops_quiet}
 use Rattle.script_replay.specs.declared.fill_counts.FillCounts.{FillCounts}
 use Rattle.script_replay.specs.Boards.{LiesAsTold, IsLeftBy}
-use Rattle.script_replay.specs.Acquiring.{IsAway, AreApart, AreAway, with_board}
-use Rattle.script_replay.specs.Counting.{with_dropped, counted_on, blocks_in, counted_in}
+use Rattle.script_replay.specs.Acquiring.{IsAway, AreAway, with_board}
+use Rattle.script_replay.specs.Counting.{with_dropped, counted_claim, counted_on, blocks_in, counted_in}
 use Rattle.script_replay.proofs.Lines.{contents-append}
 
 -- ---- what lies at the places stays
@@ -157,9 +157,6 @@ claims_apart OldestFirstOverwrite b i j was_dropped es owned claims runs has = t
 claims_apart NewestOnly b i j was_dropped es owned claims runs has = takes_apart b i j was_dropped es owned claims runs has
 
 -- ---- how many a claim drops
-
-abbrev pub counted_claim : FillCounts → Bool → FillCounts
-counted_claim a was_dropped = if was_dropped then with_dropped a 1 else a
 
 abbrev claimed : Option (ℕ × Bool) → Bool
 claimed None = false

@@ -1,6 +1,6 @@
 -- How many buffers the acquisition filled into the output, how many of these were complete, and how many it
 -- dropped.
-use Rattle.std.specs.Prelude.{ℕ, ◌+◌, ◌-◌, ◌^◌, min, Bool, if◌then◌else◌, List, [], ◌∷◌, length}
+use Rattle.std.specs.Prelude.{ℕ, ◌+◌, ◌-◌, ◌^◌, ◌==◌, min, Bool, if◌then◌else◌, List, [], ◌∷◌, length}
 use Rattle.board_machine.specs.declared.events.Entry.{Entry}
 use Rattle.board_machine.specs.Machine.{Item}
 use Rattle.board_machine.specs.Histories.{own_of}
@@ -26,7 +26,11 @@ with_fill counts complete = record {
 
 -- with so many more that were dropped
 abbrev pub with_dropped : FillCounts → ℕ → FillCounts
-with_dropped counts n = record counts { dropped = min (counts.dropped + n) most_count }
+with_dropped counts n = if n == 0 then counts else record counts { dropped = min (counts.dropped + n) most_count }
+
+-- with a claimed place, where it was dropped for the claim
+abbrev pub counted_claim : FillCounts → Bool → FillCounts
+counted_claim counts was_dropped = if was_dropped then with_dropped counts 1 else counts
 
 -- with these, in order
 abbrev pub counted_on : FillCounts → List Item → FillCounts

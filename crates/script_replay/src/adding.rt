@@ -10,8 +10,8 @@ ghost use Rattle.script_replay.specs.Boards.{IsReady, Acts};
 ghost use Rattle.script_replay.specs.Acquiring.{KeepsLifted};
 ghost use Rattle.script_replay.specs.Replays.{IsReplaying, IsCall, IsRunIn, Fits, StepsInRange, Goes};
 
-use crate::answers::{line_done, line_refused};
 use crate::acquisition_lines::{datagram, start, stop, tick};
+use crate::answers::{line_done, line_refused};
 use crate::board_lines::{announce, event_flush, flush, info, kill, queue, revoke};
 use crate::buffer_lines::{buffer_info, take};
 use crate::closing_lines::close_all;

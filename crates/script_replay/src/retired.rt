@@ -7,7 +7,7 @@ ghost use Rattle.acq_core.specs.Receiver.{asked_block, buffers, KeepsBlocks};
 ghost use Rattle.acq_core.specs.Waiting.{waiting_fills, waiting_requests};
 ghost use Rattle.script_trace.specs.Trace.{acquirer};
 ghost use Rattle.script_replay.specs.Boards.{IsReady};
-ghost use Rattle.script_replay.specs.Counting.{with_fill, with_dropped};
+ghost use Rattle.script_replay.specs.Counting.{with_fill, with_dropped, counted_claim};
 ghost use Rattle.script_replay.specs.Acquiring.{IsAway, AreAway, CountsOne, FillsAll, Claims, lines_of};
 
 use crate::fill_counts::FillCounts;
@@ -36,7 +36,18 @@ fn count_fill(counts: &mut FillCounts, complete: bool)
 fn count_dropped(counts: &mut FillCounts, dropped: u8)
     ensures { counts.new ≡ with_dropped counts.old dropped }
 {
-    counts.dropped = counts.dropped.saturating_add(u64::from(dropped));
+    if dropped != 0 {
+        counts.dropped = counts.dropped.saturating_add(u64::from(dropped));
+    }
+}
+
+/// Counts a claimed place, where it was dropped for the claim.
+fn count_claimed(counts: &mut FillCounts, was_dropped: bool)
+    ensures { counts.new ≡ counted_claim counts.old was_dropped }
+{
+    if was_dropped {
+        count_dropped(counts, 1);
+    }
 }
 
 /// Fills a buffer into the output by the mode and counts it, or lays it where the stream was closed.
@@ -110,7 +121,7 @@ pub(crate) fn give_claimed(
 {
     match plain_claim_for(board, ACQUIRER, mode) {
         Some((place, was_dropped)) => {
-            count_dropped(counts, u8::from(was_dropped));
+            count_claimed(counts, was_dropped);
             let buf = board.lift(ACQUIRER, place);
             acq.give(Some((place, buf)));
         }

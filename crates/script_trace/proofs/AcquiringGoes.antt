@@ -1,12 +1,12 @@
 -- What the acquisition does can be done on the board: the buffers of its open blocks are in its hands.
-use Rattle.std.proofs.Common.{◌≡◌, ◌⊎◌, inl, inr, ℕ, zero, suc, ◌+◌, ◌<◌, ◌≤◌, Bool, true, false, List, [], ◌∷◌, ◌++◌, length, map, Option, Some, None, refl, sym, ap, subst, ◌∙◌, append_assoc, append-nil, arith}
+use Rattle.std.proofs.Common.{◌≡◌, ◌⊎◌, inl, inr, ℕ, zero, suc, ◌+◌, ◌≤◌, Bool, true, false, List, [], ◌∷◌, ◌++◌, map, Option, Some, None, refl, sym, ap, subst, ◌∙◌, append-nil, arith}
 use Rattle.std.specs.List.{AllByRecursion}
 use Rattle.std.proofs.lemmas.Bool.{cases_Bool}
 use Rattle.gev_types.specs.Filling.{Filling}
 use Rattle.gev_types.specs.Limits.{place_count}
 use Rattle.board_machine.specs.declared.events.Entry.{Entry}
 use Rattle.board_machine.specs.declared.events.Event.{Event}
-use Rattle.board_machine.specs.declared.events.Event.TheVariants.{Claim, Take, Pool, Fill}
+use Rattle.board_machine.specs.declared.events.Event.TheVariants.{Claim, Take, Pool}
 use Rattle.board_machine.specs.declared.events.TakeEnd.{TakeEnd}
 use Rattle.board_machine.specs.declared.events.TakeEnd.TheVariants as end
 use Rattle.board_machine.specs.Places.{same, times}
@@ -22,11 +22,11 @@ use Rattle.mode_calls.specs.declared.mode.Mode.{Mode}
 use Rattle.mode_calls.specs.declared.mode.Mode.TheVariants.{OldestFirst, OldestFirstOverwrite, NewestOnly}
 use Rattle.mode_calls.specs.Modes.{takes_and_pools, DropsFor, ClaimsFor}
 use Rattle.script_trace.specs.Trace.{acquirer}
-use Rattle.script_trace.specs.Modes.{laid_unless, FillsBlock, FillsInMode, place_of}
+use Rattle.script_trace.specs.Modes.{FillsInMode, place_of}
 use Rattle.script_trace.specs.StreamLines.{outcome}
 use Rattle.script_trace.proofs.Doing.{Goes, Has, after_events, after_both, goes_none, goes_first, goes_last, goes_both, has_first, has_rest, picked, dropped, just_picked}
 use Rattle.script_trace.proofs.Trees.{EndsDrops}
-use Rattle.script_trace.proofs.Quiet.{with_laid}
+use Rattle.script_trace.proofs.Quiet.{fills_block}
 use Rattle.script_trace.proofs.FlushesGo.{FillsSo, fill_can}
 
 abbrev pub places_of : List Given → List ℕ
@@ -193,18 +193,6 @@ still_held b new gs hs words hands is holds =
       there = λ j. omega (arith, hands j, holds.there j);
       sized = same_sizes b new gs (λ j. ap (λ ws. (word_at (record b { words = ws }) j).size) words) holds.sized;
     })
-
-fills_block : (mode : Mode) (x : Retired) (places : List ℕ) (front : List Event) (filled : Bool) → DropsFor mode places front
-    → FillsBlock mode x (front ++ filled_or_laid x.place x.buf filled)
-fills_block mode x places front filled drops = record {
-  dropped = places;
-  filled = filled;
-  call = front ++ Fill x.place x.buf filled ∷ [];
-  fills = record { front = front; drops = drops; is = refl };
-  is =
-      sym (append_assoc front (Fill x.place x.buf filled ∷ []) (laid_unless filled x.place)
-      ∙ ap (λ l. front ++ l) (with_laid x.place x.buf filled));
-}
 
 pub fills_all : (c : List (Option Filling)) (mode : Mode) (xs : List Retired) (b : Board) (rest : List Given) → IsActor b acquirer → Holds b (map given_of xs ++ rest)
     → FillsAll c mode b xs rest

@@ -1,16 +1,14 @@
 -- The acquisition's fills are the retired blocks.
-use Rattle.std.proofs.Common.{◌≡◌, ◌≢◌, inl, inr, ℕ, ◌≤◌, ◌==◌, cond, Bool, true, false, List, [], ◌∷◌, ◌++◌, map, refl, sym, ap, subst, ◌∙◌, append_assoc, append-nil, arith}
+use Rattle.std.proofs.Common.{◌≡◌, ◌≢◌, inl, inr, ℕ, ◌≤◌, ◌==◌, cond, Bool, true, false, List, [], ◌∷◌, ◌++◌, map, refl, sym, ap, subst, ◌∙◌, append-nil, arith}
 use Rattle.std.specs.Prelude.{⊤, Option, Some, None, Result, Ok, Err, unwrap_or, codes}
 use Rattle.std.specs.List.{AllByRecursion}
 use Rattle.std.proofs.lemmas.Bool.{ne_eqb}
-use Rattle.board_machine.specs.declared.events.Entry.{Entry}
 use Rattle.board_machine.specs.declared.events.Event.{Event}
 use Rattle.board_machine.specs.declared.events.Event.TheVariants.{Lay, Pool, Claim, Fill, Grab, Take, SweepPool, SweepOut, Close}
-use Rattle.board_machine.specs.Machine.{Item, entry, word_at}
+use Rattle.board_machine.specs.Machine.{entry, word_at}
 use Rattle.board_machine.specs.Histories.{own_of}
 use Rattle.board_machine.specs.Adding.{entries_of}
 use Rattle.board_machine.proofs.Runs.{own_of-append}
-use Rattle.board_calls.specs.Rounds.{filled_or_laid}
 use Rattle.gentl_types.specs.declared.errors.GcError.{GcError}
 use Rattle.gentl_handles.specs.declared.opened.Opened.{Opened}
 use Rattle.gentl_handles.specs.Closing.{is_among, closing}
@@ -19,12 +17,11 @@ use Rattle.gev_script.specs.declared.act.Act.TheVariants as act
 use Rattle.gev_script.specs.Lines as line
 use Rattle.gev_script.specs.Lines.{ScriptLine}
 use Rattle.acquisition_machine.specs.declared.config.AcqConfig.{AcqConfig}
-use Rattle.acquisition_machine.specs.declared.retired.Retired.{Retired}
-use Rattle.acquisition_machine.specs.Blocks.{Retirement, fills, fill_of}
+use Rattle.acquisition_machine.specs.Blocks.{Retirement, fills}
 use Rattle.acquisition_machine.specs.Machine.{Input, State, step, datagram, claimed, tick, stop}
-use Rattle.acquisition_machine.specs.Runs.{first_state, After, after_from, turn, retired_from}
+use Rattle.acquisition_machine.specs.Runs.{first_state, After, turn}
 use Rattle.acquisition_machine.specs.TurnLaws.{asked_by}
-use Rattle.acquisition_machine.proofs.Joining.{after_from-append, retired_from-append}
+use Rattle.acquisition_machine.proofs.Joining.{after_from-append}
 use Rattle.script_trace.specs.Trace.{Trace, Part, grown, board, caller, acquirer, acts, Calls}
 use Rattle.script_trace.specs.BoardLines.{TakeIfOpen, AsksBuffer, AsksLoan, open_event, is_of_loan, buffer}
 use Rattle.script_trace.specs.StreamLines.{retired_by, Settles, Restarts, StopsAcquiring, HeardAgain, Hears, HearsIfRunning, outcome, ModeIfRunning}
@@ -32,7 +29,7 @@ use Rattle.script_trace.specs.HandleLines.{ClosesHandle, ClosesStream}
 use Rattle.script_trace.specs.StepLines.{StepBy, StepInHand, FillStep, is_in_hand}
 use Rattle.script_trace.specs.Adding.{Spells, Leads}
 use Rattle.script_trace.specs.Opening.{opening}
-use Rattle.block_fills.specs.Fills.{tried_by, tried, item_of, retired_items}
+use Rattle.block_fills.specs.Fills.{tried, item_of, retired_items}
 use Rattle.block_fills.proofs.Tries.{tried-append, fills-append, items-append, items_from, items_from-append, entries-append}
 use Rattle.script_trace.specs.Fills.{tried_blocks}
 use Rattle.script_trace.specs.Modes.{place_of}

@@ -4,6 +4,7 @@ pub mod RunWord
 pub mod Quiet
 pub mod Starting
 pub mod Handing
+pub mod Counting
 pub mod Between
 pub mod Promises
 pub mod Meanings

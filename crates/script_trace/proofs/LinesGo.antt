@@ -21,7 +21,7 @@ use Rattle.board_machine.specs.declared.events.Event.{Event}
 use Rattle.board_machine.specs.declared.events.Event.TheVariants.{Grab, Lay, Pool, Claim, SweepPool, Fill, Take, SweepOut, Close}
 use Rattle.board_machine.specs.declared.events.TakeEnd.TheVariants as end
 use Rattle.board_machine.specs.Places.{times}
-use Rattle.board_machine.specs.Machine.{Board, Item, word_at, hand, places, IsActor, InHand, after_event}
+use Rattle.board_machine.specs.Machine.{Board, Item, word_at, hand, places, IsActor, InHand}
 use Rattle.board_machine.specs.Histories.{RunsFrom, Run, after_from}
 use Rattle.board_machine.specs.Ids.{buffer_at}
 use Rattle.board_machine.specs.Adding.{entries_of, KeepsActors}
@@ -45,7 +45,7 @@ use Rattle.script_trace.specs.Trace.{Trace, Part, grown, board, caller, acquirer
 use Rattle.script_trace.specs.Answers.{refused_text, done_text, answer_text, id_text, value_text}
 use Rattle.script_trace.specs.Contents.{contents_of, FillsFrom}
 use Rattle.script_trace.specs.BoardLines.{buffer, AnnounceLine, QueueLine, RevokeLine, FlushLine, TakeIfOpen, KillLine, EventFlushLine, InfoLine, AsksBuffer, is_of_loan, open_event}
-use Rattle.script_trace.specs.StreamLines.{retired_by, tells, Settles, Restarts, StartLine, StopsAcquiring, StopLine, requests_text, idles, outcome, told_twice, HeardAgain, Hears, HearsIfRunning, DatagramLine, sets_mode, ModeIfRunning, ModeLine}
+use Rattle.script_trace.specs.StreamLines.{retired_by, tells, Settles, Restarts, StartLine, StopsAcquiring, StopLine, requests_text, idles, outcome, told_twice, HeardAgain, Hears, HearsIfRunning, DatagramLine, sets_mode, ModeIfRunning}
 use Rattle.script_trace.specs.Modes.{mode_of, FillsInMode, place_of}
 use Rattle.script_trace.specs.HandleLines.{handles_are, OpenLine, left_open, ClosesStream, ClosesHandle}
 use Rattle.script_trace.specs.StepLines.{is_in_hand, grab_text, GrabStep, StepInHand, FillStep, ClaimStep, TakeStep, SweepPoolStep, SweepOutStep, StepLine, fill_text}

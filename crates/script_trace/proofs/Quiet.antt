@@ -5,7 +5,7 @@ use Rattle.std.specs.Prelude.{⊤, Option, Some, None}
 use Rattle.std.specs.List.{AllByRecursion}
 use Rattle.gev_types.specs.Filling.{Filling}
 use Rattle.board_machine.specs.declared.events.Event.{Event}
-use Rattle.board_machine.specs.declared.events.Event.TheVariants.{Claim, Take, Pool, Fill, Lay}
+use Rattle.board_machine.specs.declared.events.Event.TheVariants.{Claim, Take, Pool, Fill}
 use Rattle.board_machine.specs.Adding.{entries_of}
 use Rattle.board_calls.specs.Rounds.{filled_or_laid}
 use Rattle.acquisition_machine.specs.declared.retired.Retired.{Retired}
@@ -39,7 +39,7 @@ newest_quiet dropped es (inl d) =
     quiet_along es (takes_and_pools dropped ++ Take d.end ∷ []) d.is (all_append IsQuiet (takes_and_pools dropped) (Take d.end ∷ []) (pools_quiet dropped) (tt, tt))
 newest_quiet dropped es (inr d) = quiet_along es (takes_and_pools dropped) d.is (pools_quiet dropped)
 
-drops_quiet : (mode : Mode) (dropped : List ℕ) (es : List Event) → DropsFor mode dropped es → AreQuiet es
+pub drops_quiet : (mode : Mode) (dropped : List ℕ) (es : List Event) → DropsFor mode dropped es → AreQuiet es
 drops_quiet OldestFirst dropped es (none, is) = quiet_along es [] is tt
 drops_quiet OldestFirstOverwrite dropped es (none, is) = quiet_along es [] is tt
 drops_quiet NewestOnly dropped es drops = newest_quiet dropped es drops
@@ -92,7 +92,7 @@ pub record BlockParts (mode : Mode) (x : Retired) (es : List Event) : Type 0 whe
   pub quiet : AreQuiet front
   pub is : es ≡ front ++ filled_or_laid x.place x.buf filled
 
-pub with_laid : (i : ℕ) (f : Filling) (filled : Bool) → Fill i f filled ∷ laid_unless filled i ≡ filled_or_laid i f filled
+with_laid : (i : ℕ) (f : Filling) (filled : Bool) → Fill i f filled ∷ laid_unless filled i ≡ filled_or_laid i f filled
 with_laid i f true = refl
 with_laid i f false = refl
 
@@ -108,6 +108,19 @@ block_parts mode x es b = record {
       ∙ (ap (λ l. l ++ laid_unless b.filled x.place) b.fills.is
       ∙ (append_assoc b.fills.front (Fill x.place x.buf b.filled ∷ []) (laid_unless b.filled x.place)
       ∙ ap (λ l. b.fills.front ++ l) (with_laid x.place x.buf b.filled)));
+}
+
+-- drops and a fill are one
+pub fills_block : (mode : Mode) (x : Retired) (places : List ℕ) (front : List Event) (filled : Bool) → DropsFor mode places front
+    → FillsBlock mode x (front ++ filled_or_laid x.place x.buf filled)
+fills_block mode x places front filled drops = record {
+  dropped = places;
+  filled = filled;
+  call = front ++ Fill x.place x.buf filled ∷ [];
+  fills = record { front = front; drops = drops; is = refl };
+  is =
+      sym (append_assoc front (Fill x.place x.buf filled ∷ []) (laid_unless filled x.place)
+      ∙ ap (λ l. front ++ l) (with_laid x.place x.buf filled));
 }
 
 fill_tried : (k : ℕ) (x : Retired) (filled : Bool) → tried (entries_of k (filled_or_laid x.place x.buf filled)) ≡ item_of x ∷ []

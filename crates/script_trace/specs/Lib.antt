@@ -12,5 +12,6 @@ pub mod Ending
 pub mod Wide
 pub mod Standing
 pub mod Fills
+pub mod Takes
 pub mod Laws
 pub mod Worked

@@ -10,7 +10,7 @@ use Rattle.mode_calls.specs.declared.mode.Mode.{Mode}
 use Rattle.mode_calls.specs.declared.mode.Mode.TheVariants.{OldestFirst, OldestFirstOverwrite, NewestOnly}
 use Rattle.mode_calls.specs.Modes.{FillsFor}
 use Rattle.mode_calls.specs.Dropped.{others}
-use Rattle.script_trace.specs.Trace.{Trace, acquirer}
+use Rattle.script_trace.specs.Trace.{acquirer}
 
 -- the mode that a line's number names; the grammar has 0 to 2
 abbrev pub mode_of : ℕ → Mode

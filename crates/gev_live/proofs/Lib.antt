@@ -1,0 +1,9 @@
+pub mod Apart
+pub mod Quiet
+pub mod Stories
+pub mod Statuses
+pub mod Telling
+pub mod Taking
+pub mod CameraPart
+pub mod ApplicationPart
+pub mod Meaning
