@@ -19,10 +19,10 @@ use Rattle.acquisition_laws.proofs.Lists.{bares-append, after-bares, retired-bar
 
 -- ---- lists of inputs that are alike
 
-abbrev AreInputsAlike : List Input → List Input → Type 0
+abbrev pub AreInputsAlike : List Input → List Input → Type 0
 AreInputsAlike q p = map bare_input q ≡ map bare_input p
 
-abbrev AreRetiredAlike : List Retirement → List Retirement → Type 0
+abbrev pub AreRetiredAlike : List Retirement → List Retirement → Type 0
 AreRetiredAlike a b = map bare_retirement a ≡ map bare_retirement b
 
 after_alike : (c : AcqConfig) (s r : State) (q p : List Input) → AreAlike s r → AreInputsAlike q p → AreAlike (after_from c s q) (after_from c r p)
@@ -39,7 +39,7 @@ retired_alike c s r q p e same =
     ∙ (ap (λ l. retired_from c (bare_state r) l) same
     ∙ retired-bares c r p))
 
-need_alike : (c : AcqConfig) (s r : State) (bytes : List ℕ) → AreAlike s r → (step c s (datagram bytes)).need ≡ (step c r (datagram bytes)).need
+pub need_alike : (c : AcqConfig) (s r : State) (bytes : List ℕ) → AreAlike s r → (step c s (datagram bytes)).need ≡ (step c r (datagram bytes)).need
 need_alike c s r bytes e =
     sym (ap (λ (t : Turn). t.need) (step-bare c s (datagram bytes)))
     ∙ (ap (λ (t : Turn). t.need) (step-counts c (bare_state s) (bare_state r) (datagram bytes) e)
@@ -63,7 +63,7 @@ told_alike bytes claim (Some n) told also a b =
     ∙ sym (ap (map bare_input) b.2))
 
 -- what a turn comes to
-record GoesAlike (c : AcqConfig) (s r : State) (q p : List Input) : Type 0 where
+pub record GoesAlike (c : AcqConfig) (s r : State) (q p : List Input) : Type 0 where
   pub after : AreAlike (after_from c s q) (after_from c r p)
   pub retired : AreRetiredAlike (retired_from c s q) (retired_from c r p)
 
@@ -79,7 +79,7 @@ empty_turn : (c : AcqConfig) (s : State) → step c s (datagram []) ≡ ignored 
 unfolding reading header_of
 empty_turn c s = refl
 
-empty_asks : (c : AcqConfig) (s : State) → asked_by (step c s (datagram [])).need ≡ None
+pub empty_asks : (c : AcqConfig) (s : State) → asked_by (step c s (datagram [])).need ≡ None
 empty_asks c s = ap (λ (t : Turn). asked_by t.need) (empty_turn c s)
 
 empty_alike : (c : AcqConfig) (s r : State) → AreAlike s r → s.asked ≡ None → AreAlike (step c s (datagram [])).after r
@@ -87,7 +87,7 @@ empty_alike c s r e none =
     ap (λ (t : Turn). uncounted (bare_state t.after)) (empty_turn c s)
     ∙ (ap (λ (a : Option ℕ). uncounted (bare_state (record s { asked = a }))) (sym none) ∙ e)
 
-turn_alike : (c : AcqConfig) (s r : State) (received : Option (List ℕ)) (claim : Bool) (moment : ℕ) (h k : List Input) → AreAlike s r → s.asked ≡ None
+pub turn_alike : (c : AcqConfig) (s r : State) (received : Option (List ℕ)) (claim : Bool) (moment : ℕ) (h k : List Input) → AreAlike s r → s.asked ≡ None
     → IsHeard c s received claim h → IsHeard c r (with_byte received) claim k → GoesAlike c s r (h ++ tick moment ∷ []) (k ++ tick moment ∷ [])
 turn_alike c s r None claim moment h k e none a b =
     goes_alike c s r (h ++ tick moment ∷ []) (k ++ tick moment ∷ []) e (with_tick moment h k (ap (map bare_input) (a ∙ sym b)))
@@ -110,7 +110,7 @@ turn_alike c s r (Some (n ∷ bytes)) claim moment h k e none a b =
 -- ---- runs
 
 -- after a tick no claim is awaited
-asked_after : (c : AcqConfig) (s : State) (moment : ℕ) (h : List Input) → (after_from c s (h ++ tick moment ∷ [])).asked ≡ None
+pub asked_after : (c : AcqConfig) (s : State) (moment : ℕ) (h : List Input) → (after_from c s (h ++ tick moment ∷ [])).asked ≡ None
 asked_after c s moment h = ap (λ (u : State). u.asked) (after_from-append c s h (tick moment ∷ []))
 
 retired_joined : (c : AcqConfig) (s r : State) (q rest p also : List Input) → AreRetiredAlike (retired_from c s q) (retired_from c r p)

@@ -125,7 +125,7 @@ input_counted c b ds s (tick moment) =
 input_counted c b ds s stop = retired_silent c b ds s.floor (step c s stop).retired s.counts ∙ sym (turns_are_counted c s stop).1
 input_counted c b ds s restart = sym (turns_are_counted c s restart).1
 
-inputs_counted : (c : AcqConfig) (b : Board) (ds : List (List Item)) (s : State) (q : List Input) → counted (notes_from c b ds s q) s.counts ≡ (after_from c s q).counts
+pub inputs_counted : (c : AcqConfig) (b : Board) (ds : List (List Item)) (s : State) (q : List Input) → counted (notes_from c b ds s q) s.counts ≡ (after_from c s q).counts
 inputs_counted c b ds s [] = refl
 inputs_counted c b ds s (i ∷ q) =
     let rest : List Note = notes_from c b (after_turn ds s i (step c s i)) (step c s i).after q in

@@ -3,3 +3,4 @@ pub mod Opened
 pub mod Spans
 pub mod Reasoned
 pub mod Rows
+pub mod OfInputs

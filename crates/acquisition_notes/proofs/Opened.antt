@@ -21,7 +21,7 @@ use Rattle.acquisition_notes.specs.Inputs.{drop_notes, first_dropped, gap, ended
 use Rattle.acquisition_notes.specs.Counted.{is_opening, is_ending, times_so}
 use Rattle.acquisition_notes.specs.Laws.{OpenedAreAccounted}
 
-times-append : (test : Note → Bool) (xs ys : List Note) → times_so test (xs ++ ys) ≡ times_so test xs + times_so test ys
+pub times-append : (test : Note → Bool) (xs ys : List Note) → times_so test (xs ++ ys) ≡ times_so test xs + times_so test ys
 times-append test [] ys = let e : times_so test ys ≡ 0 + times_so test ys = omega arith in e
 times-append test (x ∷ xs) ys = omega (arith, times-append test xs ys)
 
@@ -170,7 +170,7 @@ turn_balances c b ds s stop some sound =
 turn_balances c b ds s restart some sound =
     record { opened = 0; ended = 0; tells = none; balance = omega (arith, kept_open c s restart some sound (λ claim. claim)) }
 
-run_balances : (c : AcqConfig) (b : Board) (ds : List (List Item)) (s : State) (q : List Input) → 1 ≤ c.window → IsSound c s
+pub run_balances : (c : AcqConfig) (b : Board) (ds : List (List Item)) (s : State) (q : List Input) → 1 ≤ c.window → IsSound c s
     → length s.opens + times_so is_opening (notes_from c b ds s q) ≡ times_so is_ending (notes_from c b ds s q) + length (after_from c s q).opens
 run_balances c b ds s [] some sound = omega arith
 run_balances c b ds s (i ∷ q) some sound =

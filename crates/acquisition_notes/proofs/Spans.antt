@@ -23,7 +23,7 @@ use Rattle.acquisition_notes.specs.Laws.{IsBeginning, BlocksAreAccounted}
 -- ---- spans that join
 
 -- each begins where the one before it ended
-abbrev Joins : ℕ → ℕ → List (ℕ × ℕ) → Type 0
+abbrev pub Joins : ℕ → ℕ → List (ℕ × ℕ) → Type 0
 Joins low high [] = low ≡ high
 Joins low high (r ∷ rs) = (r.0 ≡ low) × (r.0 ≤ r.1) × Joins (r.1 + 1) high rs
 
@@ -78,7 +78,7 @@ covered low high (r ∷ rs) j = covered_on low high r rs j.0 j.1 (covered (r.1 +
 
 -- ---- the spans of notes
 
-spans-append : (xs ys : List Note) → spans (xs ++ ys) ≡ spans xs ++ spans ys
+pub spans-append : (xs ys : List Note) → spans (xs ++ ys) ≡ spans xs ++ spans ys
 spans-append [] ys = refl
 spans-append (idle bytes ∷ xs) ys = spans-append xs ys
 spans-append (ignored why x ∷ xs) ys = spans-append xs ys
@@ -162,14 +162,14 @@ retired_joins c b ds low (x ∷ rs) some r =
     (gap_joins low x.was.block some r.0) (refl, omega arith, rest))
 
 -- The spans since the acquisition began: none while nothing retired, else they join from the first block on.
-record HasBegun (floor : ℕ) (rs : List (ℕ × ℕ)) : Type 0 where
+pub record HasBegun (floor : ℕ) (rs : List (ℕ × ℕ)) : Type 0 where
   pub block : ℕ
   pub rest : List (ℕ × ℕ)
   pub some : 1 ≤ block
   pub are : rs ≡ (block, block) ∷ rest
   pub joins : Joins (block + 1) floor rest
 
-abbrev Accounts : ℕ → List (ℕ × ℕ) → Type 0
+abbrev pub Accounts : ℕ → List (ℕ × ℕ) → Type 0
 Accounts floor rs = ((rs ≡ []) × (floor ≡ 1)) ⊎ HasBegun floor rs
 
 from_first : (c : AcqConfig) (b : Board) (ds : List (List Item)) (rs : List Retirement) → RetireFrom 1 rs → Accounts (floor_after 1 rs) (spans (retired_notes c b ds 1 rs))
@@ -233,7 +233,7 @@ the_rest stop q h = h
 the_rest restart q h = absurd h
 
 -- from the inputs before on
-run_accounts : (c : AcqConfig) (b : Board) (ds : List (List Item)) (before : List Input) (told : List (ℕ × ℕ)) (q : List Input) → 1 ≤ c.window → HasNoRestart q
+pub run_accounts : (c : AcqConfig) (b : Board) (ds : List (List Item)) (before : List Input) (told : List (ℕ × ℕ)) (q : List Input) → 1 ≤ c.window → HasNoRestart q
     → Accounts (After c before).floor told → Accounts (After c (before ++ q)).floor (told ++ spans (notes_from c b ds (After c before) q))
 run_accounts c b ds before told [] some h a =
     subst (λ (l : List Input). Accounts (After c l).floor (told ++ [])) (sym (append-nil before))
@@ -261,7 +261,7 @@ begins_low : (c : AcqConfig) (before : List Input) → IsBeginning before → (A
 begins_low c before (inl none) = ap (λ (l : List Input). (After c l).floor) none
 begins_low c before (inr begun) = ap (λ (l : List Input). (After c l).floor) begun.1 ∙ ap (λ (s : State). s.floor) (after_from-append c first_state begun.0 (restart ∷ []))
 
-accounted : (floor : ℕ) (rs : List (ℕ × ℕ)) → Accounts floor rs → AreAccounted rs floor
+pub accounted : (floor : ℕ) (rs : List (ℕ × ℕ)) → Accounts floor rs → AreAccounted rs floor
 accounted floor rs (inl none) = subst (λ l. AreAccounted l floor) (sym none.0) none.1
 accounted floor rs (inr begun) =
     subst (λ l. AreAccounted l floor) (sym begun.are)

@@ -8,17 +8,14 @@ use Rattle.stream_packets.specs.Packets.{StreamPacket, leader, payload, trailer,
 use Rattle.gvsp_wire.specs.Reading.{packet_of}
 use Rattle.block_reasons.specs.Reasons.{reasons}
 use Rattle.block_reasons.specs.Lost.{lost}
-use Rattle.board_machine.specs.Machine.{Board, Item, word_at}
+use Rattle.board_machine.specs.Machine.{Board, Item}
+use Rattle.board_machine.specs.Ids.{buffer_at}
 use Rattle.acquisition_machine.specs.declared.config.AcqConfig.{AcqConfig}
 use Rattle.acquisition_machine.specs.declared.need.Need.{Need}
 use Rattle.acquisition_machine.specs.declared.need.Need.TheVariants.{Buffer, Done, Ignored}
 use Rattle.acquisition_machine.specs.Blocks.{Given, Open, Cause, Retirement, kept_in, has_whole, ranges_asked}
 use Rattle.acquisition_machine.specs.Machine.{Input, datagram, claimed, tick, stop, restart, State, Turn, settled, unasked, step}
 use Rattle.acquisition_notes.specs.Notes.{Outcome, Note, ignored, leads, opens, asks, first, absent, drops, done, unbuffered}
-
--- the buffer at this place
-abbrev pub buffer_at : Board → ℕ → BufferId
-buffer_at b place = record { place = place; generation = (word_at b place).generation }
 
 -- ---- what was dropped
 

@@ -9,6 +9,8 @@ mod heard;
 mod hearing;
 mod laws;
 mod sending;
+#[cfg(test)]
+mod tests;
 mod turn;
 mod turn_once;
 mod turning;

@@ -47,12 +47,10 @@ came_home acts s t given worked u v c are = record {
 joins_given : (s t given worked u v : Token) → CameHome s t given worked u v → Enters u (Join given.number) v
 joins_given s t given worked u v c = subst (λ n. Enters u (Join n) v) c.number c.joins
 
-pub crew_hosted : (s one two three home back u a worked_a b worked_b d worked_d : Token) (ka kb kd : Event → Bool) → CrewHome s one two three home back u a worked_a b worked_b d worked_d
-    → AreOf ka (own worked_a) → AreOf kb (own worked_b) → AreOf kd (own worked_d) → IsChildless ka → IsChildless kb → IsChildless kd
-    → HostedAll s.seen is_hosts u.seen (home_worker kd d worked_d ∷ home_worker kb b worked_b ∷ home_worker ka a worked_a ∷ [])
-crew_hosted s one two three home back u a worked_a b worked_b d worked_d ka kb kd w are_a are_b are_d none_a none_b none_d =
-    hosted_all s.seen is_hosts u split_off (third ∷ second ∷ first ∷ []) all_home
-    (subst (λ n. IsActor (After u.seen) n) all_home.number w.actor) (none_d, (none_b, (none_a, tt))) (λ n there. omega (arith, there))
+pub crew_hosts : (s one two three home back u a worked_a b worked_b d worked_d : Token) (ka kb kd : Event → Bool) → CrewHome s one two three home back u a worked_a b worked_b d worked_d
+    → AreOf ka (own worked_a) → AreOf kb (own worked_b) → AreOf kd (own worked_d)
+    → Hosts s.seen is_hosts u (a.number ∷ b.number ∷ d.number ∷ []) (home_worker kd d worked_d ∷ home_worker kb b worked_b ∷ home_worker ka a worked_a ∷ [])
+crew_hosts s one two three home back u a worked_a b worked_b d worked_d ka kb kd w are_a are_b are_d = all_home
   where
     split_off : List ℕ
     split_off = a.number ∷ b.number ∷ d.number ∷ []
@@ -82,6 +80,16 @@ crew_hosted s one two three home back u a worked_a b worked_b d worked_d ka kb k
     all_home : Hosts s.seen is_hosts u split_off (third ∷ second ∷ first ∷ [])
     all_home = hosts_joins s.seen is_hosts back u split_off (second ∷ first ∷ []) third two_home refl
         (joins_given two three d worked_d back u w.third) (came_home kd two three d worked_d back u w.third are_d)
+
+pub crew_hosted : (s one two three home back u a worked_a b worked_b d worked_d : Token) (ka kb kd : Event → Bool) → CrewHome s one two three home back u a worked_a b worked_b d worked_d
+    → AreOf ka (own worked_a) → AreOf kb (own worked_b) → AreOf kd (own worked_d) → IsChildless ka → IsChildless kb → IsChildless kd
+    → HostedAll s.seen is_hosts u.seen (home_worker kd d worked_d ∷ home_worker kb b worked_b ∷ home_worker ka a worked_a ∷ [])
+crew_hosted s one two three home back u a worked_a b worked_b d worked_d ka kb kd w are_a are_b are_d none_a none_b none_d =
+    hosted_all s.seen is_hosts u (a.number ∷ b.number ∷ d.number ∷ []) (home_worker kd d worked_d ∷ home_worker kb b worked_b ∷ home_worker ka a worked_a ∷ []) hosts
+    (subst (λ n. IsActor (After u.seen) n) hosts.number w.actor) (none_d, (none_b, (none_a, tt))) (λ n there. omega (arith, there))
+  where
+    hosts : Hosts s.seen is_hosts u (a.number ∷ b.number ∷ d.number ∷ []) (home_worker kd d worked_d ∷ home_worker kb b worked_b ∷ home_worker ka a worked_a ∷ [])
+    hosts = crew_hosts s one two three home back u a worked_a b worked_b d worked_d ka kb kd w are_a are_b are_d
 
 -- each worker has a number of its own
 pub crew_apart : (s one two three home back u a worked_a b worked_b d worked_d : Token) → CrewHome s one two three home back u a worked_a b worked_b d worked_d

@@ -7,3 +7,9 @@ pub mod Taking
 pub mod CameraPart
 pub mod ApplicationPart
 pub mod Meaning
+pub mod Steady
+pub mod Unstopped
+pub mod Splitting
+pub mod Looking
+pub mod Emptied
+pub mod Handing

@@ -1,5 +1,5 @@
 -- A live run by what its workers promised.
-use Rattle.std.proofs.Common.{◌≡◌, inl, inr, ℕ, zero, suc, List, [], ◌++◌, Option, Result, refl, sym, subst, append-nil, ◌≤◌, length}
+use Rattle.std.proofs.Common.{◌≡◌, inl, inr, ℕ, zero, suc, List, [], ◌∷◌, ◌++◌, Option, Result, refl, sym, subst, append-nil, ◌≤◌, length}
 use Rattle.gev_types.specs.declared.memory.NoMemory as memory
 use Rattle.board_machine.specs.declared.events.Entry.{Entry}
 use Rattle.board_machine.specs.declared.events.Event.TheVariants.{Join}
@@ -7,9 +7,9 @@ use Rattle.board_machine.specs.Places.{IsPrefix}
 use Rattle.board_machine.specs.Histories.{own_of, After}
 use Rattle.board_machine.specs.Machine.{empty_board, IsActor}
 use Rattle.board_machine.specs.Laws.{IsAlone}
-use Rattle.board_machine.specs.Kinds.{HasNone, is_fill_refused}
+use Rattle.board_machine.specs.Kinds.{HasNone, is_fill_refused, is_stop}
 use Rattle.buffer_words.specs.Passes.{Token, own}
-use Rattle.buffer_words.specs.Workers.{AreOf}
+use Rattle.buffer_words.specs.Workers.{AreOf, Hosts}
 use Rattle.client_machine.specs.Machine.{new_client}
 use Rattle.acquisition_machine.specs.declared.config.AcqConfig.{AcqConfig}
 use Rattle.camera_machine.specs.Camera.{Camera}
@@ -20,7 +20,7 @@ use Rattle.gev_control.specs.declared.acq_end.AcqEnd.{AcqEnd}
 use Rattle.gev_status.specs.declared.status.Status.{Status}
 use Rattle.gev_status.specs.declared.status.Status.TheVariants.{NoMemory}
 use Rattle.gev_crew.specs.Prepared.{Prepares, SawOnly}
-use Rattle.gev_reader.specs.Kinds.{is_strict_readers}
+use Rattle.gev_reader.specs.Kinds.{is_readers, is_strict_readers}
 use Rattle.gev_reader.specs.History.{LiveReading}
 use Rattle.gev_reader.proofs.Whole.{part_stays, part_fills, part_sized}
 use Rattle.gev_reader.proofs.Strict.{part_lays_nothing}
@@ -34,6 +34,10 @@ use Rattle.gev_live.proofs.CameraPart.{camera_part}
 use Rattle.gev_live.proofs.ApplicationPart.{application_part}
 use Rattle.gev_live.specs.Parts.{LiveCamera, LiveApplication}
 use Rattle.gev_live.proofs.Meaning.{links_stay, link_failed, answer_means, spent_all, never_spent}
+use Rattle.buffer_words.proofs.Working.{works_own}
+use Rattle.gev_crew.specs.Kinds.{is_cameras, is_applications, is_hosts}
+use Rattle.gev_crew.proofs.Crews.{home_worker, crew_hosts}
+use Rattle.gev_live.proofs.Handing.{camera_stops_nothing, host_stops_nothing, all_or_empty}
 use Rattle.gev_live.proofs.Stories.{seen_more, prefix_then, home_own, home_prefix, Story, crew_of, live_history}
 
 -- what was seen when a worker was home stands in all that is seen at the end
@@ -78,6 +82,9 @@ ran_live n camera stream answer o e served read taken lines written written_afte
   ended = ends;
   steady = links_stay (live_camera n.seed) o e served read n.frames n.turns taken answer served_part r.faults ends.cause;
   failed = link_failed (live_camera n.seed) o e served read n.frames n.turns taken answer served_part r.faults ends.cause;
+  none_left = all_or_empty live_config n.buffers (crew_of r.a r.b r.d) served read r.reads.made o.app_clock e.app_clock n.frames n.turns lines taken answer u.seen history reading taken_part
+      (λ well. subst (λ l. HasNone is_stop l) (sym own_a) (camera_stops_nothing served (live_camera n.seed) o.camera e.camera o.camera_clock e.camera_clock r.a r.worked_a well r.crew.first.new r.serves))
+      (host_stops_nothing live_size n.buffers s u _ _ saw hosts) ends.cause;
   means = answer_means served read n.frames n.turns (length r.reads.made) lines taken_part.made taken answer taken_part.told_lines
       (spent_all stream r.reads.on.setup_end read n.turns r.reads.made (never_spent stream new_client r.reads.on.setup r.reads.on.setup_end r.reads.on.client r.reads.on.set_up_by) r.reads.on.ends) ends.cause;
 }
@@ -107,6 +114,13 @@ ran_live n camera stream answer o e served read taken lines written written_afte
 
     history : LiveHistory n.buffers (crew_of r.a r.b r.d) u.seen
     history = live_history n.buffers s r.one r.two r.three r.home r.back u r.a r.worked_a r.b r.worked_b r.d r.worked_d story
+
+    own_a : own_of r.a.number u.seen ≡ own r.worked_a
+    own_a = home_own s r.one r.a r.worked_a r.three r.home u.seen r.crew.first (first_in r) r.crew.ended_run
+
+    hosts : Hosts s.seen is_hosts u (r.a.number ∷ r.b.number ∷ r.d.number ∷ []) (home_worker is_applications r.d r.worked_d ∷ home_worker is_readers r.b r.worked_b ∷ home_worker is_cameras r.a r.worked_a ∷ [])
+    hosts = crew_hosts s r.one r.two r.three r.home r.back u r.a r.worked_a r.b r.worked_b r.d r.worked_d is_cameras is_readers is_applications r.crew
+        (works_own is_cameras r.a r.worked_a r.crew.first.new r.camera_works) (works_own is_readers r.b r.worked_b r.crew.second.new r.reader_works) (works_own is_applications r.d r.worked_d r.crew.third.new r.application_works)
 
     served_part : LiveCamera (live_camera n.seed) o.camera e.camera o.camera_clock e.camera_clock served
     served_part = camera_part served (live_camera n.seed) r.serves.camera o.camera e.camera o.camera_clock e.camera_clock r.a r.serves.middle r.serves.serves

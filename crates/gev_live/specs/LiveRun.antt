@@ -1,5 +1,5 @@
 -- A live run: its history, what each worker did, how it ended, and what was written.
-use Rattle.std.specs.Prelude.{◌≡◌, ◌≢◌, ◌⊎◌, ⊤, ℕ, ◌<◌, length, List, ◌++◌, Option, Result}
+use Rattle.std.specs.Prelude.{◌≡◌, ◌≢◌, ◌⊎◌, ⊤, ℕ, ◌<◌, true, length, List, [], ◌++◌, Option, Result}
 use Rattle.gev_types.specs.declared.memory.NoMemory.{NoMemory}
 use Rattle.board_machine.specs.declared.events.Entry.{Entry}
 use Rattle.board_machine.specs.Histories.{After}
@@ -17,7 +17,7 @@ use Rattle.board_machine.specs.Adding.{entries_of}
 use Rattle.board_machine.specs.declared.events.Event.{Event}
 use Rattle.gev_live.specs.Told.{Told, live_config, live_camera}
 use Rattle.gev_live.specs.History.{Crew, live_size, LiveHistory}
-use Rattle.gev_live.specs.Endings.{taken_of, status_by, EndsSo}
+use Rattle.gev_live.specs.Endings.{taken_of, status_by, is_told, EndsSo}
 use Rattle.gev_live.specs.Parts.{LiveReader, LiveCamera, LiveApplication}
 
 -- what is asked of a live run
@@ -63,6 +63,8 @@ pub record LiveRun (n : Numbers) (camera stream : Address) (answer : Status) (o 
   pub ended : EndsSo (status_by served read n.frames n.turns applied) answer (lines ++ live_line n.frames (taken_of applied)) written written_after faults faults_after
   pub steady : answer ≢ status.LinkFault → LinksStay o e
   pub failed : answer ≡ status.LinkFault → LinkFailed o e
+  -- where the lines are written, all asked frames were handed out or none is left
+  pub none_left : is_told answer ≡ true → (taken_of applied ≡ n.frames) ⊎ ((After h).out ≡ [])
   pub means : Means answer n.frames n.turns (taken_of applied) (length reader_part.made) read
 
 -- Memory was wanting before the workers began: fewer buffers than asked were prepared, and nothing was received,

@@ -1,5 +1,6 @@
 /// What is of the outside in a live run: the links of the camera, of the stream and of the control channel, and
 /// the clocks of the camera, of the host's reader and of the application.
+#[derive(Drop)]
 pub struct Ends<L, S, C> {
     /// The camera's link.
     pub camera: L,

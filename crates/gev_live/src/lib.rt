@@ -9,6 +9,8 @@ mod ends;
 mod finishing;
 mod live;
 mod running;
+#[cfg(test)]
+mod tests;
 mod tools;
 
 pub use ends::Ends;

@@ -1,6 +1,8 @@
 //! A live run over links and clocks that are handed in.
 
-ghost use Rattle.std.specs.Prelude.{◌≡◌, ◌≤◌, ℕ, [], vec_capacity};
+ghost use Rattle.std.specs.Prelude.{◌≡◌, ◌≢◌, ◌⊎◌, ◌≤◌, ℕ, [], vec_capacity};
+ghost use Rattle.gev_links.specs.Faults.{Rose};
+ghost use Rattle.gev_status.specs.declared.status.Status.TheVariants as Status;
 ghost use Rattle.gev_types.specs.Limits.{place_count};
 ghost use Rattle.board_machine.specs.Histories.{After};
 ghost use Rattle.board_machine.specs.Laws.{IsAlone};
@@ -90,6 +92,66 @@ fn run_prepared<
     (status, ends)
 }
 
+// Makes what the workers work with, prepares the board, and runs the workers.
+fn run_over<
+    R: Threads + Wait + Sync,
+    L: Link + Send + Drop,
+    S: Link + Send + Drop,
+    C: Clock + Send + Drop,
+    K: Sink,
+    G: Gate + Sync,
+>(
+    rt: &R,
+    alloc: Global,
+    board: &Board,
+    pass: &mut Pass,
+    seed: u64,
+    frames: u32,
+    buffers: u8,
+    _lanes: u8,
+    turns: u64,
+    ends: Ends<L, S, C>,
+    gate: &G,
+    sink: &mut K,
+) -> (Status, Ends<L, S, C>)
+    requires table { pass.old.table ≡ board_id board.now }
+    requires first { pass.old.number ≡ 0 }
+    requires unseen { pass.old.seen ≡ [] }
+    requires some_buffers { 1 ≤ buffers }
+    requires few_buffers { buffers ≤ place_count }
+    requires lanes { _lanes ≡ 1 }
+    ensures table { pass.new.table ≡ pass.old.table }
+    ensures hands { SameHands pass.old pass.new }
+    ensures live { RunsLive (record { seed = seed; frames = frames; buffers = buffers; turns = turns }) (L.address ends.camera) (S.address ends.stream) result.0
+        (record {
+          camera = wire (L.received ends.camera) (L.sent ends.camera) (L.faults ends.camera);
+          stream = wire (S.received ends.stream) (S.sent ends.stream) (S.faults ends.stream);
+          control = wire (L.received ends.control) (L.sent ends.control) (L.faults ends.control);
+          camera_clock = C.told ends.camera_clock;
+          host_clock = C.told ends.host_clock;
+          app_clock = C.told ends.app_clock;
+        })
+        (record {
+          camera = wire (L.received result.1.camera) (L.sent result.1.camera) (L.faults result.1.camera);
+          stream = wire (S.received result.1.stream) (S.sent result.1.stream) (S.faults result.1.stream);
+          control = wire (L.received result.1.control) (L.sent result.1.control) (L.faults result.1.control);
+          camera_clock = C.told result.1.camera_clock;
+          host_clock = C.told result.1.host_clock;
+          app_clock = C.told result.1.app_clock;
+        })
+        (K.written sink.old) (K.written sink.new) (K.faults sink.old) (K.faults sink.new) pass.new.seen }
+{
+    match make_tools(alloc, seed, turns) {
+        Ok(tools) => match prepare(alloc, board, pass, BUFFER_SIZE, buffers) {
+            Ok(()) => run_prepared(
+                rt, alloc, board, pass, seed, frames, turns, tools, ends, gate, sink,
+            ),
+            Err(_) => (Status::NoMemory, ends),
+        },
+        Err(_) => (Status::NoMemory, ends),
+    }
+}
+
 /// A live run with one lane: camera, reader and application as threads that share `board`, over these links and
 /// clocks. The camera makes its frames from `seed`; `frames` of them are to be handed out, 1 to 1000, through
 /// `buffers` buffers, 1 to 15; the reader makes at most `turns` turns. The lines of the buffers that were handed
@@ -146,14 +208,13 @@ pub fn live_over<
           app_clock = C.told result.1.app_clock;
         })
         (K.written sink.old) (K.written sink.new) (K.faults sink.old) (K.faults sink.new) pass.new.seen }
+    ensures links_steady { result.0 ≢ Status.LinkFault
+        → (L.faults result.1.camera ≡ L.faults ends.camera) × (S.faults result.1.stream ≡ S.faults ends.stream) × (L.faults result.1.control ≡ L.faults ends.control) }
+    ensures link_fault { result.0 ≡ Status.LinkFault
+        → Rose (L.faults ends.camera) (L.faults result.1.camera) ⊎ Rose (S.faults ends.stream) (S.faults result.1.stream) ⊎ Rose (L.faults ends.control) (L.faults result.1.control) }
+    ensures writes_steady { result.0 ≢ Status.WriteFault → K.faults sink.new ≡ K.faults sink.old }
 {
-    match make_tools(alloc, seed, turns) {
-        Ok(tools) => match prepare(alloc, board, pass, BUFFER_SIZE, buffers) {
-            Ok(()) => run_prepared(
-                rt, alloc, board, pass, seed, frames, turns, tools, ends, gate, sink,
-            ),
-            Err(_) => (Status::NoMemory, ends),
-        },
-        Err(_) => (Status::NoMemory, ends),
-    }
+    run_over(
+        rt, alloc, board, pass, seed, frames, buffers, _lanes, turns, ends, gate, sink,
+    )
 }

@@ -9,6 +9,8 @@ mod ends;
 mod rooms;
 mod sending;
 mod serving;
+#[cfg(test)]
+mod tests;
 mod turns;
 
 pub use ends::{ServeEnd, ServeTurn};

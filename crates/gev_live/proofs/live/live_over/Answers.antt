@@ -1,5 +1,15 @@
-use Rattle.gev_live.proofs.Telling.{none_begun}
+use Rattle.gev_live.proofs.Telling.{runs_alone}
+use Rattle.gev_live.proofs.Steady.{runs_steady, runs_failed, runs_writes_steady}
 use Rattle.gev_live.proofs.live.live_over.Goals as goal
 
-pub returns-in-Err-clause-live : goal.returns-in-Err-clause-live
-returns-in-Err-clause-live g c = none_begun (record { seed = c.args.seed; frames = c.args.frames; buffers = c.args.buffers; turns = c.args.turns }) _ _ _ _ _ _ c.requires.some_buffers c.requires.unseen
+pub returns-clause-alone : goal.returns-clause-alone
+returns-clause-alone g c = runs_alone _ _ _ _ _ _ _ _ _ _ _ c.run_over.ensures.live
+
+pub returns-clause-links_steady : goal.returns-clause-links_steady
+returns-clause-links_steady g c = λ ne. runs_steady _ _ _ _ _ _ _ _ _ _ _ c.run_over.ensures.live ne
+
+pub returns-clause-link_fault : goal.returns-clause-link_fault
+returns-clause-link_fault g c = λ is. runs_failed _ _ _ _ _ _ _ _ _ _ _ c.run_over.ensures.live is
+
+pub returns-clause-writes_steady : goal.returns-clause-writes_steady
+returns-clause-writes_steady g c = λ ne. runs_writes_steady _ _ _ _ _ _ _ _ _ _ _ c.run_over.ensures.live ne

@@ -1,0 +1,13 @@
+pub mod Telling
+pub mod Desk
+pub mod Holding
+pub mod Stages
+pub mod StageLines
+pub mod TurnLines
+pub mod ClaimLines
+pub mod Begins
+pub mod RunLines
+pub mod Ends
+pub mod Marking
+pub mod LinesFit
+pub mod Replaying
