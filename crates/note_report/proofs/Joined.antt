@@ -1,12 +1,12 @@
 -- Parts that are added one after the other.
-use Rattle.std.proofs.Common.{◌≡◌, ℕ, zero, suc, ◌+◌, ◌<◌, List, [], ◌∷◌, ◌++◌, length, get_or, map, take, Bool, true, false, refl, sym, ap, subst, ◌∙◌, append_assoc, arith}
+use Rattle.std.proofs.Common.{◌≡◌, ℕ, ◌+◌, ◌<◌, List, [], ◌∷◌, ◌++◌, length, get_or, map, take, Bool, true, false, refl, sym, ap, subst, ◌∙◌, append_assoc, arith}
 use Rattle.std.specs.Prelude.{◌==◌, ◌||◌, not, nat_lt, codes, Result, Ok, Err, OnOk}
 use Rattle.std.proofs.lemmas.Bool.{ne_eqb}
 use Rattle.std.proofs.lemmas.List.{map-append, take_more}
 use Rattle.block_assembly.specs.declared.lost.Lost.{Lost}
 use Rattle.block_reasons.specs.declared.reasons.Reasons.{Reasons}
 use Rattle.acquisition_notes.specs.Texts.{span_text, behind_commas, listed, where_so, why_text}
-use Rattle.note_report.specs.Pieces.{follow, where_none, has_some, parts_of_lost, lost_text}
+use Rattle.note_report.specs.Pieces.{follow, where_none, has_some, lost_text}
 
 pub append_nil : (xs : List ℕ) → xs ++ [] ≡ xs
 append_nil [] = refl

@@ -31,5 +31,5 @@ pub record EndedWordsAreOutcomes : Type 0 where
   pub done :
       (c : AcqConfig) (b : Board) (o : Open) (cause : Reason) (g : Given)
       → ended_words o.block (buffer_at b g.place) (cause_of cause) (account_of c.p g.size (kept_in c.p o)) (not b.closed)
-          ≡ words_of (done (outcome_of c b o cause g))
+      ≡ words_of (done (outcome_of c b o cause g))
   pub unbuffered : (block : ℕ) (cause : Reason) → unbuffered_words block (cause_of cause) ≡ words_of (unbuffered block cause)

@@ -32,19 +32,28 @@ pub fn note_foreign(at: At, error: WireError, out: &mut Vec<u8>) -> Result<(), N
     match error {
         WireError::Short(len) => add_note(
             at,
-            &[Piece::Text(b"foreign short="), Piece::Number(u64::from(len))],
+            &[
+                Piece::Text(b"foreign short="),
+                Piece::Number(u64::from(len)),
+            ],
             out,
         ),
         WireError::Standard => add_note(at, &[Piece::Text(b"foreign standard")], out),
         WireError::Format(format) => add_note(
             at,
-            &[Piece::Text(b"foreign format="), Piece::Number(u64::from(format))],
+            &[
+                Piece::Text(b"foreign format="),
+                Piece::Number(u64::from(format)),
+            ],
             out,
         ),
         WireError::ZeroBlock => add_note(at, &[Piece::Text(b"foreign zero-block")], out),
         WireError::BadId(id) => add_note(
             at,
-            &[Piece::Text(b"foreign bad-id="), Piece::Number(u64::from(id))],
+            &[
+                Piece::Text(b"foreign bad-id="),
+                Piece::Number(u64::from(id)),
+            ],
             out,
         ),
         WireError::PayloadType(kind) => add_note(
@@ -63,14 +72,20 @@ pub fn note_unwidened(at: At, error: StdError, out: &mut Vec<u8>) -> Result<(), 
     match error {
         StdError::Short(len) => add_note(
             at,
-            &[Piece::Text(b"foreign short="), Piece::Number(u64::from(len))],
+            &[
+                Piece::Text(b"foreign short="),
+                Piece::Number(u64::from(len)),
+            ],
             out,
         ),
         StdError::Extended => add_note(at, &[Piece::Text(b"foreign standard")], out),
         StdError::Zero => add_note(at, &[Piece::Text(b"foreign zero-block")], out),
         StdError::Before(block) => add_note(
             at,
-            &[Piece::Text(b"foreign before="), Piece::Number(u64::from(block))],
+            &[
+                Piece::Text(b"foreign before="),
+                Piece::Number(u64::from(block)),
+            ],
             out,
         ),
     }
@@ -91,7 +106,11 @@ pub fn note_ignored(at: At, why: Why, packet: Named, out: &mut Vec<u8>) -> Resul
             ],
             out,
         ),
-        Why::Repeat => add_note(at, &[Piece::Packet(b"repeat", packet.block, packet.id)], out),
+        Why::Repeat => add_note(
+            at,
+            &[Piece::Packet(b"repeat", packet.block, packet.id)],
+            out,
+        ),
         Why::Misfit => add_note(
             at,
             &[
@@ -102,7 +121,11 @@ pub fn note_ignored(at: At, why: Why, packet: Named, out: &mut Vec<u8>) -> Resul
             ],
             out,
         ),
-        Why::Starved => add_note(at, &[Piece::Packet(b"starved", packet.block, packet.id)], out),
+        Why::Starved => add_note(
+            at,
+            &[Piece::Packet(b"starved", packet.block, packet.id)],
+            out,
+        ),
         Why::Notice => add_note(
             at,
             &[

@@ -39,7 +39,12 @@ pub fn note_leader(at: At, block: u64, info: LeaderInfo, out: &mut Vec<u8>) -> R
 }
 
 /// The block was opened, with this buffer or none.
-pub fn note_open(at: At, block: u64, buffer: Option<BufferId>, out: &mut Vec<u8>) -> Result<(), NoMemory>
+pub fn note_open(
+    at: At,
+    block: u64,
+    buffer: Option<BufferId>,
+    out: &mut Vec<u8>,
+) -> Result<(), NoMemory>
     ensures { OnOk result (out.new.items ≡ out.old.items ++ note_line at.line at.moment (opens block buffer)) }
 {
     add_note(
@@ -55,7 +60,14 @@ pub fn note_open(at: At, block: u64, buffer: Option<BufferId>, out: &mut Vec<u8>
 }
 
 /// The block asks for the packets with the ids from the first to the last, in its round of this number.
-pub fn note_ask(at: At, block: u64, first: u32, last: u32, round: u8, out: &mut Vec<u8>) -> Result<(), NoMemory>
+pub fn note_ask(
+    at: At,
+    block: u64,
+    first: u32,
+    last: u32,
+    round: u8,
+    out: &mut Vec<u8>,
+) -> Result<(), NoMemory>
     ensures { OnOk result (out.new.items ≡ out.old.items ++ note_line at.line at.moment (asks block (first, last) round)) }
 {
     add_note(

@@ -17,7 +17,8 @@ mod writing;
 pub use at::At;
 pub use datagram_notes::{note_foreign, note_idle, note_ignored, note_unwidened};
 pub use frame_notes::{
-    note_absent, note_ask, note_done, note_drop, note_first, note_leader, note_open, note_unbuffered,
+    note_absent, note_ask, note_done, note_drop, note_first, note_leader, note_open,
+    note_unbuffered,
 };
 pub use laws::ended_words_are_outcomes;
 pub use piece::Named;

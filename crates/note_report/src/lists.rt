@@ -54,10 +54,7 @@ fn add_span(out: &mut Vec<u8>, some: bool, first: u32, last: u32) -> Result<(), 
 {
     let comma: &[u8] = if some { b"," } else { b"" };
     if first == last {
-        return add_basics(
-            out,
-            &[Basic::Text(comma), Basic::Number(u64::from(first))],
-        );
+        return add_basics(out, &[Basic::Text(comma), Basic::Number(u64::from(first))]);
     }
     add_basics(
         out,

@@ -143,11 +143,7 @@ fn add_span(out: &mut Vec<u8>, first: u64, last: u64) -> Result<(), NoMemory>
     }
     add_basics(
         out,
-        &[
-            Basic::Number(first),
-            Basic::Text(b"-"),
-            Basic::Number(last),
-        ],
+        &[Basic::Number(first), Basic::Text(b"-"), Basic::Number(last)],
     )
 }
 

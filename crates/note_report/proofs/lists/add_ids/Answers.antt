@@ -1,4 +1,3 @@
-use Rattle.std.proofs.Common.{◌∙◌, sym}
 use Rattle.note_report.proofs.Joined.{lost_is, ok_along}
 use Rattle.note_report.proofs.lists.add_ids.Goals as goal
 
