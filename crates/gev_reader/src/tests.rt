@@ -110,7 +110,15 @@ fn check_read<R: Abort + Wait>(
     let stream = MemoryLink::new(alloc, STREAM, WHOLE, &[], &[], 0)?;
     let control = MemoryLink::new(alloc, HOST, answers, &[], &[], 9)?;
     let journal: Vec<Turn> = Vec::with_capacity(alloc, 3)?;
-    let done = read(
+    let ReadDone {
+        pass,
+        client: _,
+        stream: _,
+        control,
+        clock: _,
+        journal: found,
+        end: ended,
+    } = read(
         rt,
         board,
         pass,
@@ -125,14 +133,14 @@ fn check_read<R: Abort + Wait>(
         journal,
         3,
     );
-    assert_eq!(rt; done.end, end);
-    assert_eq!(rt; done.journal.len(), turns);
-    assert_eq!(rt; done.control.sent().len(), sends.len());
-    for (sent, want) in done.control.sent().iter().zip(sends.iter()) {
+    assert_eq!(rt; ended, end);
+    assert_eq!(rt; found.len(), turns);
+    assert_eq!(rt; control.sent().len(), sends.len());
+    for (sent, want) in control.sent().iter().zip(sends.iter()) {
         assert_eq!(rt; sent.0, CAMERA);
         assert_eq!(rt; sent.1.as_slice(), *want);
     }
-    Ok(done.pass)
+    Ok(pass)
 }
 
 // The camera is set up to send to the stream's link, three turns get a whole block, and the stop fills its buffer
