@@ -1,9 +1,9 @@
 -- Lanes by their numbers.
-use Rattle.std.proofs.Common.{◌≡◌, ℕ, zero, suc, ◌+◌, ◌<◌, List, [], ◌∷◌, ◌++◌, length, get_or, set, Option, Some, None, refl, ap, sym, ◌∙◌, subst, append_assoc, length-append, arith}
+use Rattle.std.proofs.Common.{◌≡◌, ℕ, zero, suc, ◌+◌, ◌<◌, List, [], ◌∷◌, ◌++◌, length, get_or, Some, refl, ap, sym, subst, append_assoc, length-append, arith}
 use Rattle.std.specs.Prelude.{slice_get, slice_set}
 use Rattle.gev_lanes.specs.declared.parts.LaneQueues.{LaneQueues}
 use Rattle.gev_lanes.specs.declared.parts.ReaderLane.{ReaderLane}
-use Rattle.gev_lanes.specs.Sides.{LaneEnd, IsReaderOf, IsLaneOf, AreReadersOf, IsLaneAt, AreLanesOf, IsNew, AreNew, Met, MetAt}
+use Rattle.gev_lanes.specs.Sides.{LaneEnd, IsReaderOf, AreReadersOf, IsLaneAt, AreLanesOf, IsNew, AreNew, Met, MetAt}
 
 -- ---- members
 
@@ -101,3 +101,8 @@ lanes_from before (w ∷ qs) (x ∷ ss) (y ∷ es) all = (
 
 pub new_lanes : (qs : List LaneQueues) (ss : List ReaderLane) (es : List LaneEnd) → AreNew 0 qs ss es → AreLanesOf qs es
 new_lanes qs ss es all = lanes_from [] qs ss es all
+
+-- the last of these, and the others
+pub lanes_last : (qs : List LaneQueues) (es : List LaneEnd) (e : LaneEnd) → AreLanesOf qs (es ++ e ∷ []) → AreLanesOf qs es × IsLaneAt qs e
+lanes_last qs [] e all = (tt, all.0)
+lanes_last qs (y ∷ es) e all = let rest = lanes_last qs es e all.1 in ((all.0, rest.0), rest.1)

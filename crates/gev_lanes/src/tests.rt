@@ -15,11 +15,11 @@ fn new_lanes_meet_their_reader(rt: HostRuntime) -> Result<(), Fail> {
     Ok(())
 }
 
-fn meet_all(lanes: &Lanes, reader: &mut ReaderEnds, ends: Vec<LaneEnds>)
+fn meet_all(lanes: &Lanes, reader: &mut ReaderEnds, mut ends: Vec<LaneEnds>)
     requires reader { AreReadersOf lanes.now reader.old }
     requires lanes { AreLanesOf lanes.now ends.items }
 {
-    for lane in ends {
+    'lanes: while let Some(lane) = ends.pop() {
         lane_ends_cross(reader, &lane);
         lanes.meet(reader, lane);
     }

@@ -9,6 +9,8 @@ mod ends;
 mod line;
 mod log;
 mod rule;
+#[cfg(test)]
+mod tests;
 
 pub use crossing::{ends_cross, line_is_shared};
 pub use ends::{Giver, Start, Taker};

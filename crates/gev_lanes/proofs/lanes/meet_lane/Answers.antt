@@ -1,5 +1,5 @@
 -- The lane's queues are those with its number, and so are the reader's ends.
-use Rattle.std.proofs.Common.{◌≡◌, ◌<◌, length, get_or, sym, ap, ◌∙◌, subst, arith}
+use Rattle.std.proofs.Common.{◌≡◌, ◌<◌, length, get_or, sym, ◌∙◌, subst, arith}
 use Rattle.std.specs.Prelude.{slice_get, Some}
 use Rattle.gev_lanes.specs.Sides.{IsReaderOf, IsLaneOf}
 use Rattle.gev_lanes.proofs.News.{get_at, get_below, readers_length, reader_or, lane_met}
