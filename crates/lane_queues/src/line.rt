@@ -1,0 +1,108 @@
+//! A queue with two ends.
+
+use crate::ends::{Giver, Start, Taker};
+use crate::log::Log;
+use crate::rule::{Gave, OneToOne, Roles, Took, Total, WithGiver, WithTaker};
+use crossbeam_queue::RuledArrayQueue;
+use std::alloc::{AllocError, Global};
+use std::marker::Model;
+use std::sync::Wait;
+
+/// A bounded queue with one end that gives and one that takes.
+#[derive(Drop)]
+pub struct Line<T: Drop> {
+    queue: RuledArrayQueue<T, Log<T>, OneToOne>,
+}
+
+impl<T: Drop> Model for Line<T> {
+    ghost use Rattle.crossbeam_queue.specs.Passes.{ruled_capacity};
+    ghost use Rattle.lane_queues.specs.Ends.{LineId};
+
+    ghost Value = { LineId };
+
+    ghost view = { λ l. record { table = l.queue.table.shared.table_id; capacity = ruled_capacity l.queue } };
+}
+
+impl<T: Drop> Line<T> {
+    ghost use Rattle.std.specs.Prelude.{◌≡◌, ◌<◌, [], ◌∷◌, length, IfOk, IfErr, IfSome, IfNone};
+    ghost use Rattle.lane_queues.specs.Ends.{gave, took, WasEmpty, WasFull, BeginsWith};
+
+    /// A queue with room for so many items, and both its ends.
+    pub fn new(alloc: Global, capacity: usize) -> Result<(Line<T>, Start<T>), AllocError>
+        requires { 0 < capacity }
+        ensures capacity { IfOk result (λ made. made.0.capacity ≡ capacity) }
+        ensures start { IfOk result (λ made. made.1 ≡ record { line = made.0.table; given = [] }) }
+    {
+        let (queue, pass) = RuledArrayQueue::ruled(alloc, capacity)?;
+        Ok((Line { queue }, Start { pass }))
+    }
+
+    /// Puts an item in before the ends part. It comes back where the queue is full.
+    pub fn put(&self, start: &mut Start<T>, item: T) -> Result<(), T>
+        requires line { start.old.line ≡ self.now.table }
+        ensures line { start.new.line ≡ start.old.line }
+        ensures put { IfOk result (λ _. start.new ≡ gave start.old (item ∷ [])) }
+        ensures back { IfErr result (λ back. back ≡ item) }
+        ensures same { IfErr result (λ _. start.new ≡ start.old) }
+    {
+        self.queue.try_push_as::<Gave>(&mut start.pass, item)
+    }
+
+    /// The ends part.
+    pub fn part(&self, start: Start<T>) -> (Giver<T>, Taker<T>)
+        requires line { start.line ≡ self.now.table }
+        ensures giver { result.0 ≡ start }
+        ensures taker { result.1 ≡ record { line = start.line; least = length start.given; taken = [] } }
+    {
+        let Start { mut pass } = start;
+        let taker = self.queue.another::<Roles>(&mut pass);
+        (Giver { pass }, Taker { pass: taker })
+    }
+
+    /// Gives an item. It comes back where the queue was full at one moment of the call.
+    pub fn give<R: Wait>(&self, rt: &R, giver: &mut Giver<T>, item: T) -> Result<(), T>
+        requires line { giver.old.line ≡ self.now.table }
+        ensures line { giver.new.line ≡ giver.old.line }
+        ensures given { IfOk result (λ _. giver.new ≡ gave giver.old (item ∷ [])) }
+        ensures back { IfErr result (λ back. back ≡ item) }
+        ensures same { IfErr result (λ _. giver.new ≡ giver.old) }
+        ensures full { IfErr result (λ _. WasFull self.now.capacity giver.old) }
+    {
+        self.queue.push_as::<Gave, R>(rt, &mut giver.pass, item)
+    }
+
+    /// Takes the oldest item. None where the queue was empty at one moment of the call.
+    pub fn take<R: Wait>(&self, rt: &R, taker: &mut Taker<T>) -> Option<T>
+        requires line { taker.old.line ≡ self.now.table }
+        ensures line { taker.new.line ≡ taker.old.line }
+        ensures taken { IfSome result (λ item. taker.new ≡ took taker.old (item ∷ [])) }
+        ensures same { IfNone result (taker.new ≡ taker.old) }
+        ensures empty { IfNone result (WasEmpty taker.old) }
+    {
+        self.queue.pop_as::<Took, R>(rt, &mut taker.pass)
+    }
+
+    /// The ends meet: what was taken is the front of what was given.
+    pub fn meet_taker(&self, giver: &mut Giver<T>, taker: Taker<T>)
+        requires giver { giver.old.line ≡ self.now.table }
+        requires taker { taker.line ≡ self.now.table }
+        ensures same { giver.new ≡ giver.old }
+        ensures front { BeginsWith giver.new.given taker.taken }
+    {
+        let Taker { pass } = taker;
+        self.queue.absorb::<WithTaker>(&mut giver.pass, pass);
+        self.queue.learn_as::<Total>(&mut giver.pass);
+    }
+
+    /// The same from the other side.
+    pub fn meet_giver(&self, taker: &mut Taker<T>, giver: Giver<T>)
+        requires taker { taker.old.line ≡ self.now.table }
+        requires giver { giver.line ≡ self.now.table }
+        ensures same { taker.new ≡ taker.old }
+        ensures front { BeginsWith giver.given taker.new.taken }
+    {
+        let Giver { pass } = giver;
+        self.queue.absorb::<WithGiver>(&mut taker.pass, pass);
+        self.queue.learn_as::<Total>(&mut taker.pass);
+    }
+}

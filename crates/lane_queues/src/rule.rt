@@ -1,0 +1,93 @@
+//! The rule of the queue, and what its calls tell.
+
+use crate::log::Log;
+use crossbeam_queue::protocol::{Join, Lesson, Outcome, Protocol, Split};
+
+/// One giver and one taker.
+pub struct OneToOne;
+
+impl<T> Protocol<T, Log<T>> for OneToOne {
+    ghost use Rattle.std.specs.Prelude.{true, []};
+    ghost use Rattle.lane_queues.specs.Rule.{log, InOrder};
+
+    ghost holds = { InOrder };
+
+    ghost first = { log true true 0 [] [] };
+}
+
+/// A pass that may do both parts into one that gives and one that takes.
+pub struct Roles;
+
+impl<T> Split<Log<T>> for Roles {
+    ghost use Rattle.std.specs.Prelude.{true, false, [], length};
+    ghost use Rattle.lane_queues.specs.Rule.{log};
+
+    ghost left = { λ v. log true false 0 v.given [] };
+
+    ghost right = { λ v. log false true (length v.given) [] v.taken };
+}
+
+/// A giver takes a taker in.
+pub struct WithTaker;
+
+impl<T> Join<Log<T>> for WithTaker {
+    ghost use Rattle.std.specs.Prelude.{true, false, []};
+    ghost use Rattle.lane_queues.specs.Rule.{log};
+
+    ghost both = { λ v w. log true true 0 v.given w.taken };
+
+    ghost spent = { log false false 0 [] [] };
+}
+
+/// A taker takes a giver in.
+pub struct WithGiver;
+
+impl<T> Join<Log<T>> for WithGiver {
+    ghost use Rattle.std.specs.Prelude.{true, false, []};
+    ghost use Rattle.lane_queues.specs.Rule.{log};
+
+    ghost both = { λ v w. log true true v.least w.given v.taken };
+
+    ghost spent = { log false false 0 [] [] };
+}
+
+/// An item was given.
+pub struct Gave;
+
+impl<T> Outcome<T, Log<T>> for Gave {
+    ghost use Rattle.std.specs.Prelude.{◌≡◌, [], ◌∷◌, ◌++◌};
+    ghost use Rattle.lane_queues.specs.Rule.{log};
+
+    ghost then = { λ v x w. w ≡ log v.gives v.takes v.least (v.given ++ x ∷ []) v.taken };
+}
+
+impl<T> Lesson<T, Log<T>> for Gave {
+    ghost use Rattle.lane_queues.specs.Rule.{FoundBy};
+
+    ghost fact = { λ v items. FoundBy v items };
+}
+
+/// An item was taken.
+pub struct Took;
+
+impl<T> Outcome<T, Log<T>> for Took {
+    ghost use Rattle.std.specs.Prelude.{◌≡◌, [], ◌∷◌, ◌++◌};
+    ghost use Rattle.lane_queues.specs.Rule.{log};
+
+    ghost then = { λ v x w. w ≡ log v.gives v.takes v.least v.given (v.taken ++ x ∷ []) };
+}
+
+impl<T> Lesson<T, Log<T>> for Took {
+    ghost use Rattle.lane_queues.specs.Rule.{FoundBy};
+
+    ghost fact = { λ v items. FoundBy v items };
+}
+
+/// What was given is what was taken, and then what the queue holds.
+pub struct Total;
+
+impl<T> Lesson<T, Log<T>> for Total {
+    ghost use Rattle.std.specs.Prelude.{◌≡◌, ◌++◌};
+
+    ghost fact = { λ v items. v.given ≡ v.taken ++ items };
+}
