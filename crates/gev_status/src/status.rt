@@ -1,6 +1,7 @@
 ghost use Rattle.std.specs.Prelude.{◌≡◌};
 ghost use Rattle.gev_status.specs.ExitStatus.{exit_status};
 
+use gev_capture::CaptureKind;
 use gev_script::ScriptKind;
 use std::fmt;
 
@@ -38,6 +39,13 @@ pub enum Status {
         /// The status of its acknowledge.
         status: u16,
     },
+    /// A record of the capture is refused. The text of the packets before it was written.
+    BadCapture {
+        /// The record's number, from 1.
+        record: u64,
+        /// Why it's refused.
+        kind: CaptureKind,
+    },
 }
 
 impl Status {
@@ -54,6 +62,7 @@ impl Status {
             Status::NoMemory => 7,
             Status::NoAnswer { .. } => 9,
             Status::Refused { .. } => 10,
+            Status::BadCapture { .. } => 12,
         }
     }
 }
@@ -73,6 +82,10 @@ impl fmt::Display for Status {
             Status::NoMemory => write!(f, "out of memory"),
             Status::NoAnswer { req } => write!(f, "no answer to request {req}"),
             Status::Refused { status } => write!(f, "refused with status 0x{status:04x}"),
+            Status::BadCapture { record, kind } => {
+                let cause = CaptureCause(*kind);
+                write!(f, "record {record}: {cause}")
+            }
         }
     }
 }
@@ -91,6 +104,22 @@ impl fmt::Display for Cause {
             ScriptKind::Long => write!(f, "too long"),
             ScriptKind::NoEnd => write!(f, "no end"),
             ScriptKind::Many => write!(f, "too many lines"),
+        }
+    }
+}
+
+/// Why a record of a capture is refused, as a text.
+#[derive(Drop)]
+struct CaptureCause(CaptureKind);
+
+impl fmt::Display for CaptureCause {
+    fn fmt<W: fmt::Write>(&self, f: &mut fmt::Formatter<W>) -> fmt::Result {
+        match self.0 {
+            CaptureKind::Magic => write!(f, "magic"),
+            CaptureKind::Cut => write!(f, "cut off"),
+            CaptureKind::Version => write!(f, "version"),
+            CaptureKind::Length => write!(f, "length"),
+            CaptureKind::Interface => write!(f, "interface"),
         }
     }
 }

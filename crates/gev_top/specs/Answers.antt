@@ -9,11 +9,12 @@ use Rattle.camera_trace.specs.Standing as camera
 use Rattle.camera_trace.specs.Laws.{IsTold}
 use Rattle.gev_make.specs.MakeText.{make_text}
 use Rattle.gev_status.specs.declared.status.Status.{Status}
-use Rattle.gev_status.specs.declared.status.Status.TheVariants.{Done, Usage, BadScript, ReadFault, WriteFault, NoMemory, NoAnswer, Refused}
+use Rattle.gev_status.specs.declared.status.Status.TheVariants.{Done, Usage, BadScript, ReadFault, WriteFault, NoMemory, NoAnswer, Refused, BadCapture}
 use Rattle.gev_top.specs.declared.command.Command.{Command}
-use Rattle.gev_top.specs.declared.command.Command.TheVariants.{Replay, Camera, Make, Soak}
+use Rattle.gev_top.specs.declared.command.Command.TheVariants.{Replay, Streams, Camera, Make, Soak}
 use Rattle.gev_top.specs.Scripts.{Ends, IfEnded, AnswersContent}
 use Rattle.gev_top.specs.Soaking.{Soaks}
+use Rattle.gev_top.specs.Capturing.{ListsStreams, AnswersCapture}
 
 -- A replay: behind each line its trace keeps its promises. It is a run of the board machine, each buffer
 -- has one owner at each step, buffers are handed out once and in the order of their fills, the
@@ -48,6 +49,7 @@ Writes text (BadScript line kind) written written_after writes writes_after = �
 Writes text (Usage place) written written_after writes writes_after = ⊥
 Writes text (NoAnswer req) written written_after writes writes_after = ⊥
 Writes text (Refused status) written written_after writes writes_after = ⊥
+Writes text (BadCapture record kind) written written_after writes writes_after = ⊥
 
 -- A text is made, and nothing is read.
 pub record Makes (text : List ℕ) (status : Status) (left left_after : Option (List ℕ)) (reads reads_after : ℕ) (written written_after : Option (List ℕ)) (writes writes_after : ℕ) : Type 0 where
@@ -59,6 +61,7 @@ pub record Makes (text : List ℕ) (status : Status) (left left_after : Option (
 -- stood in the sink, and the numbers are the counts of faults of both
 abbrev pub Answers : Command → Status → Option (List ℕ) → Option (List ℕ) → ℕ → ℕ → Option (List ℕ) → Option (List ℕ) → ℕ → ℕ → Type 0
 Answers Replay = Replays
+Answers Streams = ListsStreams
 Answers Camera = Serves
 Answers (Make seed frames rates) = Makes (make_text seed frames rates)
 Answers (Soak seed frames rates short) = Soaks (record { seed = seed; frames = frames; rates = rates; short = short })
@@ -66,6 +69,7 @@ Answers (Soak seed frames rates short) = Soaks (record { seed = seed; frames = f
 -- the answer where a source holds these bytes, but for faults and want of memory
 abbrev pub IsDecided : Command → Status → List ℕ → Type 0
 IsDecided Replay status content = AnswersContent status (outcome replay.replay_verdict content)
+IsDecided Streams status content = AnswersCapture status content
 IsDecided Camera status content = AnswersContent status (outcome camera.camera_verdict content)
 IsDecided (Make seed frames rates) status content = ⊤
 IsDecided (Soak seed frames rates short) status content = ⊤

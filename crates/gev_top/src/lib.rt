@@ -5,6 +5,7 @@
 //! and `gev_world`.
 #![tactic(auto)]
 
+mod capturing;
 mod command;
 mod making;
 mod numbers;
