@@ -443,3 +443,36 @@ answers_told whole_text broken_text ending (Some l) left_after reads reads_after
 pub if_ok : {A E : Type 0} (r : Result A E) (P : Type 0) → OnOk r P → false ≡ is_err r → P
 if_ok (Ok x) P h e = h
 if_ok (Err x) P h e = absurd (cc)
+
+-- ---- texts by other words
+
+read_as_well : (left left_after : Option (List ℕ)) (P Q : List Read → Format → List ℕ → Type 0) → ((rs : List Read) (now : Format) (rest : List ℕ) → P rs now rest → Q rs now rest)
+    → WasRead left left_after P → WasRead left left_after Q
+read_as_well left left_after P Q f r =
+    record { bytes = r.bytes; records = r.records; now = r.now; rest = r.rest; given = r.given; walks = r.walks; holds = f r.records r.now r.rest r.holds }
+
+captured_as_well : (left left_after : Option (List ℕ)) (end : Option Refusal) (P Q : List Packet → Type 0) → ((ps : List Packet) → P ps → Q ps) → WasCaptured left left_after end P → WasCaptured left left_after end Q
+captured_as_well left left_after end P Q f r =
+    record { bytes = r.bytes; packets = r.packets; given = r.given; captured = r.captured; content = r.content; holds = f r.packets r.holds }
+
+pub ends_as : (w v b d : List Sighting → List ℕ) → ((xs : List Sighting) → w xs ≡ v xs) → ((xs : List Sighting) → b xs ≡ d xs)
+    → (ending : Ending) (left left_after : Option (List ℕ)) (reads reads_after : ℕ) (written written_after : Option (List ℕ)) (writes writes_after : ℕ)
+    → RunEnds w b ending left left_after reads reads_after written written_after writes writes_after → RunEnds v d ending left left_after reads reads_after written written_after writes writes_after
+ends_as w v b d e f Done left left_after reads reads_after written written_after writes writes_after h =
+    captured_as_well left left_after None (λ ps. Appends written written_after (w (sightings ps))) (λ ps. Appends written written_after (v (sightings ps)))
+    (λ ps. subst (λ (t : List ℕ). Appends written written_after t) (e (sightings ps))) h
+ends_as w v b d e f (BadCapture n kind) left left_after reads reads_after written written_after writes writes_after h =
+    captured_as_well left left_after (refusal_at n kind) (λ ps. Appends written written_after (w (sightings ps))) (λ ps. Appends written written_after (v (sightings ps)))
+    (λ ps. subst (λ (t : List ℕ). Appends written written_after t) (e (sightings ps))) h
+ends_as w v b d e f ReadFault left left_after reads reads_after written written_after writes writes_after h =
+    (h.0, read_as_well left left_after
+      (λ rs now rest. IsOpen now rest × Appends written written_after (b (sightings (packets_in rs)))) (λ rs now rest. IsOpen now rest × Appends written written_after (d (sightings (packets_in rs))))
+      (λ rs now rest g. (g.0, subst (λ (t : List ℕ). Appends written written_after t) (f (sightings (packets_in rs))) g.1)) h.1)
+ends_as w v b d e f WriteFault left left_after reads reads_after written written_after writes writes_after h =
+    (h.0, read_as_well left left_after
+      (λ rs now rest. WritesFront written written_after (w (sightings (packets_in rs)))) (λ rs now rest. WritesFront written written_after (v (sightings (packets_in rs))))
+      (λ rs now rest. subst (λ (t : List ℕ). WritesFront written written_after t) (e (sightings (packets_in rs)))) h.1)
+ends_as w v b d e f NoMemory left left_after reads reads_after written written_after writes writes_after h =
+    read_as_well left left_after
+    (λ rs now rest. WritesFront written written_after (w (sightings (packets_in rs)))) (λ rs now rest. WritesFront written written_after (v (sightings (packets_in rs))))
+    (λ rs now rest. subst (λ (t : List ℕ). WritesFront written written_after t) (e (sightings (packets_in rs)))) h

@@ -23,7 +23,7 @@ pub trait Telling {
         what: Content<'_>,
         out: &mut Vec<u8>,
     ) -> Result<(), NoMemory>
-        requires { IsShort (seen_as what.entry) }
+        requires { IsShort (seen_as what) }
         ensures { OnOk result ((p : Plain) → stands_for self.old p
             → Tells texts p (record { moment = moment; what = seen_as what.entry } ∷ []) (stands_for self.new) out.old.items out.new.items) };
 

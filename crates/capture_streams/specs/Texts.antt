@@ -28,9 +28,9 @@ peer_text p = concat (
     ∷ codes "." ∷ decimal (p.address % 256)
     ∷ codes ":" ∷ decimal p.port ∷ [])
 
--- the line of a stream, with its line feed
-abbrev pub stream_line : Stream → List ℕ
-stream_line s = concat (
+-- the line of a stream, with its line feed, where so many milliseconds lie between its first and its last datagram
+abbrev pub stream_text : Stream → ℕ → List ℕ
+stream_text s ms = concat (
     codes "stream " ∷ peer_text s.sender
     ∷ codes " " ∷ peer_text s.receiver
     ∷ codes " ids=" ∷ ids_text s.extended s.standard
@@ -43,8 +43,11 @@ stream_line s = concat (
     ∷ codes " bytes=" ∷ decimal s.bytes
     ∷ codes " first=" ∷ decimal s.first
     ∷ codes " last=" ∷ decimal s.last
-    ∷ codes " ms=" ∷ decimal (s.ended - s.begun)
+    ∷ codes " ms=" ∷ decimal ms
     ∷ codes "\n" ∷ [])
+
+abbrev pub stream_line : Stream → List ℕ
+stream_line s = stream_text s (s.ended - s.begun)
 
 -- the last line, with its line feed, for so many streams
 abbrev pub end_text : Counts → ℕ → List ℕ

@@ -1,6 +1,6 @@
 ghost use Rattle.std.specs.Prelude.{◌≡◌, ◌≢◌, ◌++◌};
 ghost use Rattle.script_runs.specs.Verdicts.{IfTold};
-ghost use Rattle.capture_runs.specs.Ends.{RunEnds, AnswersContent};
+ghost use Rattle.capture_runs.specs.Ends.{RunEnds, IsWhole, AnswersContent};
 ghost use Rattle.capture_streams.specs.Texts.{listed_text, streams_text};
 
 use crate::stream_text::{add_end, add_streams};
@@ -51,12 +51,14 @@ pub fn list_streams<S: Source, K: Sink>(alloc: Global, source: &mut S, sink: &mu
         (S.left source.old) (S.left source.new) (S.faults source.old) (S.faults source.new)
         (K.written sink.old) (K.written sink.new) (K.faults sink.old) (K.faults sink.new) }
     ensures exact { IfTold (S.left source.old) (λ content. AnswersContent result content) }
-    ensures reads_steady { result ≢ Ending.ReadFault → S.faults source.new ≡ S.faults source.old }
+    ensures reads_steady { IsWhole result → S.faults source.new ≡ S.faults source.old }
     ensures writes_steady { result ≢ Ending.WriteFault → K.faults sink.new ≡ K.faults sink.old }
 {
-    let Ok(mut table) = Table::new(alloc) else {
-        return Ending::NoMemory;
-    };
-    let mut out = Vec::new(alloc);
-    run_capture(alloc, source, sink, &mut table, &mut out)
+    match Table::new(alloc) {
+        Ok(mut table) => {
+            let mut out = Vec::new(alloc);
+            run_capture(alloc, source, sink, &mut table, &mut out)
+        }
+        Err(NoMemory) => Ending::NoMemory,
+    }
 }

@@ -1,6 +1,6 @@
 //! The lines that list streams, each added with its line feed.
 
-ghost use Rattle.std.specs.Prelude.{◌≡◌, ◌≤◌, ◌++◌, length, OnOk};
+ghost use Rattle.std.specs.Prelude.{◌≡◌, ◌++◌, ◌∷◌, [], OnOk};
 ghost use Rattle.std.specs.List.{flat_map};
 ghost use Rattle.std.specs.Fmt.{decimal};
 ghost use Rattle.hex.specs.Hex.{encode_lower};
@@ -122,13 +122,13 @@ pub fn add_stream(out: &mut Vec<u8>, stream: &Stream) -> Result<(), NoMemory>
             Piece::Text(b" leaders="),
             Piece::Number(stream.leaders),
             Piece::Text(b" width="),
-            Piece::Number(u64::from(stream.width)),
+            Piece::Number(stream.width as u64),
             Piece::Text(b" height="),
-            Piece::Number(u64::from(stream.height)),
+            Piece::Number(stream.height as u64),
             Piece::Text(b" pixel=0x"),
             Piece::Pixel(stream.pixel),
             Piece::Text(b" bytes="),
-            Piece::Number(u64::from(stream.bytes)),
+            Piece::Number(stream.bytes as u64),
             Piece::Text(b" first="),
             Piece::Number(stream.first),
             Piece::Text(b" last="),

@@ -114,7 +114,7 @@ impl Table {
 
     /// One more packet of the capture, which came at this moment.
     pub fn count(&mut self, moment: u64, what: Content<'_>)
-        requires { IsShort (seen_as what.entry) }
+        requires { IsShort (seen_as what) }
         ensures { self.new ≡ counted (record { moment = moment; what = seen_as what.entry }) self.old }
     {
         self.counts = self.counts.after(what);
