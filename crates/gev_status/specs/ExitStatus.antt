@@ -12,4 +12,4 @@ exit_status WriteFault = 5
 exit_status NoMemory = 7
 exit_status (NoAnswer req) = 9
 exit_status (Refused status) = 10
-exit_status (BadCapture record kind) = 12
+exit_status (BadCapture number kind) = 12

@@ -2,7 +2,7 @@
 use Rattle.std.specs.Prelude.{ℕ, List, Option}
 use Rattle.capture_runs.specs.declared.ending.Ending.{Ending}
 use Rattle.capture_runs.specs.declared.ending.Ending.TheVariants as endings
-use Rattle.capture_runs.specs.Ends.{RunEnds, AnswersContent}
+use Rattle.capture_runs.specs.Ends.{RunEnds, IsWhole, AnswersContent}
 use Rattle.capture_streams.specs.Texts.{streams_text, listed_text}
 use Rattle.gev_status.specs.declared.status.Status.{Status}
 use Rattle.gev_status.specs.declared.status.Status.TheVariants.{Done, Usage, BadScript, ReadFault, WriteFault, NoMemory, NoAnswer, Refused, BadCapture}
@@ -31,6 +31,10 @@ IfCaptured P (Refused status) = ⊥
 abbrev pub ListsStreams : Status → Option (List ℕ) → Option (List ℕ) → ℕ → ℕ → Option (List ℕ) → Option (List ℕ) → ℕ → ℕ → Type 0
 ListsStreams status left left_after reads reads_after written written_after writes writes_after =
     IfCaptured (λ ending. RunEnds streams_text listed_text ending left left_after reads reads_after written written_after writes writes_after) status
+
+-- the capture was read to its end, or to a record that is refused
+abbrev pub IsCaptureRead : Status → Type 0
+IsCaptureRead status = IfCaptured IsWhole status
 
 -- The answer to these bytes, all that a source holds: but for faults and want of memory, the capture is whole, or
 -- this record is the first that is refused.

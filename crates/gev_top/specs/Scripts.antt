@@ -47,7 +47,7 @@ IfEnded P NoMemory = P endings.NoMemory
 IfEnded P (Usage place) = ⊥
 IfEnded P (NoAnswer req) = ⊥
 IfEnded P (Refused status) = ⊥
-IfEnded P (BadCapture record kind) = ⊥
+IfEnded P (BadCapture number kind) = ⊥
 
 -- The answer to these bytes, all that a source holds: but for faults and want of memory, the script is
 -- whole, or this line is the first that is refused.
@@ -62,4 +62,4 @@ AnswersContent NoMemory found = ⊤
 AnswersContent (Usage place) found = ⊥
 AnswersContent (NoAnswer req) found = ⊥
 AnswersContent (Refused status) found = ⊥
-AnswersContent (BadCapture record kind) found = ⊥
+AnswersContent (BadCapture number kind) found = ⊥

@@ -1,6 +1,6 @@
 ghost use Rattle.std.specs.Prelude.{◌≡◌, ◌≢◌};
 ghost use Rattle.script_runs.specs.Verdicts.{IfTold};
-ghost use Rattle.gev_top.specs.Capturing.{status_from, ListsStreams, AnswersCapture};
+ghost use Rattle.gev_top.specs.Capturing.{status_from, ListsStreams, IsCaptureRead, AnswersCapture};
 
 use capture_runs::Ending;
 use capture_streams::list_streams;
@@ -26,7 +26,7 @@ pub fn streams<S: Source, K: Sink>(alloc: Global, source: &mut S, sink: &mut K) 
     ensures cause { ListsStreams result (S.left source.old) (S.left source.new) (S.faults source.old) (S.faults source.new)
         (K.written sink.old) (K.written sink.new) (K.faults sink.old) (K.faults sink.new) }
     ensures exact { IfTold (S.left source.old) (λ content. AnswersCapture result content) }
-    ensures reads_steady { result ≢ Status.ReadFault → S.faults source.new ≡ S.faults source.old }
+    ensures reads_steady { IsCaptureRead result → S.faults source.new ≡ S.faults source.old }
     ensures writes_steady { result ≢ Status.WriteFault → K.faults sink.new ≡ K.faults sink.old }
 {
     status_from(list_streams(alloc, source, sink))

@@ -2,7 +2,7 @@ ghost use Rattle.std.specs.Prelude.{◌≡◌, ◌≢◌, ◌↔◌, ℕ, Some, 
 ghost use Rattle.std.specs.String.{string_bytes};
 ghost use Rattle.script_runs.specs.Verdicts.{IfTold};
 ghost use Rattle.gev_top.specs.declared.command.Command.{Command};
-ghost use Rattle.gev_top.specs.Answers.{Answers, IsDecided};
+ghost use Rattle.gev_top.specs.Answers.{Answers, IsDecided, ReadsSteady};
 ghost use Rattle.gev_top.specs.Usage.{command_of, usage_fault};
 
 use crate::capturing::streams;
@@ -62,8 +62,10 @@ pub fn plain_top<S: Source, K: Sink>(
     ensures exact { (command : Command) → command_of (map (λ word. string_bytes word) words.now) ≡ Ok command
         → IfTold (S.left source.old) (λ content. IsDecided command result content) }
 
-    // A count of faults changes only with the answer that tells of it.
-    ensures reads_steady { result ≢ Status.ReadFault → S.faults source.new ≡ S.faults source.old }
+    // A count of faults changes only with the answer that tells of it; of a capture, that of the source may also
+    // have changed where writing failed or memory ran out behind a read that failed.
+    ensures reads_steady { (command : Command) → command_of (map (λ word. string_bytes word) words.now) ≡ Ok command
+        → ReadsSteady command result (S.faults source.old) (S.faults source.new) }
     ensures writes_steady { result ≢ Status.WriteFault → K.faults sink.new ≡ K.faults sink.old }
 {
     match read_words(words) {
@@ -83,7 +85,7 @@ fn run_command<S: Source, K: Sink>(
     ensures cause { Answers command result (S.left source.old) (S.left source.new) (S.faults source.old) (S.faults source.new)
         (K.written sink.old) (K.written sink.new) (K.faults sink.old) (K.faults sink.new) }
     ensures exact { IfTold (S.left source.old) (λ content. IsDecided command result content) }
-    ensures reads_steady { result ≢ Status.ReadFault → S.faults source.new ≡ S.faults source.old }
+    ensures reads_steady { ReadsSteady command result (S.faults source.old) (S.faults source.new) }
     ensures writes_steady { result ≢ Status.WriteFault → K.faults sink.new ≡ K.faults sink.old }
 {
     match command {
