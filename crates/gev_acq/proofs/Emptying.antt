@@ -3,6 +3,8 @@ use Rattle.std.proofs.Common.{◌≡◌, List, [], ◌∷◌, ◌++◌, map, tru
 use Rattle.std.proofs.lemmas.List.{append-nil}
 use Rattle.board_machine.specs.declared.events.Event.{Event}
 use Rattle.board_machine.specs.declared.events.Event.TheVariants.{Fill, Lay}
+use Rattle.block_fills.specs.Fills.{FillsRetired}
+use Rattle.board_calls.specs.Rounds.{filled_or_laid}
 use Rattle.acquisition_machine.specs.declared.retired.Retired.{Retired}
 use Rattle.acquisition_machine.specs.TurnLaws.{given_of}
 use Rattle.acq_core.specs.declared.machine.Machine.{Machine}
@@ -12,18 +14,17 @@ use Rattle.buffer_words.specs.Passes.{Token, gone, down, Enters, Stays, SameHand
 use Rattle.buffer_words.specs.Several.{EntersOf}
 use Rattle.buffer_words.proofs.Partings.{same_then}
 use Rattle.buffer_words.proofs.Several.{each_one, each_push, each_then, each_none, stays_after, of_kind, of_one}
-use Rattle.gev_acq.specs.Serving.{FillsOne, FillsEach}
 use Rattle.gev_acq.specs.Buffers.{Backs, HoldsAlone}
 use Rattle.gev_acq.proofs.Backing.{first_left, first_left_alone}
 
 -- a fill that was done
-pub fills_once : (s t : Token) (r : Retired) → Enters s (Fill r.place r.buf true) t → EntersOf s (FillsOne r) t
-fills_once s t r enters = of_one s t (FillsOne r) (Fill r.place r.buf true) (record { filled = true; is = refl }) refl enters
+pub fills_once : (s t : Token) (r : Retired) → Enters s (Fill r.place r.buf true) t → EntersOf s (FillsRetired (r ∷ [])) t
+fills_once s t r enters = of_one s t (FillsRetired (r ∷ [])) (Fill r.place r.buf true) (true, [], refl, refl) refl enters
 
 -- a fill that found the output closed: the buffer was set down and laid
-pub lays_once : (s t u v : Token) (r : Retired) → Enters s (Fill r.place r.buf false) t → Stays t u → Enters u (Lay r.place) v → EntersOf s (FillsOne r) v
+pub lays_once : (s t u v : Token) (r : Retired) → Enters s (Fill r.place r.buf false) t → Stays t u → Enters u (Lay r.place) v → EntersOf s (FillsRetired (r ∷ [])) v
 lays_once s t u v r filled stays laid =
-    of_kind s v (FillsOne r) (Fill r.place r.buf false ∷ Lay r.place ∷ []) (record { filled = false; is = refl })
+    of_kind s v (FillsRetired (r ∷ [])) (Fill r.place r.buf false ∷ Lay r.place ∷ []) (false, [], refl, refl)
     (each_push s u v (Fill r.place r.buf false ∷ []) (Lay r.place)
     (stays_after s t u (Fill r.place r.buf false ∷ []) (each_one s t (Fill r.place r.buf false) filled refl) stays) laid refl)
 
@@ -33,10 +34,14 @@ laid_hands s t u v r same set laid = record {
   others = λ j ne. same_then j s t v (same j) (same_then j t u v (set.others j ne) (laid.others j ne));
 }
 
-fills-push : (rs : List Retired) (r : Retired) (es fs : List Event) → FillsEach rs es → FillsOne r fs → FillsEach (rs ++ r ∷ []) (es ++ fs)
-fills-push [] r es fs none one = (fs, [], one, refl, ap (λ l. l ++ fs) none ∙ sym (append-nil fs))
-fills-push (x ∷ rs) r es fs each one =
-    (each.0, each.1 ++ fs, each.2, fills-push rs r each.1 fs each.3 one, ap (λ l. l ++ fs) each.4 ∙ append_assoc each.0 each.1 fs)
+fills-push : (rs : List Retired) (r : Retired) (es fs : List Event) → FillsRetired rs es → FillsRetired (r ∷ []) fs → FillsRetired (rs ++ r ∷ []) (es ++ fs)
+fills-push [] r es fs none one = subst (FillsRetired (r ∷ [])) (sym (ap (λ l. l ++ fs) none)) one
+fills-push (x ∷ rs) r es fs each one = (
+  each.0,
+  each.1 ++ fs,
+  ap (λ l. l ++ fs) each.2 ∙ append_assoc (filled_or_laid x.place x.buf each.0) each.1 fs,
+  fills-push rs r each.1 fs each.3 one,
+)
 
 pub keeps_then : (a b c : Machine) → KeepsBlocks a b → KeepsBlocks b c → KeepsBlocks a c
 keeps_then a b c first second = record {
@@ -47,14 +52,14 @@ keeps_then a b c first second = record {
   config = second.config ∙ first.config;
 }
 
-keeps_all : (a : Machine) → KeepsBlocks a a
+pub keeps_all : (a : Machine) → KeepsBlocks a a
 keeps_all a = record { stands = λ q old. old; buffers = refl; opens = refl; asked = refl; config = refl }
 
 -- Some of the buffers that waited are filled.
 pub record IsFilling (s : Token) (old : Machine) (t : Token) (m : Machine) : Type 0 where
   pub done : List Retired
   pub parts : waiting_fills old ≡ done ++ waiting_fills m
-  pub enters : EntersOf s (FillsEach done) t
+  pub enters : EntersOf s (FillsRetired done) t
   pub requests : waiting_requests m ≡ waiting_requests old
   pub rest : KeepsBlocks old m
   pub backs : Backs t (map given_of (waiting_fills m) ++ buffers m)
@@ -64,7 +69,7 @@ pub filling_begins : (s : Token) (m : Machine) → Backs s (map given_of (waitin
 filling_begins s m backs = record {
   done = [];
   parts = refl;
-  enters = of_kind s s (FillsEach []) [] refl (each_none s);
+  enters = of_kind s s (FillsRetired []) [] refl (each_none s);
   requests = refl;
   rest = keeps_all m;
   backs = backs;
@@ -85,11 +90,11 @@ next_alone t m n r first keeps alone =
     (subst (λ rs. HoldsAlone t (map given_of rs ++ buffers m)) first alone)
 
 pub filling_goes_on : (s t u : Token) (old m n : Machine) (r : Retired) → IsFilling s old t m → waiting_fills m ≡ r ∷ waiting_fills n
-    → waiting_requests n ≡ waiting_requests m → KeepsBlocks m n → EntersOf t (FillsOne r) u → Has r.place gone t u → IsFilling s old u n
+    → waiting_requests n ≡ waiting_requests m → KeepsBlocks m n → EntersOf t (FillsRetired (r ∷ [])) u → Has r.place gone t u → IsFilling s old u n
 filling_goes_on s t u old m n r so first requests keeps filled hands = record {
   done = so.done ++ r ∷ [];
   parts = so.parts ∙ (ap (λ l. so.done ++ l) first ∙ sym (append_assoc so.done (r ∷ []) (waiting_fills n)));
-  enters = of_kind s u (FillsEach (so.done ++ r ∷ [])) (so.enters.events ++ filled.events)
+  enters = of_kind s u (FillsRetired (so.done ++ r ∷ [])) (so.enters.events ++ filled.events)
       (fills-push so.done r so.enters.events filled.events so.enters.kind filled.kind)
       (each_then s t u so.enters.events filled.events so.enters.enters filled.enters);
   requests = requests ∙ so.requests;
@@ -100,7 +105,7 @@ filling_goes_on s t u old m n r so first requests keeps filled hands = record {
 
 -- all of them are
 pub record AreFilled (s : Token) (old : Machine) (t : Token) (m : Machine) : Type 0 where
-  pub enters : EntersOf s (FillsEach (waiting_fills old)) t
+  pub enters : EntersOf s (FillsRetired (waiting_fills old)) t
   pub requests : waiting_requests m ≡ waiting_requests old
   pub rest : KeepsBlocks old m
   pub backs : Backs t (buffers m)
@@ -109,7 +114,7 @@ pub record AreFilled (s : Token) (old : Machine) (t : Token) (m : Machine) : Typ
 pub filling_ends : (s t : Token) (old m n : Machine) → IsFilling s old t m → waiting_fills m ≡ [] → waiting_requests n ≡ waiting_requests m → KeepsBlocks m n
     → AreFilled s old t n
 filling_ends s t old m n so none requests keeps = record {
-  enters = subst (λ rs. EntersOf s (FillsEach rs) t) (sym (so.parts ∙ (ap (λ l. so.done ++ l) none ∙ append-nil so.done))) so.enters;
+  enters = subst (λ rs. EntersOf s (FillsRetired rs) t) (sym (so.parts ∙ (ap (λ l. so.done ++ l) none ∙ append-nil so.done))) so.enters;
   requests = requests ∙ so.requests;
   rest = keeps_then old m n so.rest keeps;
   backs = subst (Backs t) (sym keeps.buffers) (subst (λ rs. Backs t (map given_of rs ++ buffers m)) none so.backs);

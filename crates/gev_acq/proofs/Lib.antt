@@ -5,3 +5,8 @@ pub mod Emptying
 pub mod Picking
 pub mod Listening
 pub mod Moving
+pub mod Requesting
+pub mod OneTurn
+pub mod TurnLists
+pub mod AllTurns
+pub mod Filled

@@ -10,13 +10,13 @@ use Rattle.buffer_words.specs.Rule.{Slot}
 use Rattle.buffer_words.specs.Passes.{Token, slot_at, gone, IsEmptyHanded}
 use Rattle.buffer_words.specs.Several.{EntersOf}
 use Rattle.gev_acq.specs.declared.heard.Heard.{Heard}
-use Rattle.gev_acq.specs.Serving.{FillsEach}
+use Rattle.block_fills.specs.Fills.{FillsRetired}
 use Rattle.gev_acq.specs.Buffers.{HoldsAlone}
 use Rattle.gev_acq.specs.Turning.{inputs_if, unheard, HearsIf, TicksOnce, ServesTurn}
 use Rattle.gev_acq.proofs.Serves.{serves_then, serves_none, serves_filled}
 
 pub ticks_once : (m mid new : Machine) (moment : ℕ) (s t : Token) → waiting_fills m ≡ [] → waiting_requests m ≡ [] → Takes m mid (tick moment)
-    → waiting_requests new ≡ waiting_requests mid → KeepsBlocks mid new → EntersOf s (FillsEach (waiting_fills mid)) t
+    → waiting_requests new ≡ waiting_requests mid → KeepsBlocks mid new → EntersOf s (FillsRetired (waiting_fills mid)) t
     → TicksOnce (config_of m) (Stands m) (Stands new) moment (waiting_requests new) s t
 ticks_once m mid new moment s t fills requests takes same keeps filled = record {
   serves = serves_filled m mid new (tick moment) s t refl refl fills takes keeps filled;

@@ -22,7 +22,7 @@ claims_in-append (tick moment ∷ is) js = claims_in-append is js
 claims_in-append (stop ∷ is) js = claims_in-append is js
 claims_in-append (restart ∷ is) js = claims_in-append is js
 
-claims_by-append : (n : ℕ) (b : Board) (g h : List Entry) → claims_by n b (g ++ h) ≡ claims_by n b g ++ claims_by n (after_from b g) h
+pub claims_by-append : (n : ℕ) (b : Board) (g h : List Entry) → claims_by n b (g ++ h) ≡ claims_by n b g ++ claims_by n (after_from b g) h
 claims_by-append n b [] h = refl
 claims_by-append n b (e ∷ g) h =
     ap (λ l. cond (e.by == n) (given_by b e.event) [] ++ l) (claims_by-append n (next b e) g h)

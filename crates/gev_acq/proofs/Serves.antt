@@ -2,6 +2,8 @@
 use Rattle.std.proofs.Common.{◌≡◌, Bool, true, false, List, [], ◌∷◌, ◌++◌, refl, ap, sym, ◌∙◌, subst, append_assoc}
 use Rattle.std.proofs.lemmas.List.{append-nil}
 use Rattle.board_machine.specs.declared.events.Event.{Event}
+use Rattle.block_fills.specs.Fills.{FillsRetired}
+use Rattle.board_calls.specs.Rounds.{filled_or_laid}
 use Rattle.acquisition_machine.specs.declared.config.AcqConfig.{AcqConfig}
 use Rattle.acquisition_machine.specs.declared.retired.Retired.{Retired}
 use Rattle.acquisition_machine.specs.Blocks.{fills}
@@ -14,7 +16,7 @@ use Rattle.acq_core.specs.Waiting.{waiting_fills}
 use Rattle.buffer_words.specs.Passes.{Token}
 use Rattle.buffer_words.specs.Several.{EntersOf}
 use Rattle.buffer_words.proofs.Several.{each_none, each_then}
-use Rattle.gev_acq.specs.Serving.{fill_events, FillsOne, FillsEach, claim_events, Serves}
+use Rattle.gev_acq.specs.Serving.{claim_events, Serves}
 use Rattle.gev_acq.specs.Claims.{claims_in, ServesOn}
 use Rattle.gev_acq.proofs.Owning.{ClaimNothing, claim_nothing-append, claims_none, claims_then}
 
@@ -53,21 +55,19 @@ serves_none c Old s = record {
   claims = claims_none [] s s [] refl tt (each_none s);
 }
 
-fill_claims_nothing : (r : Retired) (es : List Event) → FillsOne r es → ClaimNothing es
-fill_claims_nothing r es one = subst ClaimNothing (sym one.is) (go one.filled)
-  where
-    go : (filled : Bool) → ClaimNothing (fill_events r filled)
-    go true = (λ b. refl, tt)
-    go false = (λ b. refl, (λ b. refl, tt))
+fill_claims_nothing : (r : Retired) (filled : Bool) → ClaimNothing (filled_or_laid r.place r.buf filled)
+fill_claims_nothing r true = (λ b. refl, tt)
+fill_claims_nothing r false = (λ b. refl, (λ b. refl, tt))
 
-fills_claim_nothing : (rs : List Retired) (es : List Event) → FillsEach rs es → ClaimNothing es
+fills_claim_nothing : (rs : List Retired) (es : List Event) → FillsRetired rs es → ClaimNothing es
 fills_claim_nothing [] es none = subst ClaimNothing (sym none) tt
 fills_claim_nothing (r ∷ rs) es each =
-    subst ClaimNothing (sym each.4) (claim_nothing-append each.0 each.1 (fill_claims_nothing r each.0 each.2) (fills_claim_nothing rs each.1 each.3))
+    subst ClaimNothing (sym each.2)
+    (claim_nothing-append (filled_or_laid r.place r.buf each.0) each.1 (fill_claims_nothing r each.0) (fills_claim_nothing rs each.1 each.3))
 
 -- One input that is no claim: what retires is filled.
 pub serves_filled : (m mid new : Machine) (i : Input) (s t : Token) → claim_events i ≡ [] → claims_in (i ∷ []) ≡ []
-    → waiting_fills m ≡ [] → Takes m mid i → KeepsBlocks mid new → EntersOf s (FillsEach (waiting_fills mid)) t
+    → waiting_fills m ≡ [] → Takes m mid i → KeepsBlocks mid new → EntersOf s (FillsRetired (waiting_fills mid)) t
     → ServesOn (config_of m) (Stands m) (Stands new) (i ∷ []) s t
 serves_filled m mid new i s t quiet none empty takes keeps filled = record {
   events = filled.events;
@@ -77,7 +77,7 @@ serves_filled m mid new i s t quiet none empty takes keeps filled = record {
       takes.fills q old ∙ ap (λ l. l ++ fills (config_of m).p (turn (config_of m) q i).retired) empty in (
         filled.events,
         [],
-        subst (λ rs. FillsEach rs filled.events) waits filled.kind,
+        subst (λ rs. FillsRetired rs filled.events) waits filled.kind,
         refl,
         sym (ap (λ l. l ++ (filled.events ++ [])) quiet ∙ append-nil filled.events),
       );

@@ -5,3 +5,7 @@ pub mod Claiming
 pub mod Heard
 pub mod Hearing
 pub mod Turning
+pub mod Turns
+pub mod Reading
+pub mod Acquired
+pub mod Laws

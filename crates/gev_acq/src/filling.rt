@@ -1,12 +1,12 @@
-ghost use Rattle.std.specs.Prelude.{◌≡◌, ◌++◌, [], length, map};
+ghost use Rattle.std.specs.Prelude.{◌≡◌, ◌++◌, [], ◌∷◌, length, map};
 ghost use Rattle.acquisition_machine.specs.TurnLaws.{given_of};
 ghost use Rattle.acq_core.specs.Receiver.{buffers, KeepsBlocks};
 ghost use Rattle.acq_core.specs.Waiting.{waiting_fills, waiting_requests};
+ghost use Rattle.block_fills.specs.Fills.{FillsRetired};
 ghost use Rattle.buffer_words.specs.Boards.{board_id};
 ghost use Rattle.buffer_words.specs.Passes.{gone, IsLifted, size_at, Has};
 ghost use Rattle.buffer_words.specs.Several.{EntersOf};
 ghost use Rattle.gev_acq.specs.Buffers.{Backs, HoldsAlone};
-ghost use Rattle.gev_acq.specs.Serving.{FillsOne, FillsEach};
 
 use acq_core::Acq;
 use acquisition_machine::Retired;
@@ -27,7 +27,7 @@ pub(crate) fn fill_one<R: Wait, G: Gate>(
     requires table { pass.old.table ≡ board_id board.now }
     requires holds { IsLifted pass.old retired.place }
     requires size { length retired.buf.bytes ≡ size_at pass.old retired.place }
-    ensures enters { EntersOf pass.old (FillsOne retired) pass.new }
+    ensures enters { EntersOf pass.old (FillsRetired (retired ∷ [])) pass.new }
     ensures hands { Has retired.place gone pass.old pass.new }
 {
     gate.pass(1);
@@ -46,7 +46,7 @@ pub fn fill_all<R: Wait, G: Gate>(rt: &R, board: &Board, pass: &mut Pass, acq: &
     requires table { pass.old.table ≡ board_id board.now }
     requires backs { Backs pass.old (map given_of (waiting_fills acq.old) ++ buffers acq.old) }
     ensures table { pass.new.table ≡ pass.old.table }
-    ensures enters { EntersOf pass.old (FillsEach (waiting_fills acq.old)) pass.new }
+    ensures enters { EntersOf pass.old (FillsRetired (waiting_fills acq.old)) pass.new }
     ensures fills { waiting_fills acq.new ≡ [] }
     ensures requests { waiting_requests acq.new ≡ waiting_requests acq.old }
     ensures rest { KeepsBlocks acq.old acq.new }

@@ -45,7 +45,7 @@ no_id b (Take Empty) none_there = refl
 no_id b (Take Closed) none_there = refl
 no_id b _ none_there = refl
 
-ids_none : (n : ℕ) (b : Board) (h : List Entry) → handed (own_of n h) ≡ [] → ids_from n b h ≡ []
+pub ids_none : (n : ℕ) (b : Board) (h : List Entry) → handed (own_of n h) ≡ [] → ids_from n b h ≡ []
 ids_none n b [] none_there = refl
 ids_none n b (e ∷ h) none_there =
     cond_both (e.by == n) (e ∷ own_of n h) (own_of n h) (λ own. handed own ≡ [] → ids_from n b (e ∷ h) ≡ [])

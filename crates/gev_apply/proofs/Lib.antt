@@ -4,3 +4,4 @@ pub mod Turns
 pub mod OneLook
 pub mod AllLooks
 pub mod OfKind
+pub mod Whole

@@ -1,5 +1,5 @@
 -- The events of turns are of their kinds.
-use Rattle.std.proofs.Common.{◌≡◌, ℕ, Bool, true, List, [], ◌∷◌, ◌++◌, Result, Ok, Err, refl, sym, subst}
+use Rattle.std.proofs.Common.{◌≡◌, ℕ, List, [], ◌∷◌, ◌++◌, Result, Ok, Err, refl, sym, subst}
 use Rattle.gentl_types.specs.declared.buffer_id.BufferId.{BufferId}
 use Rattle.gentl_types.specs.declared.errors.GcError.{GcError}
 use Rattle.gentl_types.specs.declared.errors.GcError.TheVariants.{InvalidHandle, ResourceInUse, Abort}
@@ -9,7 +9,7 @@ use Rattle.board_calls.specs.Calls.{OpensWith, RefusesGrab, Queues}
 use Rattle.buffer_words.specs.Loans.{Lent}
 use Rattle.buffer_words.specs.Workers.{AreEvents}
 use Rattle.gentl_events.specs.Turns.{idle_turns, last_turn}
-use Rattle.gev_apply.specs.Looks.{Looked, WaitsNoTime, GivesBack, Follows, LooksOnce, LookEach}
+use Rattle.gev_apply.specs.Looks.{Looked, WaitsNoTime, Follows, LooksOnce, LookEach}
 use Rattle.gev_apply.specs.Kinds.{is_turns}
 
 abbrev Are : List Event → Type 0

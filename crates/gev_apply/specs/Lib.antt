@@ -2,3 +2,4 @@ pub mod TakenIds
 pub mod Looks
 pub mod Applied
 pub mod Kinds
+pub mod History

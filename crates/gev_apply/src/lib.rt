@@ -14,4 +14,4 @@ mod looking;
 mod tests;
 
 pub use applying::apply;
-pub use laws::turns_are_of_their_kind;
+pub use laws::{the_applications_part_stays, turns_are_of_their_kind};

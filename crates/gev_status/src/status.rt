@@ -27,6 +27,8 @@ pub enum Status {
     ReadFault,
     /// Writing failed.
     WriteFault,
+    /// A link failed: it couldn't be bound, or a send or a receive failed.
+    LinkFault,
     /// Memory ran out.
     NoMemory,
     /// A command that was sent three times had no answer.
@@ -38,6 +40,13 @@ pub enum Status {
     Refused {
         /// The status of its acknowledge.
         status: u16,
+    },
+    /// The reader of a live run made all its turns before the asked number of frames was handed out.
+    TurnsSpent {
+        /// How many turns it made.
+        turns: u64,
+        /// How many frames were handed out.
+        frames: u32,
     },
     /// A record of the capture is refused. The text of the packets before it was written.
     BadCapture {
@@ -59,9 +68,11 @@ impl Status {
             Status::BadScript { .. } => 3,
             Status::ReadFault => 4,
             Status::WriteFault => 5,
+            Status::LinkFault => 6,
             Status::NoMemory => 7,
             Status::NoAnswer { .. } => 9,
             Status::Refused { .. } => 10,
+            Status::TurnsSpent { .. } => 11,
             Status::BadCapture { .. } => 12,
         }
     }
@@ -79,9 +90,13 @@ impl fmt::Display for Status {
             }
             Status::ReadFault => write!(f, "reading failed"),
             Status::WriteFault => write!(f, "writing failed"),
+            Status::LinkFault => write!(f, "the network failed"),
             Status::NoMemory => write!(f, "out of memory"),
             Status::NoAnswer { req } => write!(f, "no answer to request {req}"),
             Status::Refused { status } => write!(f, "refused with status 0x{status:04x}"),
+            Status::TurnsSpent { turns, frames } => {
+                write!(f, "{turns} turns spent, {frames} frames")
+            }
             Status::BadCapture { record, kind } => {
                 let cause = CaptureCause(*kind);
                 write!(f, "record {record}: {cause}")

@@ -9,7 +9,7 @@ use Rattle.camera_trace.specs.Standing as camera
 use Rattle.camera_trace.specs.Laws.{IsTold}
 use Rattle.gev_make.specs.MakeText.{make_text}
 use Rattle.gev_status.specs.declared.status.Status.{Status}
-use Rattle.gev_status.specs.declared.status.Status.TheVariants.{Done, Usage, BadScript, ReadFault, WriteFault, NoMemory, NoAnswer, Refused, BadCapture}
+use Rattle.gev_status.specs.declared.status.Status.TheVariants.{Done, Usage, BadScript, ReadFault, WriteFault, LinkFault, NoMemory, NoAnswer, Refused, TurnsSpent, BadCapture}
 use Rattle.gev_top.specs.declared.command.Command.{Command}
 use Rattle.gev_top.specs.declared.command.Command.TheVariants.{Replay, Streams, Camera, Make, Soak}
 use Rattle.gev_top.specs.Scripts.{Ends, IfEnded, AnswersContent}
@@ -49,6 +49,8 @@ Writes text (BadScript line kind) written written_after writes writes_after = �
 Writes text (Usage place) written written_after writes writes_after = ⊥
 Writes text (NoAnswer req) written written_after writes writes_after = ⊥
 Writes text (Refused status) written written_after writes writes_after = ⊥
+Writes text LinkFault written written_after writes writes_after = ⊥
+Writes text (TurnsSpent turns frames) written written_after writes writes_after = ⊥
 Writes text (BadCapture number kind) written written_after writes writes_after = ⊥
 
 -- A text is made, and nothing is read.

@@ -5,12 +5,12 @@ use Rattle.capture_runs.specs.declared.ending.Ending.TheVariants as endings
 use Rattle.capture_runs.specs.Ends.{RunEnds, IsWhole, AnswersContent}
 use Rattle.capture_streams.specs.Texts.{streams_text, listed_text}
 use Rattle.gev_status.specs.declared.status.Status.{Status}
-use Rattle.gev_status.specs.declared.status.Status.TheVariants.{Done, Usage, BadScript, ReadFault, WriteFault, NoMemory, NoAnswer, Refused, BadCapture}
+use Rattle.gev_status.specs.declared.status.Status.TheVariants.{Done, Usage, BadScript, ReadFault, WriteFault, LinkFault, NoMemory, NoAnswer, Refused, TurnsSpent, BadCapture}
 
 -- the answer by how the run over a capture ended
 abbrev pub status_from : Ending → Status
 status_from endings.Done = Done
-status_from (endings.BadCapture record_number kind) = BadCapture record_number kind
+status_from (endings.BadCapture number kind) = BadCapture number kind
 status_from endings.ReadFault = ReadFault
 status_from endings.WriteFault = WriteFault
 status_from endings.NoMemory = NoMemory
@@ -18,7 +18,7 @@ status_from endings.NoMemory = NoMemory
 -- this of the ending that the answer stands for
 abbrev pub IfCaptured : (Ending → Type 0) → Status → Type 0
 IfCaptured P Done = P endings.Done
-IfCaptured P (BadCapture record_number kind) = P (endings.BadCapture record_number kind)
+IfCaptured P (BadCapture number kind) = P (endings.BadCapture number kind)
 IfCaptured P ReadFault = P endings.ReadFault
 IfCaptured P WriteFault = P endings.WriteFault
 IfCaptured P NoMemory = P endings.NoMemory
@@ -26,6 +26,8 @@ IfCaptured P (Usage place) = ⊥
 IfCaptured P (BadScript line kind) = ⊥
 IfCaptured P (NoAnswer req) = ⊥
 IfCaptured P (Refused status) = ⊥
+IfCaptured P LinkFault = ⊥
+IfCaptured P (TurnsSpent turns frames) = ⊥
 
 -- The streams of a capture: the text of the capture's packets was written.
 abbrev pub ListsStreams : Status → Option (List ℕ) → Option (List ℕ) → ℕ → ℕ → Option (List ℕ) → Option (List ℕ) → ℕ → ℕ → Type 0

@@ -7,6 +7,8 @@
 
 mod capturing;
 mod command;
+mod live_numbers;
+mod live_words;
 mod making;
 mod numbers;
 mod plain;
@@ -19,5 +21,7 @@ mod usage;
 
 pub use command::Command;
 pub use gev_status::Status;
+pub use live_numbers::LiveNumbers;
+pub use live_words::read_live;
 pub use plain::plain_top;
 pub use top::gevacq_top;

@@ -126,7 +126,7 @@ fn read_rates(words: &[String]) -> Result<Rates, u32>
 }
 
 /// The number within these bounds that the word at this place is, or the place.
-fn number_at(low: u64, high: u64, place: u32, words: &[String]) -> Result<u64, u32>
+pub(crate) fn number_at(low: u64, high: u64, place: u32, words: &[String]) -> Result<u64, u32>
     ensures value { result ≡ number_at low high place (map (λ word. string_bytes word) words.now) }
     ensures within { IfOk result (λ n. (low ≤ n) × (n ≤ high)) }
 {
@@ -156,7 +156,7 @@ fn short_at(place: u32, words: &[String]) -> Result<bool, u32>
 }
 
 /// No word stands at this place, or the place.
-fn none_at(place: u32, words: &[String]) -> Result<(), u32>
+pub(crate) fn none_at(place: u32, words: &[String]) -> Result<(), u32>
     ensures { result ≡ none_at place (map (λ word. string_bytes word) words.now) }
 {
     match words.get(place as usize) {
@@ -166,7 +166,7 @@ fn none_at(place: u32, words: &[String]) -> Result<(), u32>
 }
 
 /// Whether the word is just this one.
-fn is(word: &[u8], wanted: &[u8]) -> bool
+pub(crate) fn is(word: &[u8], wanted: &[u8]) -> bool
     ensures { result ≡ bytes_eq word.now wanted.now }
 {
     word == wanted

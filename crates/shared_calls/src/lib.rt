@@ -3,6 +3,8 @@
 
 #[cfg(test)]
 mod board_tests;
+#[cfg(test)]
+mod meeting_tests;
 mod share;
 #[cfg(test)]
 mod tests;

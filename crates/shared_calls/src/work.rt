@@ -17,7 +17,7 @@ use std::thread;
 use std::thread::Threads;
 
 /// Claims a buffer and fills it as it is: whether there was one.
-fn fill_one<R: Wait>(rt: &R, board: &Board, pass: &mut Pass) -> bool
+pub(crate) fn fill_one<R: Wait>(rt: &R, board: &Board, pass: &mut Pass) -> bool
     requires table { pass.old.table ≡ board_id board.now }
     requires empty { IsEmptyHanded pass.old }
     ensures works { Works is_fillers pass.old pass.new }

@@ -70,6 +70,15 @@ fn numbers_and_texts(rt: HostRuntime) -> Result<(), Fail> {
         (Status::ReadFault, 4, "reading failed"),
         (Status::WriteFault, 5, "writing failed"),
         (Status::NoMemory, 7, "out of memory"),
+        (Status::LinkFault, 6, "the network failed"),
+        (
+            Status::TurnsSpent {
+                turns: 3,
+                frames: 0,
+            },
+            11,
+            "3 turns spent, 0 frames",
+        ),
         (Status::NoAnswer { req: 1 }, 9, "no answer to request 1"),
         (
             Status::Refused { status: 0x8006 },

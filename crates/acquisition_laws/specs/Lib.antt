@@ -1,0 +1,3 @@
+pub mod Erased
+pub mod Turns
+pub mod Laws

@@ -1,0 +1,225 @@
+-- All turns of the reader, one after the other.
+use Rattle.std.proofs.Common.{◌≡◌, ◌≢◌, ℕ, ◌+◌, ◌<◌, ◌≤◌, List, [], ◌∷◌, ◌++◌, length, refl, ap, sym, ◌∙◌, subst, append_assoc, length-append, arith}
+use Rattle.std.proofs.lemmas.List.{append-nil}
+use Rattle.board_machine.specs.declared.events.Event.TheVariants.{LookRun}
+use Rattle.acquisition_machine.specs.declared.config.AcqConfig.{AcqConfig}
+use Rattle.acquisition_machine.specs.Machine.{Input}
+use Rattle.acquisition_machine.specs.Runs.{first_state, After}
+use Rattle.acquisition_machine.proofs.Joining.{after_from-append}
+use Rattle.gev_links.specs.Links.{Address, Adds}
+use Rattle.gev_links.specs.Moments.{TellsEach}
+use Rattle.gev_links.proofs.Growing.{tells_none, tells_more, tells_then, adds_none}
+use Rattle.buffer_words.specs.Passes.{Token, Enters}
+use Rattle.buffer_words.proofs.Several.{each_none, each_one, each_first, each_then}
+use Rattle.gev_acq.specs.declared.turn.Turn.{Turn}
+use Rattle.gev_control.specs.declared.turn_end.TurnEnd.{TurnEnd}
+use Rattle.gev_control.specs.declared.turn_end.TurnEnd.TheVariants as ends
+use Rattle.gev_control.specs.declared.acq_end.AcqEnd.TheVariants as how
+use Rattle.gev_acq.specs.Serving.{Serves}
+use Rattle.gev_acq.specs.Claims.{Claims}
+use Rattle.gev_control.specs.Sends.{addressed}
+use Rattle.gev_control.specs.Controlled.{listed, is_fault}
+use Rattle.gev_acq.specs.Reading.{FaultsOf}
+use Rattle.gev_acq.specs.Turns.{Turned, Outside, inputs_of, TakesTurn, TakesOne}
+use Rattle.gev_acq.specs.Acquired.{inputs_in, answers_in, moments_in, heards_in, sends_in, TurnsOn, AllGoOn, EndsIn, Acquires}
+use Rattle.gev_acq.proofs.Owning.{claims_none, claims_then}
+use Rattle.gev_control.proofs.Fronts.{added_then}
+use Rattle.gev_acq.proofs.TurnLists.{inputs-push, answers-push, moments-push, heards-push, sends-push, go_on-push, turns-push, notes-push, controls-push}
+
+-- So many turns were made, and all went on.
+pub record GoesOn (c : AcqConfig) (camera : Address) (Old New : List Input → Type 0) (o n : Outside) (journal journal_now : List Turn) (count : ℕ) (s t : Token) : Type 0 where
+  pub made : List Turned
+  pub entries : List Turn
+  pub on : TurnsOn c camera Old New o n made entries s t
+  pub number : length made ≡ count
+  pub all : AllGoOn made
+  pub journal_is : journal_now ≡ journal ++ entries
+
+pub begins : (c : AcqConfig) (camera : Address) (Old : List Input → Type 0) (o : Outside) (journal : List Turn) (s : Token) → GoesOn c camera Old Old o o journal journal 0 s s
+begins c camera Old o journal s = record {
+  made = [];
+  entries = [];
+  on = record {
+    events = [];
+    enters = each_none s;
+    serves = λ q old. refl;
+    stands = λ q old. subst Old (sym (append-nil q)) old;
+    claims = claims_none [] s s [] refl tt (each_none s);
+    notes = λ q old. tt;
+    controlled = λ q old. refl;
+    received = tells_none o.received;
+    heard = tells_none o.heard;
+    sent = adds_none o.sent;
+    told = tells_none o.told;
+  };
+  number = refl;
+  all = tt;
+  journal_is = sym (append-nil journal);
+}
+
+-- a look before the turn
+looked_claims : (is : List Input) (s t u : Token) (run : ℕ) → Enters s (LookRun run) t → Claims is t u → Claims is s u
+looked_claims is s t u run look claims =
+    claims_then [] is s t u look.number (claims_none [] s t (LookRun run ∷ []) refl (λ b. refl, tt) (each_one s t (LookRun run) look refl)) claims
+
+turns_more : (c : AcqConfig) (camera : Address) (Old Mid New : List Input → Type 0) (o m n : Outside) (made : List Turned) (entries : List Turn) (turned : Turned) (entry : Turn) (s t u v : Token)
+    → TurnsOn c camera Old Mid o m made entries s t → Enters t (LookRun 1) u → TakesTurn c camera Mid New m n turned entry u v
+    → TurnsOn c camera Old New o n (made ++ turned ∷ []) (entries ++ entry ∷ []) s v
+turns_more c camera Old Mid New o m n made entries turned entry s t u v on look one = record {
+  events = on.events ++ LookRun 1 ∷ one.serves.events;
+  enters = each_then s t v on.events (LookRun 1 ∷ one.serves.events) on.enters (each_first t u v (LookRun 1) one.serves.events look refl one.serves.enters);
+  serves = λ q old.
+      turns-push c (After c q) made turned on.events one.serves.events (on.serves q old)
+      (subst (λ x. Serves c x (inputs_of turned) one.serves.events) (after_from-append c first_state q (inputs_in made))
+      (one.serves.serves (q ++ inputs_in made) (on.stands q old)));
+  stands = λ q old. subst New (ends_at q) (one.serves.stands (q ++ inputs_in made) (on.stands q old));
+  claims = subst (λ l. Claims l s v) (sym (inputs-push made turned))
+      (claims_then (inputs_in made) (inputs_of turned) s t v on.enters.number on.claims (looked_claims (inputs_of turned) t u v 1 look one.serves.claims));
+  notes = λ q old. notes-push c q made turned entries entry (on.notes q old) (one.notes (q ++ inputs_in made) (on.stands q old));
+  controlled = λ q old.
+      controls-push c q o.client m.client n.client made turned (on.controlled q old) (one.controlled (q ++ inputs_in made) (on.stands q old)) one.client;
+  received = subst (λ l. TellsEach o.received n.received l) (sym (answers-push made turned))
+      (tells_more o.received m.received n.received (answers_in made) turned.answer on.received one.received);
+  heard = subst (λ l. TellsEach o.heard n.heard l) (sym (heards-push made turned))
+      (tells_then o.heard m.heard n.heard (heards_in made) (listed turned.heard) on.heard one.heard);
+  sent = subst (λ l. Adds o.sent n.sent (addressed camera l)) (sym (sends-push made turned))
+      (added_then camera o.sent m.sent n.sent (sends_in made) turned.sent on.sent one.sent);
+  told = subst (λ l. TellsEach o.told n.told l) (sym (moments-push made turned))
+      (tells_more o.told m.told n.told (moments_in made) turned.moment on.told one.told);
+}
+  where
+    ends_at : (q : List Input) → (q ++ inputs_in made) ++ inputs_of turned ≡ q ++ inputs_in (made ++ turned ∷ [])
+    ends_at q = append_assoc q (inputs_in made) (inputs_of turned) ∙ ap (λ l. q ++ l) (sym (inputs-push made turned))
+
+-- The turns so far, a look that found the run word 1, and one more turn that ended so.
+record OneMore (c : AcqConfig) (camera : Address) (Old New : List Input → Type 0) (o n : Outside) (journal journal_after : List Turn) (count : ℕ) (end : TurnEnd) (s v : Token) : Type 0 where
+  made : List Turned
+  turned : Turned
+  entries : List Turn
+  on : TurnsOn c camera Old New o n (made ++ turned ∷ []) entries s v
+  number : length made ≡ count
+  all : AllGoOn made
+  ended : turned.end ≡ end
+  journal_is : journal_after ≡ journal ++ entries
+
+one_more : (c d : AcqConfig) (camera : Address) (Old Mid New : List Input → Type 0) (o m n : Outside) (journal journal_now journal_after : List Turn) (count run : ℕ) (entry : Turn) (end : TurnEnd) (s t u v : Token)
+    → GoesOn c camera Old Mid o m journal journal_now count s t → d ≡ c → Enters t (LookRun run) u → run ≡ 1 → TakesOne d camera Mid New m n entry end u v → journal_after ≡ journal_now ++ entry ∷ []
+    → OneMore c camera Old New o n journal journal_after count end s v
+one_more c d camera Old Mid New o m n journal journal_now journal_after count run entry end s t u v so config look one takes pushed = record {
+  made = so.made;
+  turned = takes.turned;
+  entries = so.entries ++ entry ∷ [];
+  on = turns_more c camera Old Mid New o m n so.made so.entries takes.turned entry s t u v so.on (subst (λ k. Enters t (LookRun k) u) one look)
+      (subst (λ (x : AcqConfig). TakesTurn x camera Mid New m n takes.turned entry u v) config takes.takes);
+  number = so.number;
+  all = so.all;
+  ended = takes.ended;
+  journal_is = pushed ∙ (ap (λ l. l ++ entry ∷ []) so.journal_is ∙ append_assoc journal so.entries (entry ∷ []));
+}
+
+-- the turn went on
+pub goes_on : (c d : AcqConfig) (camera : Address) (Old Mid New : List Input → Type 0) (o m n : Outside) (journal journal_now journal_after : List Turn) (count run : ℕ) (entry : Turn) (end : TurnEnd) (s t u v : Token)
+    → GoesOn c camera Old Mid o m journal journal_now count s t → d ≡ c → Enters t (LookRun run) u → run ≡ 1 → TakesOne d camera Mid New m n entry end u v → journal_after ≡ journal_now ++ entry ∷ []
+    → end ≡ ends.GoesOn → GoesOn c camera Old New o n journal journal_after (count + 1) s v
+goes_on c d camera Old Mid New o m n journal journal_now journal_after count run entry end s t u v so config look one takes pushed fine = record {
+  made = more.made ++ more.turned ∷ [];
+  entries = more.entries;
+  on = more.on;
+  number = omega (arith, length-append more.made (more.turned ∷ []), more.number);
+  all = go_on-push more.made more.turned more.all (more.ended ∙ fine);
+  journal_is = more.journal_is;
+}
+  where
+    more : OneMore c camera Old New o n journal journal_after count end s v
+    more = one_more c d camera Old Mid New o m n journal journal_now journal_after count run entry end s t u v so config look one takes pushed
+
+-- ---- the ends
+
+ends_in : (c : AcqConfig) (camera : Address) (Old New : List Input → Type 0) (o n : Outside) (journal journal_after : List Turn) (count turns : ℕ) (end : TurnEnd) (s v : Token)
+    → (more : OneMore c camera Old New o n journal journal_after count end s v) → count < turns
+    → (length (more.made ++ more.turned ∷ []) ≤ turns) × EndsIn end (more.made ++ more.turned ∷ [])
+ends_in c camera Old New o n journal journal_after count turns end s v more few = (
+  omega (arith, length-append more.made (more.turned ∷ []), more.number, few),
+  record { before = more.made; last = more.turned; is = refl; on = more.all; ended = more.ended },
+)
+
+pub ends_fault : (c d : AcqConfig) (camera : Address) (Old Mid New : List Input → Type 0) (o m n : Outside) (journal journal_now journal_after : List Turn) (count turns run : ℕ) (entry : Turn) (end : TurnEnd) (s t u v : Token)
+    → GoesOn c camera Old Mid o m journal journal_now count s t → d ≡ c → Enters t (LookRun run) u → run ≡ 1 → TakesOne d camera Mid New m n entry end u v → journal_after ≡ journal_now ++ entry ∷ []
+    → count < turns → end ≡ ends.Fault → Acquires c camera Old New o n journal journal_after turns how.Fault s v
+ends_fault c d camera Old Mid New o m n journal journal_now journal_after count turns run entry end s t u v so config look one takes pushed few is = record {
+  made = more.made ++ more.turned ∷ [];
+  entries = more.entries;
+  middle = v;
+  on = more.on;
+  last = refl;
+  ends = ends_in c camera Old New o n journal journal_after count turns ends.Fault s v more few;
+  journal_is = more.journal_is;
+}
+  where
+    more : OneMore c camera Old New o n journal journal_after count ends.Fault s v
+    more = one_more c d camera Old Mid New o m n journal journal_now journal_after count run entry ends.Fault s t u v so config look one
+        (subst (λ e. TakesOne d camera Mid New m n entry e u v) is takes) pushed
+
+pub ends_unanswered : (c d : AcqConfig) (camera : Address) (Old Mid New : List Input → Type 0) (o m n : Outside) (journal journal_now journal_after : List Turn) (count turns run req : ℕ) (entry : Turn) (end : TurnEnd) (s t u v : Token)
+    → GoesOn c camera Old Mid o m journal journal_now count s t → d ≡ c → Enters t (LookRun run) u → run ≡ 1 → TakesOne d camera Mid New m n entry end u v → journal_after ≡ journal_now ++ entry ∷ []
+    → count < turns → end ≡ ends.NoAnswer req → Acquires c camera Old New o n journal journal_after turns (how.NoAnswer req) s v
+ends_unanswered c d camera Old Mid New o m n journal journal_now journal_after count turns run req entry end s t u v so config look one takes pushed few is = record {
+  made = more.made ++ more.turned ∷ [];
+  entries = more.entries;
+  middle = v;
+  on = more.on;
+  last = refl;
+  ends = ends_in c camera Old New o n journal journal_after count turns (ends.NoAnswer req) s v more few;
+  journal_is = more.journal_is;
+}
+  where
+    more : OneMore c camera Old New o n journal journal_after count (ends.NoAnswer req) s v
+    more = one_more c d camera Old Mid New o m n journal journal_now journal_after count run entry (ends.NoAnswer req) s t u v so config look one
+        (subst (λ e. TakesOne d camera Mid New m n entry e u v) is takes) pushed
+
+pub ends_refused : (c d : AcqConfig) (camera : Address) (Old Mid New : List Input → Type 0) (o m n : Outside) (journal journal_now journal_after : List Turn) (count turns run status : ℕ) (entry : Turn) (end : TurnEnd) (s t u v : Token)
+    → GoesOn c camera Old Mid o m journal journal_now count s t → d ≡ c → Enters t (LookRun run) u → run ≡ 1 → TakesOne d camera Mid New m n entry end u v → journal_after ≡ journal_now ++ entry ∷ []
+    → count < turns → end ≡ ends.Refused status → Acquires c camera Old New o n journal journal_after turns (how.Refused status) s v
+ends_refused c d camera Old Mid New o m n journal journal_now journal_after count turns run status entry end s t u v so config look one takes pushed few is = record {
+  made = more.made ++ more.turned ∷ [];
+  entries = more.entries;
+  middle = v;
+  on = more.on;
+  last = refl;
+  ends = ends_in c camera Old New o n journal journal_after count turns (ends.Refused status) s v more few;
+  journal_is = more.journal_is;
+}
+  where
+    more : OneMore c camera Old New o n journal journal_after count (ends.Refused status) s v
+    more = one_more c d camera Old Mid New o m n journal journal_now journal_after count run entry (ends.Refused status) s t u v so config look one
+        (subst (λ e. TakesOne d camera Mid New m n entry e u v) is takes) pushed
+
+pub ends_stopped : (c : AcqConfig) (camera : Address) (Old New : List Input → Type 0) (o n : Outside) (journal journal_now : List Turn) (count turns run : ℕ) (s t u : Token)
+    → GoesOn c camera Old New o n journal journal_now count s t → Enters t (LookRun run) u → run ≢ 1 → count < turns → Acquires c camera Old New o n journal journal_now turns how.Stopped s u
+ends_stopped c camera Old New o n journal journal_now count turns run s t u so look other few = record {
+  made = so.made;
+  entries = so.entries;
+  middle = t;
+  on = so.on;
+  last = record { run = run; stopped = other; enters = each_one t u (LookRun run) look refl };
+  ends = (omega (arith, so.number, few), so.all);
+  journal_is = so.journal_is;
+}
+
+pub ends_spent : (c : AcqConfig) (camera : Address) (Old New : List Input → Type 0) (o n : Outside) (journal journal_now : List Turn) (count turns : ℕ) (s t : Token)
+    → GoesOn c camera Old New o n journal journal_now count s t → count ≡ turns → Acquires c camera Old New o n journal journal_now turns how.Spent s t
+ends_spent c camera Old New o n journal journal_now count turns s t so all = record {
+  made = so.made;
+  entries = so.entries;
+  middle = t;
+  on = so.on;
+  last = refl;
+  ends = (so.number ∙ all, so.all);
+  journal_is = so.journal_is;
+}
+
+-- a turn that went on had no fault
+pub counts_stay : (end : TurnEnd) (stream stream_after control control_after : ℕ) → FaultsOf (is_fault end) stream stream_after control control_after → end ≡ ends.GoesOn
+    → (stream_after ≡ stream) × (control_after ≡ control)
+counts_stay end stream stream_after control control_after faults fine =
+    subst (λ e. FaultsOf (is_fault e) stream stream_after control control_after) fine faults

@@ -1,0 +1,118 @@
+-- The fills of served inputs, and what the client goes through in turns.
+use Rattle.std.proofs.Common.{◌≡◌, ℕ, List, [], ◌∷◌, ◌++◌, map, Option, Some, None, refl, ap, sym, ◌∙◌}
+use Rattle.board_machine.specs.declared.events.Event.{Event}
+use Rattle.board_machine.specs.Adding.{entries_of}
+use Rattle.client_machine.specs.declared.outcome.Outcome.{Outcome}
+use Rattle.client_machine.specs.declared.outcome.Outcome.TheVariants.{Waiting, Idle, Acked, Refused, NoAnswer}
+use Rattle.client_machine.specs.Machine.{Client, ticked, received, taken}
+use Rattle.client_machine.specs.Events.{Event as ClientEvent, receives, ticks, takes, after as after_events}
+use Rattle.acquisition_machine.specs.declared.config.AcqConfig.{AcqConfig}
+use Rattle.acquisition_machine.specs.Blocks.{fills}
+use Rattle.acquisition_machine.specs.Machine.{Input, datagram, claimed, tick, stop, restart, State, step}
+use Rattle.acquisition_machine.specs.Runs.{first_state, after_from, After, retired_from}
+use Rattle.gev_links.specs.Links.{Answer, nothing, failed, came}
+use Rattle.block_fills.specs.Fills.{tried, item_of}
+use Rattle.block_fills.proofs.Tries.{tried-append, fills-append, items-append, items_from, items_from-append, entries-append, retired_tried}
+use Rattle.gev_control.specs.Controlled.{after_tick, after_receive, ticks_turn, control_of}
+use Rattle.gev_acq.specs.Serving.{claim_events, Serves}
+use Rattle.gev_acq.specs.Turns.{Turned, inputs_of}
+use Rattle.gev_acq.specs.Acquired.{inputs_in, ServesTurns, ControlEach}
+use Rattle.gev_acq.specs.Laws.{client_events, and_then}
+
+-- what two lists of events put into the output
+pub tried_both : (k : ℕ) (es fs : List Event) → tried (entries_of k (es ++ fs)) ≡ tried (entries_of k es) ++ tried (entries_of k fs)
+tried_both k es fs = ap tried (entries-append k es fs) ∙ tried-append (entries_of k es) (entries_of k fs)
+
+claims_try_nothing : (k : ℕ) (i : Input) → tried (entries_of k (claim_events i)) ≡ []
+claims_try_nothing k (datagram bytes) = refl
+claims_try_nothing k (claimed given) = refl
+claims_try_nothing k (tick moment) = refl
+claims_try_nothing k stop = refl
+claims_try_nothing k restart = refl
+
+pub served_fills : (k : ℕ) (c : AcqConfig) (s : State) (is : List Input) (es : List Event) → Serves c s is es → tried (entries_of k es) ≡ items_from c s is
+served_fills k c s [] es none = ap (λ l. tried (entries_of k l)) none
+served_fills k c s (i ∷ is) es each =
+    ap (λ l. tried (entries_of k l)) each.4
+    ∙ (tried_both k (claim_events i) (each.0 ++ each.1)
+    ∙ (ap (λ l. l ++ tried (entries_of k (each.0 ++ each.1))) (claims_try_nothing k i)
+    ∙ (tried_both k each.0 each.1
+    ∙ (ap (λ l. l ++ tried (entries_of k each.1)) (retired_tried k (fills c.p (step c s i).retired) each.0 each.2)
+    ∙ (ap (λ l. map item_of (fills c.p (step c s i).retired) ++ l) (served_fills k c (step c s i).after is each.1 each.3)
+    ∙ sym joined)))))
+  where
+    joined : items_from c s (i ∷ is) ≡ map item_of (fills c.p (step c s i).retired) ++ items_from c (step c s i).after is
+    joined =
+        ap (λ l. map item_of l) (fills-append c.p (step c s i).retired (retired_from c (step c s i).after is))
+        ∙ items-append (fills c.p (step c s i).retired) (fills c.p (retired_from c (step c s i).after is))
+
+pub turns_fill : (k : ℕ) (c : AcqConfig) (s : State) (made : List Turned) (es : List Event) → ServesTurns c s made es → tried (entries_of k es) ≡ items_from c s (inputs_in made)
+turns_fill k c s [] es none = ap (λ l. tried (entries_of k l)) none
+turns_fill k c s (t ∷ ts) es each =
+    ap (λ l. tried (entries_of k l)) each.4
+    ∙ (tried_both k each.0 each.1
+    ∙ (ap (λ l. l ++ tried (entries_of k each.1)) (served_fills k c s (inputs_of t) each.0 each.2)
+    ∙ (ap (λ l. items_from c s (inputs_of t) ++ l) (turns_fill k c (after_from c s (inputs_of t)) ts each.1 each.3)
+    ∙ sym (items_from-append c s (inputs_of t) (inputs_in ts)))))
+
+pub readers_fill : (k : ℕ) (c : AcqConfig) (made : List Turned) (es fs : List Event) → ServesTurns c first_state made es → Serves c (After c (inputs_in made)) (stop ∷ []) fs
+    → tried (entries_of k (es ++ fs)) ≡ items_from c first_state (inputs_in made ++ stop ∷ [])
+readers_fill k c made es fs turns last =
+    tried_both k es fs
+    ∙ (ap (λ l. l ++ tried (entries_of k fs)) (turns_fill k c first_state made es turns)
+    ∙ (ap (λ l. items_from c first_state (inputs_in made) ++ l) (served_fills k c (After c (inputs_in made)) (stop ∷ []) fs last)
+    ∙ sym (items_from-append c first_state (inputs_in made) (stop ∷ []))))
+
+-- ---- the client
+
+then_one : (es xs : List ClientEvent) (x : ClientEvent) → and_then es (xs ++ x ∷ []) ≡ x ∷ and_then es xs
+then_one es [] x = refl
+then_one es (y ∷ xs) x = then_one (y ∷ es) xs x
+
+then_both : (es xs ys : List ClientEvent) → and_then es (xs ++ ys) ≡ and_then (and_then es xs) ys
+then_both es [] ys = refl
+then_both es (x ∷ xs) ys = then_both (x ∷ es) xs ys
+
+takes_then : (es xs : List ClientEvent) (s : Client) → s ≡ after_events (and_then es xs) → taken s ≡ after_events (and_then es (xs ++ takes ∷ []))
+takes_then es xs s is = ap taken is ∙ sym (ap after_events (then_one es xs takes))
+
+tick_goes : (es xs : List ClientEvent) (s : Client) (outcome : Outcome) → s ≡ after_events (and_then es xs)
+    → (after_tick xs s outcome).state ≡ after_events (and_then es (after_tick xs s outcome).events)
+tick_goes es xs s (Waiting req) is = takes_then es xs s is
+tick_goes es xs s Idle is = takes_then es xs s is
+tick_goes es xs s Acked is = takes_then es xs s is
+tick_goes es xs s (Refused status) is = takes_then es xs s is
+tick_goes es xs s (NoAnswer req) is = is
+
+ticks_go : (es xs : List ClientEvent) (s : Client) (moment : ℕ) → s ≡ after_events (and_then es xs)
+    → (ticks_turn xs s moment).state ≡ after_events (and_then es (ticks_turn xs s moment).events)
+ticks_go es xs s moment is =
+    tick_goes es (xs ++ ticks moment ∷ []) (ticked s moment).client (ticked s moment).outcome
+    (ap (λ (x : Client). (ticked x moment).client) is ∙ sym (ap after_events (then_one es xs (ticks moment))))
+
+receive_goes : (es xs : List ClientEvent) (s : Client) (outcome : Outcome) (moment : ℕ) → s ≡ after_events (and_then es xs)
+    → (after_receive xs s outcome moment).state ≡ after_events (and_then es (after_receive xs s outcome moment).events)
+receive_goes es xs s (Waiting req) moment is = ticks_go es xs s moment is
+receive_goes es xs s Idle moment is = ticks_go es xs s moment is
+receive_goes es xs s Acked moment is = ticks_go es xs s moment is
+receive_goes es xs s (Refused status) moment is = is
+receive_goes es xs s (NoAnswer req) moment is = ticks_go es xs s moment is
+
+-- the client's part of a turn
+turn_goes : (es : List ClientEvent) (s : Client) (heard : Option Answer) (moment : ℕ) → s ≡ after_events es
+    → (control_of s heard moment).state ≡ after_events (and_then es (control_of s heard moment).events)
+turn_goes es s None moment is = is
+turn_goes es s (Some failed) moment is = is
+turn_goes es s (Some nothing) moment is = ticks_go es [] s moment is
+turn_goes es s (Some (came bytes peer)) moment is =
+    receive_goes es (receives bytes moment ∷ []) (received s bytes moment).client (received s bytes moment).outcome moment
+    (ap (λ (x : Client). (received x bytes moment).client) is)
+
+pub client_goes : (c : AcqConfig) (q : List Input) (s u : Client) (made : List Turned) (es : List ClientEvent) → ControlEach c q s made u → s ≡ after_events es
+    → u ≡ after_events (and_then es (client_events s made))
+client_goes c q s u [] es same is = same ∙ is
+client_goes c q s u (t ∷ ts) es each is =
+    client_goes c (q ++ inputs_of t) (control_of s t.heard t.moment).state u ts (and_then es (control_of s t.heard t.moment).events) each.1
+    (turn_goes es s t.heard t.moment is)
+    ∙ sym (ap after_events
+    (then_both es (control_of s t.heard t.moment).events (client_events (control_of s t.heard t.moment).state ts)))

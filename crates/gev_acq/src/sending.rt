@@ -1,0 +1,33 @@
+//! The requests of a turn.
+
+ghost use Rattle.std.specs.Prelude.{◌≡◌, []};
+ghost use Rattle.acq_core.specs.Receiver.{KeepsBlocks};
+ghost use Rattle.acq_core.specs.Waiting.{waiting_fills, waiting_requests};
+ghost use Rattle.gev_control.specs.Sends.{SendsOn, Fails};
+
+use acq_core::Acq;
+use gev_control::send_unless;
+use gev_links::Link;
+use gev_types::Peer;
+
+/// Takes the requests that wait out of the receiver, and sends them in order, unless something failed
+/// before: whether something has failed by now.
+pub(crate) fn send_requests<M: Link>(
+    acq: &mut Acq,
+    control: &mut M,
+    camera: Peer,
+    failed: bool,
+) -> bool
+    ensures sends { SendsOn camera (waiting_requests acq.old) failed result (M.sent control.old) (M.sent control.new) }
+    ensures fails { Fails failed result (M.faults control.old) (M.faults control.new) }
+    ensures received { M.received control.new ≡ M.received control.old }
+    ensures fills { waiting_fills acq.new ≡ waiting_fills acq.old }
+    ensures requests { waiting_requests acq.new ≡ [] }
+    ensures rest { KeepsBlocks acq.old acq.new }
+{
+    let mut failed = failed;
+    'requests: while let Some(bytes) = acq.next_request() {
+        failed = send_unless(control, camera, &bytes, failed);
+    }
+    failed
+}

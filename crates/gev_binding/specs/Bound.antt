@@ -1,0 +1,23 @@
+-- Three links that ports gave, and what goes back to them.
+use Rattle.std.specs.Prelude.{◌≡◌, ℕ, ◌+◌, ◌≤◌, List, ◌++◌, length, Option, Some, None}
+use Rattle.gev_links.specs.Faults.{Rose}
+use Rattle.gev_links.specs.Links.{Address, Answer}
+use Rattle.gev_links.specs.PortsState.{AreNew}
+
+-- These came back one after the other. Ports that tell which did tell of three at least.
+abbrev pub ComeBack : {A : Type 0} → Option (List A) → Option (List A) → List A → Type 0
+ComeBack None new members = new ≡ None
+ComeBack (Some old) new members = length old + length members ≤ 3 → new ≡ Some (old ++ members)
+
+-- Two links at most came back, each as it was given.
+pub record GivesBack {L : Type 0} (received : L → Option (List Answer)) (sent : L → Option (List (Address × List ℕ))) (faults : L → ℕ) (old new : Option (List L)) : Type 0 where
+  pub came : List L
+  pub few : length came ≤ 2
+  pub unused : AreNew received sent faults came
+  pub back : ComeBack old new came
+
+-- The ports' count of faults, by the counts of three links that came back: it rises exactly where one of them had
+-- a fault.
+pub record RaisesBy (camera stream control old new : ℕ) : Type 0 where
+  pub stays : camera + stream + control ≡ 0 → new ≡ old
+  pub rises : 1 ≤ camera + stream + control → Rose old new

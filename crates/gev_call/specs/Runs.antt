@@ -1,0 +1,70 @@
+-- A live run over ports that give its links and clocks and take them back.
+use Rattle.std.specs.Prelude.{◌≡◌, ◌⊎◌, ℕ, List, [], ◌∷◌, Option, Some, None}
+use Rattle.board_machine.specs.declared.events.Entry.{Entry}
+use Rattle.gev_links.specs.Links.{Address, Answer, IsBlank}
+use Rattle.gev_links.specs.PortsState.{IsNew}
+use Rattle.gev_serve.specs.Wires.{Wire, wire}
+use Rattle.gev_status.specs.declared.status.Status.{Status}
+use Rattle.gev_status.specs.declared.status.Status.TheVariants.{LinkFault, NoMemory}
+use Rattle.gev_top.specs.declared.live_numbers.LiveNumbers.{LiveNumbers}
+use Rattle.gev_live.specs.Told.{Told}
+use Rattle.gev_live.specs.LiveRun.{Numbers, RunsLive}
+
+-- what these three links and three clocks tell
+abbrev pub told_by : {L C : Type 0} → (L → Option (List Answer)) → (L → Option (List (Address × List ℕ))) → (L → ℕ) → (C → Option (List ℕ)) → L → L → L → C → C → C → Told
+told_by received sent faults told camera stream control camera_clock host_clock app_clock = record {
+  camera = wire (received camera) (sent camera) (faults camera);
+  stream = wire (received stream) (sent stream) (faults stream);
+  control = wire (received control) (sent control) (faults control);
+  camera_clock = told camera_clock;
+  host_clock = told host_clock;
+  app_clock = told app_clock;
+}
+
+abbrev pub IsNewWire : Wire → Type 0
+IsNewWire w = IsNew w.received w.sent w.faults
+
+-- nothing was received, sent or read yet, and no call failed
+pub record IsUntold (o : Told) : Type 0 where
+  pub camera : IsNewWire o.camera
+  pub stream : IsNewWire o.stream
+  pub control : IsNewWire o.control
+  pub camera_clock : IsBlank o.camera_clock
+  pub host_clock : IsBlank o.host_clock
+  pub app_clock : IsBlank o.app_clock
+
+-- Just three links and three clocks came back, and they tell this.
+pub record AreListed {L C : Type 0} (received : L → Option (List Answer)) (sent : L → Option (List (Address × List ℕ))) (faults : L → ℕ) (told : C → Option (List ℕ))
+    (links : Option (List L)) (clocks : Option (List C)) (e : Told) : Type 0 where
+  pub camera : L
+  pub stream : L
+  pub control : L
+  pub camera_clock : C
+  pub host_clock : C
+  pub app_clock : C
+  pub links_are : links ≡ Some (camera ∷ stream ∷ control ∷ [])
+  pub clocks_are : clocks ≡ Some (camera_clock ∷ host_clock ∷ app_clock ∷ [])
+  pub are : e ≡ told_by received sent faults told camera stream control camera_clock host_clock app_clock
+
+abbrev pub numbers_of : LiveNumbers → Numbers
+numbers_of n = record { seed = n.seed; frames = n.frames; buffers = n.buffers; turns = n.turns }
+
+-- A live run over new links and clocks, whose history is h. Where the ports told what came back, and nothing had,
+-- they tell of just the run's links and clocks, as they were at its end.
+pub record RunsOver {L C : Type 0} (received : L → Option (List Answer)) (sent : L → Option (List (Address × List ℕ))) (faults : L → ℕ) (told : C → Option (List ℕ))
+    (n : LiveNumbers) (status : Status) (links links_after : Option (List L)) (clocks clocks_after : Option (List C))
+    (written written_after : Option (List ℕ)) (writes writes_after : ℕ) (h : List Entry) : Type 0 where
+  -- the addresses of the camera's link and of the stream's
+  pub camera : Address
+  pub stream : Address
+  pub begins : Told
+  pub untold : IsUntold begins
+  pub ends : Told
+  pub runs : RunsLive (numbers_of n) camera stream status begins ends written written_after writes writes_after h
+  pub listed : links ≡ Some [] → clocks ≡ Some [] → AreListed received sent faults told links_after clocks_after ends
+
+-- No board was made: a bind failed, or memory was wanting, and nothing was written.
+pub record RunsNothing (status : Status) (written written_after : Option (List ℕ)) (writes writes_after : ℕ) : Type 0 where
+  pub cause : (status ≡ LinkFault) ⊎ (status ≡ NoMemory)
+  pub unwritten : written_after ≡ written
+  pub no_fault : writes_after ≡ writes

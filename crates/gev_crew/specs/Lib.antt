@@ -1,0 +1,4 @@
+pub mod Prepared
+pub mod Kinds
+pub mod Work
+pub mod Homes

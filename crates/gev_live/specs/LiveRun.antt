@@ -1,0 +1,55 @@
+-- A live run: its history, what each worker did, how it ended, and what was written.
+use Rattle.std.specs.Prelude.{◌≡◌, ◌⊎◌, ℕ, List, ◌++◌, Option, Result}
+use Rattle.gev_types.specs.declared.memory.NoMemory.{NoMemory}
+use Rattle.board_machine.specs.declared.events.Entry.{Entry}
+use Rattle.gev_links.specs.Links.{Address}
+use Rattle.gev_report.specs.LiveLine.{live_line}
+use Rattle.gev_serve.specs.declared.ends.ServeEnd.{ServeEnd}
+use Rattle.gev_control.specs.declared.acq_end.AcqEnd.{AcqEnd}
+use Rattle.gev_status.specs.declared.status.Status.{Status}
+use Rattle.gev_status.specs.declared.status.Status.TheVariants as status
+use Rattle.gev_crew.specs.Prepared.{FallsShort}
+use Rattle.board_machine.specs.Adding.{entries_of}
+use Rattle.board_machine.specs.declared.events.Event.{Event}
+use Rattle.gev_live.specs.Told.{Told, live_config, live_camera}
+use Rattle.gev_live.specs.History.{Crew, live_size, LiveHistory}
+use Rattle.gev_live.specs.Endings.{taken_of, status_by, EndsSo}
+use Rattle.gev_live.specs.Parts.{LiveReader, LiveCamera, LiveApplication}
+
+-- what is asked of a live run
+pub record Numbers : Type 0 where
+  -- of the generator of the camera's frames
+  pub seed : ℕ
+  -- how many frames are to be handed out
+  pub frames : ℕ
+  pub buffers : ℕ
+  -- the most turns of the reader
+  pub turns : ℕ
+
+-- The three workers ran, and ended so. `camera` is the address of the camera's link, `stream` that of the stream's.
+pub record LiveRun (n : Numbers) (camera stream : Address) (answer : Status) (o e : Told) (written written_after : Option (List ℕ)) (faults faults_after : ℕ) (h : List Entry) : Type 0 where
+  pub crew : Crew
+  pub history : LiveHistory n.buffers crew h
+  pub served : ServeEnd
+  pub camera_part : LiveCamera (live_camera n.seed) o e crew.camera served h
+  pub read : AcqEnd
+  pub reader_part : LiveReader live_config camera stream o e n.turns crew.reader read h
+  pub applied : Result ℕ NoMemory
+  pub lines : List ℕ
+  pub application_part : LiveApplication o e n.frames crew.application lines applied h
+  pub ended : EndsSo (status_by served read n.frames n.turns applied) answer (lines ++ live_line n.frames (taken_of applied)) written written_after faults faults_after
+
+-- Memory was wanting before the workers began: fewer buffers than asked were prepared, and nothing was received,
+-- sent or written.
+pub record NeverRan (n : Numbers) (answer : Status) (o e : Told) (written written_after : Option (List ℕ)) (faults faults_after : ℕ) (h : List Entry) : Type 0 where
+  pub wanted : answer ≡ status.NoMemory
+  pub events : List Event
+  pub short : FallsShort live_size n.buffers events
+  pub seen : h ≡ entries_of 0 events
+  pub untold : e ≡ o
+  pub unwritten : written_after ≡ written
+  pub no_fault : faults_after ≡ faults
+
+abbrev pub RunsLive : Numbers → Address → Address → Status → Told → Told → Option (List ℕ) → Option (List ℕ) → ℕ → ℕ → List Entry → Type 0
+RunsLive n camera stream answer o e written written_after faults faults_after h =
+    LiveRun n camera stream answer o e written written_after faults faults_after h ⊎ NeverRan n answer o e written written_after faults faults_after h

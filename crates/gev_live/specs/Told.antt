@@ -1,0 +1,51 @@
+-- What the links and the clocks of a live run tell, and the conditions under which its workers begin.
+use Rattle.std.specs.Prelude.{◌≡◌, ℕ, ◌≤◌, List, [], Option}
+use Rattle.client_machine.specs.Machine.{Client, HasSubmittedNone}
+use Rattle.acq_core.specs.Receiver.{config_of, buffers, Stands}
+use Rattle.acq_core.specs.declared.machine.Machine.{Machine}
+use Rattle.acq_core.specs.Waiting.{waiting_fills, waiting_requests}
+use Rattle.camera_machine.specs.Camera.{Camera, new_camera}
+use Rattle.acquisition_machine.specs.declared.config.AcqConfig.{AcqConfig}
+use Rattle.gev_types.specs.declared.frame.Shape.{Shape}
+use Rattle.gev_acq.specs.declared.turn.Turn.{Turn}
+use Rattle.gev_serve.specs.Wires.{Wire}
+use Rattle.gev_acq.specs.Turns.{Outside}
+
+-- how a live run receives: packets of 1500 bytes, two open blocks, 200 and 20 milliseconds, three rounds
+abbrev pub live_config : AcqConfig
+live_config = record { p = 1452; window = 2; timeout = 200; age = 20; rounds = 3 }
+
+-- images of 640 x 480 pixels of one byte each (Mono8)
+abbrev pub live_shape : Shape
+live_shape = record { pixel = 17301505; size_x = 640; size_y = 480 }
+
+-- the camera of a live run, which can send the packets of its last four frames again
+abbrev pub live_camera : ℕ → Camera
+live_camera seed = new_camera seed live_shape 4
+
+-- what the links and the clocks tell
+pub record Told : Type 0 where
+  pub camera : Wire
+  pub stream : Wire
+  pub control : Wire
+  -- the moments of the camera's clock, of the host's and of the application's
+  pub camera_clock : Option (List ℕ)
+  pub host_clock : Option (List ℕ)
+  pub app_clock : Option (List ℕ)
+
+-- what the reader is told, with its client
+abbrev pub reader_side : Told → Client → Outside
+reader_side t client = record { received = t.stream.received; heard = t.control.received; sent = t.control.sent; told = t.host_clock; client = client }
+
+-- The camera, the receiver, the client and the journal are new, and the journal has room for so many turns.
+pub record AreNew (seed turns : ℕ) (camera : Camera) (receiver : Machine) (client : Client) (journal : List Turn) (room : ℕ) (lines : List ℕ) : Type 0 where
+  pub camera_is : camera ≡ live_camera seed
+  pub config : config_of receiver ≡ live_config
+  pub stands : Stands receiver []
+  pub fills : waiting_fills receiver ≡ []
+  pub requests : waiting_requests receiver ≡ []
+  pub buffers_none : buffers receiver ≡ []
+  pub client_is : HasSubmittedNone client
+  pub unwritten : journal ≡ []
+  pub room_for : turns ≤ room
+  pub no_lines : lines ≡ []

@@ -1,0 +1,15 @@
+//! Live runs: camera, reader and application as threads that share one board.
+//!
+//! `specs/History.antt` says what the history of a run is, `specs/Parts.antt` what each worker did,
+//! `specs/Endings.antt` how a run ends, and `specs/LiveRun.antt` all of it together.
+#![tactic(auto)]
+
+mod crew;
+mod ends;
+mod finishing;
+mod live;
+mod running;
+mod tools;
+
+pub use ends::Ends;
+pub use live::live_over;

@@ -1,0 +1,4 @@
+pub mod Joined
+pub mod OfKind
+pub mod Whole
+pub mod Strict
