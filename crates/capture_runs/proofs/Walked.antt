@@ -135,7 +135,7 @@ module _ {P : Type 0} where
       let ys = sighted m (with_packet reader_after.packet []) in
       let more = g.read.more in
       let walked = walks_next fresh (s.all ++ more) s.records reader.format (reader.held ++ more) r
-          (walks_more fresh s.all more s.records reader.format reader.held s.walks) g.read.holds.told_so in
+      (walks_more fresh s.all more s.records reader.format reader.held s.walks) g.read.holds.told_so in
       let sights : sightings (packets_in (s.records ++ r ∷ [])) ≡ xs ++ ys = sightings_next s.records r m s.moments in
       record {
         all = s.all ++ more;
@@ -241,8 +241,8 @@ module _ {P : Type 0} where
       let xs = sightings (packets_in rs) in
       let ys = sighted m (packets_in more) in
       let sights : sightings (packets_in (rs ++ more)) ≡ xs ++ ys =
-          ap (λ (ps : List Packet). sightings ps) (packets_append rs more) ∙ sighted-append no_moments (packets_in rs) (packets_in more)
-          ∙ ap (λ (k : Moments). xs ++ sighted k (packets_in more)) (sym e) in
+      ap (λ (ps : List Packet). sightings ps) (packets_append rs more) ∙ sighted-append no_moments (packets_in rs) (packets_in more)
+      ∙ ap (λ (k : Moments). xs ++ sighted k (packets_in more)) (sym e) in
       subst (λ (text : List ℕ). WritesFront written written_after text)
       (append_assoc out (said t p xs) (whole t (state t p xs) ys)
       ∙ ap (λ (l : List ℕ). out ++ l) (sym (whole-append t p xs ys) ∙ ap (λ (l : List Sighting). whole t p l) (sym sights)))
@@ -293,28 +293,32 @@ module _ {P : Type 0} where
         holds = whole_written t Begun Stands p (sightings (packets_in s.records)) out held written written_mid written_after (s.drained p begun) (turn.2 (state t p (sightings (packets_in s.records))) (s.told p begun));
       }
   stood_ends t Begun Stands reader m out held left mid left_after reads reads_mid reads_after written written_mid written_after writes writes_mid writes_after ReadFault s e f turn p begun =
-      let all = s.all ++ turn.1.more in
-      (subst (λ (k : ℕ). Rose k reads_after) e turn.0, record {
-        bytes = all;
-        records = s.records;
-        now = reader.format;
-        rest = reader.held ++ turn.1.more;
-        given = Gives-append left mid left_after s.all turn.1.more s.came turn.1.given;
-        walks = came_with t Begun Stands reader m out held turn.1.more left mid left_after written written_mid s;
-        holds = (turn.1.holds, broken_written t p (sightings (packets_in s.records)) out held written written_mid written_after (s.drained p begun) (turn.2 (state t p (sightings (packets_in s.records))) (s.told p begun)));
-      })
+      let all = s.all ++ turn.1.more in (
+        subst (λ (k : ℕ). Rose k reads_after) e turn.0,
+        record {
+          bytes = all;
+          records = s.records;
+          now = reader.format;
+          rest = reader.held ++ turn.1.more;
+          given = Gives-append left mid left_after s.all turn.1.more s.came turn.1.given;
+          walks = came_with t Begun Stands reader m out held turn.1.more left mid left_after written written_mid s;
+          holds = (turn.1.holds, broken_written t p (sightings (packets_in s.records)) out held written written_mid written_after (s.drained p begun) (turn.2 (state t p (sightings (packets_in s.records))) (s.told p begun)));
+        },
+      )
   stood_ends t Begun Stands reader m out held left mid left_after reads reads_mid reads_after written written_mid written_after writes writes_mid writes_after WriteFault s e f turn p begun =
       let b = turn.1 in
-      let all = s.all ++ b.more in
-      (subst (λ (k : ℕ). Rose k writes_after) f turn.0, record {
-        bytes = all;
-        records = s.records ++ b.records;
-        now = b.now;
-        rest = b.rest;
-        given = Gives-append left mid left_after s.all b.more s.came b.given;
-        walks = walks_on fresh all s.records reader.format (reader.held ++ b.more) b.records b.now b.rest (came_with t Begun Stands reader m out held b.more left mid left_after written written_mid s) b.walks;
-        holds = front_written t p m s.records b.records out held written written_mid written_after s.moments (s.drained p begun) (b.front (state t p (sightings (packets_in s.records))) (s.told p begun));
-      })
+      let all = s.all ++ b.more in (
+        subst (λ (k : ℕ). Rose k writes_after) f turn.0,
+        record {
+          bytes = all;
+          records = s.records ++ b.records;
+          now = b.now;
+          rest = b.rest;
+          given = Gives-append left mid left_after s.all b.more s.came b.given;
+          walks = walks_on fresh all s.records reader.format (reader.held ++ b.more) b.records b.now b.rest (came_with t Begun Stands reader m out held b.more left mid left_after written written_mid s) b.walks;
+          holds = front_written t p m s.records b.records out held written written_mid written_after s.moments (s.drained p begun) (b.front (state t p (sightings (packets_in s.records))) (s.told p begun));
+        },
+      )
   stood_ends t Begun Stands reader m out held left mid left_after reads reads_mid reads_after written written_mid written_after writes writes_mid writes_after NoMemory s e f turn p begun =
       record {
         bytes = s.all ++ turn.more;
@@ -365,20 +369,23 @@ module _ {P : Type 0} where
   turn_ended t Stands end n (BadCapture number kind) reader reader_after m held left left_after reads reads_after written written_after writes writes_after c nexts ends =
       (omega (arith, ends.1, c), ended_by end (Refused kind) reader reader_after left left_after reads reads_after ends.0 nexts, ends.2)
   turn_ended t Stands end n ReadFault reader reader_after m held left left_after reads reads_after written written_after writes writes_after c nexts ends =
-      let r = ended_by end capture_end.ReadFault reader reader_after left left_after reads reads_after ends.0 nexts in
-      (r.holds.1,
+      let r = ended_by end capture_end.ReadFault reader reader_after left left_after reads reads_after ends.0 nexts in (
+        r.holds.1,
         reads_weaker reader.format reader.held left left_after (λ bytes. CauseOfEnd capture_end.ReadFault reader.format bytes left_after reads reads_after) (λ bytes. IsOpen reader.format bytes) (λ bytes h. h.0) r,
-        ends.1)
-  turn_ended t Stands end n WriteFault reader reader_after m held left left_after reads reads_after written written_after writes writes_after c nexts ends =
-      (ends.0, record {
-        more = nexts.more;
-        given = nexts.given;
-        records = [];
-        now = reader.format;
-        rest = reader.held ++ nexts.more;
-        walks = (refl, refl);
-        front = ends.1;
-      })
+        ends.1,
+      )
+  turn_ended t Stands end n WriteFault reader reader_after m held left left_after reads reads_after written written_after writes writes_after c nexts ends = (
+    ends.0,
+    record {
+      more = nexts.more;
+      given = nexts.given;
+      records = [];
+      now = reader.format;
+      rest = reader.held ++ nexts.more;
+      walks = (refl, refl);
+      front = ends.1;
+    },
+  )
   turn_ended t Stands end n NoMemory reader reader_after m held left left_after reads reads_after written written_after writes writes_after c nexts ends =
       record { more = nexts.more; given = nexts.given; unwritten = ends }
 
@@ -391,20 +398,22 @@ module _ {P : Type 0} where
       → TurnEnds t Stands WriteFault reader m held left left_after reads reads_after written written_after writes writes_after
   turn_broken t Stands Stands_after reader reader_after m held held_mid left left_after written written_after reads reads_after writes writes_after nexts tells rose front =
       let r = read_with nexts.1.holds.size reader_after.format reader_after.packet in
-      let ys = sighted m (with_packet reader_after.packet []) in
-      (rose, record {
-        more = nexts.1.more;
-        given = nexts.1.given;
-        records = r ∷ [];
-        now = reader_after.format;
-        rest = drop nexts.1.holds.size (reader.held ++ nexts.1.more);
-        walks = (nexts.1.holds.told_so, (refl, refl));
-        front = λ p stands.
-            let end = t.finish (state t p ys) ++ t.close (state t p ys) in
-            subst (λ (text : List ℕ). WritesFront written written_after text)
-            (ap (λ (text : List ℕ). text ++ end) (tells p stands).added ∙ append_assoc held (said t p ys) end)
-            (front_more written written_after held_mid end front);
-      })
+      let ys = sighted m (with_packet reader_after.packet []) in (
+        rose,
+        record {
+          more = nexts.1.more;
+          given = nexts.1.given;
+          records = r ∷ [];
+          now = reader_after.format;
+          rest = drop nexts.1.holds.size (reader.held ++ nexts.1.more);
+          walks = (nexts.1.holds.told_so, (refl, refl));
+          front = λ p stands.
+              let end = t.finish (state t p ys) ++ t.close (state t p ys) in
+              subst (λ (text : List ℕ). WritesFront written written_after text)
+              (ap (λ (text : List ℕ). text ++ end) (tells p stands).added ∙ append_assoc held (said t p ys) end)
+              (front_more written written_after held_mid end front);
+        },
+      )
 
   -- a record came, its packet was told of, and some text was written
   pub turn_goes : (t : Texts P) (Stands Stands_after : P → Type 0) (reader reader_after : CaptureState) (m m_after : Moments) (held held_mid held_after : List ℕ)
@@ -464,14 +473,18 @@ ends_as w v b d e f Done left left_after reads reads_after written written_after
 ends_as w v b d e f (BadCapture n kind) left left_after reads reads_after written written_after writes writes_after h =
     captured_as_well left left_after (refusal_at n kind) (λ ps. Appends written written_after (w (sightings ps))) (λ ps. Appends written written_after (v (sightings ps)))
     (λ ps. subst (λ (t : List ℕ). Appends written written_after t) (e (sightings ps))) h
-ends_as w v b d e f ReadFault left left_after reads reads_after written written_after writes writes_after h =
-    (h.0, read_as_well left left_after
+ends_as w v b d e f ReadFault left left_after reads reads_after written written_after writes writes_after h = (
+  h.0,
+  read_as_well left left_after
       (λ rs now rest. IsOpen now rest × Appends written written_after (b (sightings (packets_in rs)))) (λ rs now rest. IsOpen now rest × Appends written written_after (d (sightings (packets_in rs))))
-      (λ rs now rest g. (g.0, subst (λ (t : List ℕ). Appends written written_after t) (f (sightings (packets_in rs))) g.1)) h.1)
-ends_as w v b d e f WriteFault left left_after reads reads_after written written_after writes writes_after h =
-    (h.0, read_as_well left left_after
+      (λ rs now rest g. (g.0, subst (λ (t : List ℕ). Appends written written_after t) (f (sightings (packets_in rs))) g.1)) h.1,
+)
+ends_as w v b d e f WriteFault left left_after reads reads_after written written_after writes writes_after h = (
+  h.0,
+  read_as_well left left_after
       (λ rs now rest. WritesFront written written_after (w (sightings (packets_in rs)))) (λ rs now rest. WritesFront written written_after (v (sightings (packets_in rs))))
-      (λ rs now rest. subst (λ (t : List ℕ). WritesFront written written_after t) (e (sightings (packets_in rs)))) h.1)
+      (λ rs now rest. subst (λ (t : List ℕ). WritesFront written written_after t) (e (sightings (packets_in rs)))) h.1,
+)
 ends_as w v b d e f NoMemory left left_after reads reads_after written written_after writes writes_after h =
     read_as_well left left_after
     (λ rs now rest. WritesFront written written_after (w (sightings (packets_in rs)))) (λ rs now rest. WritesFront written written_after (v (sightings (packets_in rs))))

@@ -30,11 +30,7 @@ pub fn drain<K: Sink>(sink: &mut K, out: &mut Vec<u8>) -> Result<(), Failed>
 }
 
 /// Adds what is still to be written where the capture ends so.
-fn add_rest<T: Telling>(
-    end: CaptureEnd,
-    telling: &mut T,
-    out: &mut Vec<u8>,
-) -> Result<(), NoMemory>
+fn add_rest<T: Telling>(end: CaptureEnd, telling: &mut T, out: &mut Vec<u8>) -> Result<(), NoMemory>
     ensures { OnOk result ((p : T.Plain) → T.stands_for telling.old p → out.new.items ≡ out.old.items ++ rest_text T.texts p end) }
 {
     telling.finish(out)?;

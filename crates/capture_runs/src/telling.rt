@@ -17,12 +17,7 @@ pub trait Telling {
     ghost stands_for: { Self → Plain → Type 0 };
 
     /// Adds the text of the next packet, which came at this moment, in milliseconds from the first packet.
-    fn packet(
-        &mut self,
-        moment: u64,
-        what: Content<'_>,
-        out: &mut Vec<u8>,
-    ) -> Result<(), NoMemory>
+    fn packet(&mut self, moment: u64, what: Content<'_>, out: &mut Vec<u8>) -> Result<(), NoMemory>
         requires { IsShort (seen_as what) }
         ensures { OnOk result ((p : Plain) → stands_for self.old p
             → Tells texts p (record { moment = moment; what = seen_as what.entry } ∷ []) (stands_for self.new) out.old.items out.new.items) };

@@ -140,7 +140,9 @@ impl Stream {
     ) -> Stream
         ensures { result ≡ begun sender receiver moment extended block info }
     {
-        Stream::blank(sender, receiver, moment, block)
-            .heard(moment, Sign::Leader(extended, block, info))
+        Stream::blank(sender, receiver, moment, block).heard(
+            moment,
+            Sign::Leader(extended, block, info),
+        )
     }
 }

@@ -25,17 +25,19 @@ next_ok form faces faces_new records records_new size slot room room_new found o
     let format = format_of form faces in
     let new = state_of found.form faces_new records_new found.size found.packet room_new in
     let as_told : told format bytes ≡ given found.size new.format new.packet =
-        f.holds.0
-        ∙ ap (λ (fs : List Face). given found.size (format_of found.form fs) (option_map (slot_packet bytes) found.packet)) (sym g)
-        ∙ ap (λ (bs : List ℕ). given found.size new.format (option_map (slot_packet bs) found.packet)) (sym f.holds.2) in
-    subst (λ (o : CaptureState). Nexts (Ok tt) o new left left_after faults faults_after) e
-    (h, record {
-      more = f.more;
-      given = f.given;
-      prompt = f.prompt;
-      few = f.few;
-      holds = record { size = found.size; told_so = as_told; held = ap (λ (bs : List ℕ). drop found.size bs) f.holds.2 };
-    })
+    f.holds.0
+    ∙ ap (λ (fs : List Face). given found.size (format_of found.form fs) (option_map (slot_packet bytes) found.packet)) (sym g)
+    ∙ ap (λ (bs : List ℕ). given found.size new.format (option_map (slot_packet bs) found.packet)) (sym f.holds.2) in
+    subst (λ (o : CaptureState). Nexts (Ok tt) o new left left_after faults faults_after) e (
+      h,
+      record {
+        more = f.more;
+        given = f.given;
+        prompt = f.prompt;
+        few = f.few;
+        holds = record { size = found.size; told_so = as_told; held = ap (λ (bs : List ℕ). drop found.size bs) f.holds.2 };
+      },
+    )
 
 pub next_err : (form : Form) (faces : List Face) (records size : ℕ) (slot : Option Slot) (room room_new : List ℕ) (end : CaptureEnd) (old : CaptureState)
     (left left_after : Option (List ℕ)) (faults faults_after : ℕ)

@@ -21,10 +21,11 @@ told_with format bytes more r e =
 pub walks_more : (format : Format) (bytes more : List ℕ) (rs : List Read) (now : Format) (rest : List ℕ) → Walks format bytes rs now rest → Walks format (bytes ++ more) rs now (rest ++ more)
 walks_more format bytes more [] now rest w = (w.0, ap (λ (bs : List ℕ). bs ++ more) w.1)
 walks_more format bytes more (r ∷ rs) now rest w =
-    let t = told_with format bytes more r w.0 in
-    (t.told_so,
+    let t = told_with format bytes more r w.0 in (
+      t.told_so,
       subst (λ (bs : List ℕ). Walks r.format bs rs now (rest ++ more)) (sym (drop-append-le r.size bytes more t.within))
-      (walks_more r.format (drop r.size bytes) more rs now rest w.1))
+          (walks_more r.format (drop r.size bytes) more rs now rest w.1),
+    )
 
 -- one more record
 pub walks_next : (format : Format) (bytes : List ℕ) (rs : List Read) (now : Format) (rest : List ℕ) (r : Read) → Walks format bytes rs now rest

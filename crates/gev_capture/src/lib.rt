@@ -23,6 +23,8 @@ mod room;
 mod seeing;
 mod step;
 mod telling;
+#[cfg(test)]
+mod tests;
 
 pub use capture_end::CaptureEnd;
 pub use captured::Captured;
