@@ -72,3 +72,15 @@ plays_cons p old mid new i is q n t stands f g = record {
 -- a claim fills nothing
 pub filled_claim : (p size : ℕ) (s : State) (is : List Input) → filled_from p s (found size ∷ is) ≡ filled_from p (step (config p) s (found size)).after is
 filled_claim p size s is = refl
+
+pub keeps_none : (m : Machine) → KeepsBlocks m m
+keeps_none m = record { stands = λ q s. s; buffers = refl; opens = refl; asked = refl; config = refl }
+
+pub keeps_both : (m n o : Machine) → KeepsBlocks m n → KeepsBlocks n o → KeepsBlocks m o
+keeps_both m n o k l = record {
+  stands = λ q s. l.stands q (k.stands q s);
+  buffers = l.buffers ∙ k.buffers;
+  opens = l.opens ∙ k.opens;
+  asked = l.asked ∙ k.asked;
+  config = l.config ∙ k.config;
+}

@@ -7,8 +7,7 @@ use Rattle.gev_script.specs.Spelling.{spelling}
 use Rattle.gev_capture.specs.Contents.{Seen, Carried, other, fragment, cut, datagram}
 use Rattle.gev_capture.specs.Sightings.{Sighting}
 use Rattle.capture_runs.specs.Texts.{Texts}
-use Rattle.capture_script.specs.Playing as playing
-use Rattle.capture_script.specs.Playing.{Played, Line, nothing_played}
+use Rattle.capture_script.specs.Playing.{Played, Line, nothing_played, heard, ticked, stopped}
 
 -- the text of lines, each with its line feed
 abbrev pub text_of : List ScriptLine → List ℕ
@@ -26,91 +25,101 @@ opening_lines p size =
 abbrev pub taking : ℕ → List ScriptLine
 taking n = if n == 0 then [] else replicate n line.take ++ line.flush 3 ∷ []
 
-pub record Scripted : Type 0 where
-  pub played : Played
-  -- of the last `t` line, 0 before the first
-  pub moment : ℕ
-
-abbrev pub nothing_scripted : Scripted
-nothing_scripted = record { played = nothing_played; moment = 0 }
-
--- lines, and how the script stands behind them
-pub record Lines : Type 0 where
-  pub lines : List ScriptLine
-  pub after : Scripted
-
 -- a line, and the takes of what is filled there
 abbrev pub with_takes : ScriptLine → Line → List ScriptLine
 with_takes l played = l ∷ taking played.filled
 
--- time goes on, where the moment is above that of the last `t` line
-abbrev pub ticks : ℕ → ℕ → Scripted → Lines
-ticks p moment s =
-    if nat_lt s.moment moment
-    then record { lines = with_takes (line.tick moment) (playing.ticked p moment s.played); after = record { played = (playing.ticked p moment s.played).after; moment = moment } }
-    else record { lines = []; after = s }
+-- the script so far
+pub record Scripted : Type 0 where
+  -- its datagrams go to this port
+  pub port : ℕ
+  -- the most bytes of a payload
+  pub p : ℕ
+  -- the size of a buffer
+  pub size : ℕ
+  pub played : Played
+  -- of the last `t` line, 0 before the first
+  pub moment : ℕ
 
--- the datagram comes
-abbrev pub carries : ℕ → ℕ → List ℕ → Scripted → Lines
-carries p size bytes s = record {
-  lines = with_takes (line.datagram (encode_lower bytes)) (playing.heard p size bytes s.played);
-  after = record s { played = (playing.heard p size bytes s.played).after };
-}
+abbrev pub new_script : ℕ → ℕ → ℕ → Scripted
+new_script port p size = record { port = port; p = p; size = size; played = nothing_played; moment = 0 }
+
+-- lines, and the script behind them
+pub record Lines : Type 0 where
+  pub lines : List ScriptLine
+  pub after : Scripted
+
+abbrev pub no_lines : Scripted → Lines
+no_lines s = record { lines = []; after = s }
 
 -- the one and then the other
-abbrev pub then_carries : ℕ → ℕ → List ℕ → Lines → Lines
-then_carries p size bytes before = record {
-  lines = before.lines ++ (carries p size bytes before.after).lines;
-  after = (carries p size bytes before.after).after;
+abbrev pub both : Lines → (Scripted → Lines) → Lines
+both first next = record { lines = first.lines ++ (next first.after).lines; after = (next first.after).after }
+
+-- time goes on
+abbrev pub goes_on : ℕ → Scripted → Lines
+goes_on moment s = record {
+  lines = with_takes (line.tick moment) (ticked s.p moment s.played);
+  after = record s { played = (ticked s.p moment s.played).after; moment = moment };
+}
+
+-- where the moment is above that of the last `t` line
+abbrev pub ticks : ℕ → Scripted → Lines
+ticks moment s = if nat_lt s.moment moment then goes_on moment s else no_lines s
+
+-- the datagram comes
+abbrev pub carries : List ℕ → Scripted → Lines
+carries bytes s = record {
+  lines = with_takes (line.datagram (encode_lower bytes)) (heard s.p s.size bytes s.played);
+  after = record s { played = (heard s.p s.size bytes s.played).after };
 }
 
 -- it goes to this port, and has a length that a script's line may hold
 abbrev pub is_for : ℕ → Carried → Bool
 is_for port c = c.receiver.port == port && nat_le 1 (length c.bytes) && nat_le (length c.bytes) 9999
 
-abbrev pub carried : ℕ → ℕ → ℕ → ℕ → Carried → Scripted → Lines
-carried port p size moment c s =
-    if is_for port c then then_carries p size c.bytes (ticks p moment s) else record { lines = []; after = s }
+abbrev pub carried : ℕ → Carried → Scripted → Lines
+carried moment c s = if is_for s.port c then both (ticks moment s) (carries c.bytes) else no_lines s
 
-abbrev pub seen : ℕ → ℕ → ℕ → ℕ → Seen → Scripted → Lines
-seen port p size moment other s = record { lines = []; after = s }
-seen port p size moment fragment s = record { lines = []; after = s }
-seen port p size moment cut s = record { lines = []; after = s }
-seen port p size moment (datagram c) s = carried port p size moment c s
+abbrev pub seen : ℕ → Seen → Scripted → Lines
+seen moment other s = no_lines s
+seen moment fragment s = no_lines s
+seen moment cut s = no_lines s
+seen moment (datagram c) s = carried moment c s
 
 -- the lines of a packet
-abbrev pub sighted : ℕ → ℕ → ℕ → Scripted → Sighting → Lines
-sighted port p size s x = seen port p size x.moment x.what s
+abbrev pub sighted : Scripted → Sighting → Lines
+sighted s x = seen x.moment x.what s
 
 -- the stream stops, and the script ends
-abbrev pub closing_lines : ℕ → Scripted → List ScriptLine
-closing_lines p s = with_takes (line.stop 0) (playing.stopped p s.played) ++ line.end_of_script ∷ []
+abbrev pub closing_lines : Scripted → List ScriptLine
+closing_lines s = with_takes (line.stop 0) (stopped s.p s.played) ++ line.end_of_script ∷ []
 
--- the lines behind the opening
-abbrev pub script_texts : ℕ → ℕ → ℕ → Texts Scripted
-script_texts port p size = record {
-  says = λ s x. text_of (sighted port p size s x).lines;
-  after = λ s x. (sighted port p size s x).after;
+-- the text behind the opening
+abbrev pub script_texts : Texts Scripted
+script_texts = record {
+  says = λ s x. text_of (sighted s x).lines;
+  after = λ s x. (sighted s x).after;
   finish = λ s. [];
-  close = λ s. text_of (closing_lines p s);
+  close = λ s. text_of (closing_lines s);
 }
 
--- the lines of these packets, and how the script stands behind them
-abbrev pub lines_from : ℕ → ℕ → ℕ → Scripted → List Sighting → List ScriptLine
-lines_from port p size s [] = []
-lines_from port p size s (x ∷ xs) = (sighted port p size s x).lines ++ lines_from port p size (sighted port p size s x).after xs
+-- the lines of these packets, and the script behind them
+abbrev pub lines_from : Scripted → List Sighting → List ScriptLine
+lines_from s [] = []
+lines_from s (x ∷ xs) = (sighted s x).lines ++ lines_from (sighted s x).after xs
 
-abbrev pub scripted_from : ℕ → ℕ → ℕ → Scripted → List Sighting → Scripted
-scripted_from port p size s [] = s
-scripted_from port p size s (x ∷ xs) = scripted_from port p size (sighted port p size s x).after xs
+abbrev pub script_behind : Scripted → List Sighting → Scripted
+script_behind s [] = s
+script_behind s (x ∷ xs) = script_behind (sighted s x).after xs
 
--- the lines of a script whose capture's reading failed behind these packets, which has no end
+-- the lines where reading failed behind these packets: there is no end
 abbrev pub begun_lines : ℕ → ℕ → ℕ → List Sighting → List ScriptLine
-begun_lines port p size xs = opening_lines p size ++ lines_from port p size nothing_scripted xs
+begun_lines port p size xs = opening_lines p size ++ lines_from (new_script port p size) xs
 
 -- the lines of the script of a capture with these packets
 abbrev pub script_lines : ℕ → ℕ → ℕ → List Sighting → List ScriptLine
-script_lines port p size xs = begun_lines port p size xs ++ closing_lines p (scripted_from port p size nothing_scripted xs)
+script_lines port p size xs = begun_lines port p size xs ++ closing_lines (script_behind (new_script port p size) xs)
 
 abbrev pub capture_script : ℕ → ℕ → ℕ → List Sighting → List ℕ
 capture_script port p size xs = text_of (script_lines port p size xs)

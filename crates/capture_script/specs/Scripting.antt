@@ -10,13 +10,13 @@ pub record ScriptingState : Type 0 where
 
 -- It stands so behind the lines.
 pub record StandsFor (now : ScriptingState) (s : Scripted) : Type 0 where
+  pub port : now.port ≡ s.port
+  pub p : now.playing.p ≡ s.p
+  pub size : now.playing.size ≡ s.size
   pub played : StandsAt now.playing s.played
   pub moment : now.moment ≡ s.moment
 
 -- These lines were added.
-pub record AddsLines (lines : Lines) (old new : ScriptingState) (text text_new : List ℕ) : Type 0 where
+pub record AddsLines (lines : Lines) (new : ScriptingState) (text text_new : List ℕ) : Type 0 where
   pub stands : StandsFor new lines.after
   pub text_is : text_new ≡ text ++ text_of lines.lines
-  pub port : new.port ≡ old.port
-  pub p : new.playing.p ≡ old.playing.p
-  pub size : new.playing.size ≡ old.playing.size

@@ -6,8 +6,6 @@
 
 mod playing;
 mod scripting;
-#[cfg(test)]
-mod tests;
 mod turning;
 mod writing;
 

@@ -1,8 +1,8 @@
-ghost use Rattle.std.specs.Prelude.{◌≡◌, ◌≢◌, ◌≤◌, ◌<◌, ◌++◌, ◌∷◌, [], length, OnOk};
+ghost use Rattle.std.specs.Prelude.{◌≡◌, ◌≢◌, ◌≤◌, length, IfOk, OnOk};
 ghost use Rattle.script_runs.specs.Verdicts.{IfTold};
-ghost use Rattle.capture_runs.specs.Ends.{RunEnds, AnswersContent};
-ghost use Rattle.capture_script.specs.Script.{Scripted, Lines, text_of, ticks, carries, then_carries, closing_lines, capture_script, begun_script};
-ghost use Rattle.capture_script.specs.Scripting.{ScriptingState, StandsFor, AddsLines};
+ghost use Rattle.capture_runs.specs.Ends.{RunEnds, IsWhole, AnswersContent};
+ghost use Rattle.capture_script.specs.Script.{Scripted, new_script, opening_lines, text_of, ticks, carries, closing_lines, capture_script, begun_script};
+ghost use Rattle.capture_script.specs.Scripting.{StandsFor, AddsLines};
 
 use crate::playing::Playing;
 use crate::writing::{add_datagram, add_line, add_opening, add_takes};
@@ -16,6 +16,9 @@ use std::marker::Model;
 
 /// The most hex digits of a datagram in a script.
 const MOST_DIGITS: usize = 19_998;
+
+/// The most bytes of text that are held back: 65,536, and the lines of a packet.
+const MOST_HELD: usize = 90_000;
 
 /// The most bytes of a datagram in a script.
 const MOST_BYTES: usize = 9999;
@@ -45,7 +48,7 @@ impl Model for Scripting {
 impl Scripting {
     /// Time goes on to this moment, where it's above that of the last `t` line.
     fn tick(&mut self, moment: u64, out: &mut Vec<u8>) -> Result<(), NoMemory>
-        ensures { OnOk result ((s : Scripted) → StandsFor self.old s → AddsLines (ticks self.old.playing.p moment s) self.old self.new out.old.items out.new.items) }
+        ensures { OnOk result ((s : Scripted) → StandsFor self.old s → AddsLines (ticks moment s) self.new out.old.items out.new.items) }
     {
         if moment <= self.moment {
             return Ok(());
@@ -59,7 +62,7 @@ impl Scripting {
     fn carry(&mut self, bytes: &[u8], out: &mut Vec<u8>) -> Result<(), NoMemory>
         requires some { 1 ≤ length bytes.now }
         requires few { length bytes.now ≤ 9999 }
-        ensures { OnOk result ((s : Scripted) → StandsFor self.old s → AddsLines (carries self.old.playing.p self.old.playing.size bytes.now s) self.old self.new out.old.items out.new.items) }
+        ensures { OnOk result ((s : Scripted) → StandsFor self.old s → AddsLines (carries bytes.now s) self.new out.old.items out.new.items) }
     {
         add_datagram(self.alloc, bytes, self.room.as_mut_slice(), out)?;
         add_takes(self.alloc, self.playing.hear(bytes), out)
@@ -67,7 +70,110 @@ impl Scripting {
 }
 
 impl Telling for Scripting {
-    ghost use Rattle.capture_script.specs.Script.{Scripted};
+    ghost use Rattle.capture_script.specs.Script.{Scripted, script_texts};
+    ghost use Rattle.capture_script.specs.Scripting.{StandsFor};
 
     ghost Plain = { Scripted };
+
+    ghost texts = { script_texts };
+
+    ghost stands_for = { StandsFor };
+
+    fn packet(
+        &mut self,
+        moment: u64,
+        what: Content<'_>,
+        out: &mut Vec<u8>,
+    ) -> Result<(), NoMemory> {
+        match what {
+            Content::Datagram {
+                sender: _,
+                receiver,
+                bytes,
+            } => {
+                if receiver.port != self.port || bytes.is_empty() || bytes.len() > MOST_BYTES {
+                    return Ok(());
+                }
+                self.tick(moment, out)?;
+                self.carry(bytes, out)
+            }
+            Content::Other => Ok(()),
+            Content::Fragment => Ok(()),
+            Content::Cut => Ok(()),
+        }
+    }
+
+    fn finish(&self, _out: &mut Vec<u8>) -> Result<(), NoMemory> {
+        Ok(())
+    }
+
+    fn close(&mut self, out: &mut Vec<u8>) -> Result<(), NoMemory> {
+        add_line(self.alloc, &Line::Stop { flags: 0 }, out)?;
+        add_takes(self.alloc, self.playing.stop(), out)?;
+        add_line(self.alloc, &Line::End, out)
+    }
+}
+
+/// Who writes the script of the datagrams to this port, before the first.
+fn new_scripting(alloc: Global, port: u16, p: u32, size: u32) -> Result<Scripting, NoMemory>
+    requires p_some { 528 ≤ p }
+    requires p_most { p ≤ 8964 }
+    requires some { 1 ≤ size }
+    requires in_limits { size ≤ 67108864 }
+    ensures { IfOk result (λ scripting. StandsFor scripting (new_script port p size)) }
+{
+    Ok(Scripting {
+        alloc,
+        port,
+        playing: Playing::new(alloc, p, size)?,
+        moment: 0,
+        room: vec![in alloc; 0u8; MOST_DIGITS]?,
+    })
+}
+
+/// The opening of the script, with room for what is held back before it's written.
+fn new_text(alloc: Global, p: u32, size: u32) -> Result<Vec<u8>, NoMemory>
+    requires p_some { 528 ≤ p }
+    requires p_most { p ≤ 8964 }
+    ensures { IfOk result (λ out. out.items ≡ text_of (opening_lines p size)) }
+{
+    let mut out = Vec::new(alloc);
+    out.reserve(MOST_HELD)?;
+    add_opening(alloc, p, size, &mut out)?;
+    Ok(out)
+}
+
+/// Writes a replay script of the datagrams to one port of the capture that the source gives: those of 1 to 9,999
+/// bytes, each at its moment, with a take for each buffer that is filled, which goes back at once. `p` is the most
+/// bytes of a payload, 528 to 8964, and `size` that of a buffer, 1 to 67,108,864.
+///
+/// Where a record of the capture is refused, the script of the packets before it is written with its end. Where
+/// reading fails, it's written without.
+pub fn write_capture<S: Source, K: Sink>(
+    alloc: Global,
+    port: u16,
+    p: u32,
+    size: u32,
+    source: &mut S,
+    sink: &mut K,
+) -> Ending
+    requires p_some { 528 ≤ p }
+    requires p_most { p ≤ 8964 }
+    requires some { 1 ≤ size }
+    requires in_limits { size ≤ 67108864 }
+    ensures ends { RunEnds (capture_script port p size) (begun_script port p size) result
+        (S.left source.old) (S.left source.new) (S.faults source.old) (S.faults source.new)
+        (K.written sink.old) (K.written sink.new) (K.faults sink.old) (K.faults sink.new) }
+    ensures exact { IfTold (S.left source.old) (λ content. AnswersContent result content) }
+    ensures reads_steady { IsWhole result → S.faults source.new ≡ S.faults source.old }
+    ensures writes_steady { result ≢ Ending.WriteFault → K.faults sink.new ≡ K.faults sink.old }
+{
+    let mut out = match new_text(alloc, p, size) {
+        Ok(out) => out,
+        Err(NoMemory) => return Ending::NoMemory,
+    };
+    match new_scripting(alloc, port, p, size) {
+        Ok(mut scripting) => run_capture(alloc, source, sink, &mut scripting, &mut out),
+        Err(NoMemory) => Ending::NoMemory,
+    }
 }
