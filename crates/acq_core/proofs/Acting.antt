@@ -10,7 +10,8 @@ use Rattle.acquisition_machine.specs.declared.need.Why.TheVariants.{Repeat, Misf
 use Rattle.acquisition_machine.specs.Blocks.{Given, Open, fills, is_new}
 use Rattle.acquisition_machine.specs.Machine.{State, Turn, leaving, staying, floor_after, settled, settles, ignored, noted, keeps, put, hears_open, hears_packet}
 use Rattle.acq_core.specs.declared.machine.Machine.{Machine}
-use Rattle.acq_core.specs.Standing.{SlotsStand, Acts, asked_of}
+use Rattle.acq_core.specs.Standing.{SlotsStand, Acts, asked_of, floor_of}
+use Rattle.acq_core.specs.Ending.{ends_of}
 use Rattle.acq_core.specs.Hearing.{need_given, need_in, heard_as}
 use Rattle.acq_core.specs.Retiring.{ChangesSlots, RetiresAll}
 use Rattle.acq_core.specs.Turning.{Gives, Answers, turn_of, with_heard}
@@ -39,8 +40,10 @@ pub settles_gives : (a b : Machine) (s : State) (need : Option Need) → Acts a 
 settles_gives a b s need acts r ch = record {
   acts = settles_acts a b s acts r ch;
   fills = r.fills ∙ ap (λ now. a.fills.items ++ fills a.config.p (leaving a.config now s.opens)) acts.moment;
+  ends = r.ends ∙ ap (λ now. a.ends.items ++ ends_of a.telling a.config.p (floor_of a.floor) (leaving a.config now s.opens)) acts.moment;
   requests = ap (λ (m : Machine). m.requests.items) ch ∙ sym (append_nil a.requests.items);
   config = ap (λ (m : Machine). m.config) ch;
+  telling = ap (λ (m : Machine). m.telling) ch;
 }
 
 -- ---- a packet of an open block
@@ -81,8 +84,10 @@ answers_packet a m b s x o need answer rest is r =
         acts = t.gives.acts;
         fills = t.gives.fills ∙ ap (λ l. l ++ fills m.config.p (hears_packet a.config x (Some o) s).retired) fills_is
             ∙ ap (λ (c : AcqConfig). a.fills.items ++ fills c.p (hears_packet a.config x (Some o) s).retired) config;
+        ends = t.gives.ends ∙ ap (λ (k : Machine). k.ends.items ++ ends_of k.telling k.config.p (floor_of k.floor) (hears_packet a.config x (Some o) s).retired) rest;
         requests = t.gives.requests ∙ ap (λ l. l ++ map asked_of (hears_packet a.config x (Some o) s).requests) requests_is;
         config = t.gives.config ∙ config;
+        telling = t.gives.telling ∙ ap (λ (k : Machine). k.telling) rest;
       };
       need = t.need;
     }

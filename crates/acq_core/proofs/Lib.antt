@@ -10,3 +10,4 @@ pub mod Stopping
 pub mod Opening
 pub mod Rounding
 pub mod Receiving
+pub mod FirstOnes

@@ -97,6 +97,6 @@ hears_read m n s bytes r answer is a =
     let t : Answers (record m { asked = None }) n answer (hears m.config (reading bytes) (unasked s)) =
     subst (λ k. Answers (record m { asked = None }) n answer (hears m.config k (unasked s))) is a in
     record {
-      gives = record { acts = t.gives.acts; fills = t.gives.fills; requests = t.gives.requests; config = t.gives.config };
+      gives = record { acts = t.gives.acts; fills = t.gives.fills; ends = t.gives.ends; requests = t.gives.requests; config = t.gives.config; telling = t.gives.telling };
       need = t.need;
     }

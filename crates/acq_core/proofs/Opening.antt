@@ -87,6 +87,8 @@ opens_gives m n s b at y given rest acts sound asked place items stands counted 
         number = ap (λ (k : Machine). k.number) rest ∙ acts.number;
       };
       fills = ap (λ (k : Machine). k.fills.items) rest ∙ sym (append_nil m.fills.items);
+      ends = ap (λ (k : Machine). k.ends.items) rest ∙ sym (append_nil m.ends.items);
+      telling = ap (λ (k : Machine). k.telling) rest;
       requests = ap (λ (k : Machine). k.requests.items) rest ∙ sym (append_nil m.requests.items);
       config = config;
     })

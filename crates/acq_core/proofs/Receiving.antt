@@ -25,9 +25,10 @@ use Rattle.acq_core.specs.declared.slot.Slot.{Slot}
 use Rattle.acq_core.specs.declared.slot.Hold.{Hold}
 use Rattle.acq_core.specs.declared.slot.Hold.TheVariants.{Without, With}
 use Rattle.acq_core.specs.declared.machine.Machine.{Machine}
-use Rattle.acq_core.specs.Standing.{HoldsFor, SlotsStand, Acts, HasRoom, HasPlace, asked_of}
+use Rattle.acq_core.specs.Standing.{HoldsFor, SlotsStand, Acts, HasRoom, HasPlace, asked_of, floor_of}
 use Rattle.acq_core.specs.Turning.{Gives, Answers}
-use Rattle.acq_core.specs.Waiting.{asked_bytes, waiting_fills, waiting_requests, AreNumbered}
+use Rattle.acq_core.specs.Ending.{ends_of}
+use Rattle.acq_core.specs.Waiting.{asked_bytes, waiting_fills, waiting_requests, waiting_ends, AreNumbered}
 use Rattle.acq_core.specs.Receiver.{config_of, open_count, given_in, given_to, buffers, Stands, ReceiversShowTheirInputs, Takes, KeepsBuffers, IsReceiver}
 use Rattle.acq_core.proofs.Wanting.{length-stand}
 
@@ -69,6 +70,14 @@ bytes_made (r ∷ rs) = ap (λ l. request_bytes r ∷ l) (bytes_made rs)
 requests_added : (xs ys : List Asked) (rs : List Request) → ys ≡ xs ++ map asked_of rs → map asked_bytes ys ≡ map asked_bytes xs ++ map request_bytes rs
 requests_added xs ys rs e =
     ap (map asked_bytes) e ∙ map-append asked_bytes xs (map asked_of rs) ∙ ap (λ l. map asked_bytes xs ++ l) (bytes_made rs)
+
+resends_made : (rs : List Request) → map (λ (a : Asked). a.resend) (map asked_of rs) ≡ map (λ (r : Request). r.resend) rs
+resends_made [] = refl
+resends_made (r ∷ rs) = ap (λ l. r.resend ∷ l) (resends_made rs)
+
+resends_added : (xs ys : List Asked) (rs : List Request) → ys ≡ xs ++ map asked_of rs → map (λ (a : Asked). a.resend) ys ≡ map (λ (a : Asked). a.resend) xs ++ map (λ (r : Request). r.resend) rs
+resends_added xs ys rs e =
+    ap (map (λ (a : Asked). a.resend)) e ∙ map-append (λ (a : Asked). a.resend) xs (map asked_of rs) ∙ ap (λ l. map (λ (a : Asked). a.resend) xs ++ l) (resends_made rs)
 
 made_numbered : (rs : List Request) → AllByRecursion (λ q. IsRequestNumber q.number) rs → AllByRecursion (λ a. 1 ≤ a.number) (map asked_of rs)
 made_numbered [] a = tt
@@ -153,16 +162,25 @@ stands_after m n q i g =
     subst (λ s. Acts n s) (sym (after_from-append n.config first_state q (i ∷ [])))
     (subst (λ (c : AcqConfig). Acts n (turn c q i).after) (sym g.config) g.acts)
 
-pub takes : (m n : Machine) (i : Input) → IsReceiver m → ((s : State) → Acts m s → IsSound m.config s → Gives m n (step m.config s i)) → Takes m n i
-takes m n i is f =
+-- nothing that was told before waits
+ends_alone : (m n : Machine) (s : State) (i : Input) → waiting_ends m ≡ [] → Acts m s → Gives m n (step m.config s i) → waiting_ends n ≡ ends_of m.telling m.config.p s.floor (step m.config s i).retired
+ends_alone m n s i none acts g =
+    g.ends ∙ ap (λ l. l ++ ends_of m.telling m.config.p (floor_of m.floor) (step m.config s i).retired) none
+    ∙ ap (λ k. ends_of m.telling m.config.p k (step m.config s i).retired) acts.floor
+
+pub takes : (m n : Machine) (i : Input) → IsReceiver m → waiting_ends m ≡ [] → ((s : State) → Acts m s → IsSound m.config s → Gives m n (step m.config s i)) → Takes m n i
+takes m n i is none f =
     let some : 1 ≤ m.config.window = is.room.config.window_some in
     record {
       stands = λ q s. stands_after m n q i (f (After m.config q) s (blocks_are_in_order m.config q some));
       fills = λ q s. (f (After m.config q) s (blocks_are_in_order m.config q some)).fills;
       requests = λ q s. requests_added m.requests.items n.requests.items (turn m.config q i).requests (f (After m.config q) s (blocks_are_in_order m.config q some)).requests;
+      resends = λ q s. resends_added m.requests.items n.requests.items (turn m.config q i).requests (f (After m.config q) s (blocks_are_in_order m.config q some)).requests;
+      ends = λ q s. ends_alone m n (After m.config q) i none s (f (After m.config q) s (blocks_are_in_order m.config q some));
       buffers = λ q s. buffers_held n (turn m.config q i).after (f (After m.config q) s (blocks_are_in_order m.config q some)).acts;
       opens = λ q s. opens_count n (turn m.config q i).after (f (After m.config q) s (blocks_are_in_order m.config q some)).acts;
       config = (f is.acts.state is.acts.acts is.acts.sound).config;
+      telling = (f is.acts.state is.acts.acts is.acts.sound).telling;
     }
 
 -- ---- buffers
@@ -258,6 +276,8 @@ fill_taken m n is rest fewer capacity =
         spare = is.room.spare;
         fills = omega (arith, before, fewer, capacity);
         fills_all = omega (arith, all, capacity);
+        ends = is.room.ends;
+        ends_all = is.room.ends_all;
         pairs = is.room.pairs;
         wide = is.room.wide;
         requests = is.room.requests;
@@ -277,6 +297,8 @@ request_taken m n is rest numbered capacity =
         spare = is.room.spare;
         fills = is.room.fills;
         fills_all = is.room.fills_all;
+        ends = is.room.ends;
+        ends_all = is.room.ends_all;
         pairs = is.room.pairs;
         wide = is.room.wide;
         requests = omega (arith, all, capacity);
@@ -284,3 +306,89 @@ request_taken m n is rest numbered capacity =
       numbered = numbered;
       place = is.place;
     })
+
+-- of what is told
+pub ends_taken : (m n : Machine) → IsReceiver m → n ≡ record m { ends = n.ends } → vec_len n.ends ≤ vec_len m.ends → vec_capacity n.ends ≡ vec_capacity m.ends → IsReceiver n
+ends_taken m n is rest fewer capacity =
+    let before = is.room.ends in
+    let all = is.room.ends_all in
+    subst IsReceiver (sym rest) (record {
+      acts = record { state = is.acts.state; acts = record { moment = is.acts.acts.moment; floor = is.acts.acts.floor; slots = is.acts.acts.slots; asked = is.acts.acts.asked; counts = is.acts.acts.counts; number = is.acts.acts.number }; sound = is.acts.sound };
+      room = record {
+        config = is.room.config;
+        slots = is.room.slots;
+        spare = is.room.spare;
+        fills = is.room.fills;
+        fills_all = is.room.fills_all;
+        ends = omega (arith, before, fewer, capacity);
+        ends_all = omega (arith, all, capacity);
+        pairs = is.room.pairs;
+        wide = is.room.wide;
+        requests = is.room.requests;
+      };
+      numbered = is.numbered;
+      place = is.place;
+    })
+
+-- they are told from now on
+pub receiver_telling : (m n : Machine) → IsReceiver m → n ≡ record m { telling = n.telling } → IsReceiver n
+receiver_telling m n is rest =
+    subst IsReceiver (sym rest) (record {
+      acts = record { state = is.acts.state; acts = record { moment = is.acts.acts.moment; floor = is.acts.acts.floor; slots = is.acts.acts.slots; asked = is.acts.acts.asked; counts = is.acts.acts.counts; number = is.acts.acts.number }; sound = is.acts.sound };
+      room = record {
+        config = is.room.config;
+        slots = is.room.slots;
+        spare = is.room.spare;
+        fills = is.room.fills;
+        fills_all = is.room.fills_all;
+        ends = is.room.ends;
+        ends_all = is.room.ends_all;
+        pairs = is.room.pairs;
+        wide = is.room.wide;
+        requests = is.room.requests;
+      };
+      numbered = is.numbered;
+      place = is.place;
+    })
+
+-- ---- what was told before an input is forgotten
+
+other_ends : (m : Machine) (n : Machine) (s : State) → Acts m s → Acts (record m { ends = n.ends }) s
+other_ends m n s acts = record { moment = acts.moment; floor = acts.floor; slots = acts.slots; asked = acts.asked; counts = acts.counts; number = acts.number }
+
+pub acts_forgotten : (m mid : Machine) (s : State) → mid ≡ record m { ends = mid.ends } → Acts m s → Acts mid s
+acts_forgotten m mid s rest acts = subst (λ (k : Machine). Acts k s) (sym rest) (other_ends m mid s acts)
+
+pub forgotten : (m mid : Machine) → IsReceiver m → mid ≡ record m { ends = mid.ends } → vec_len mid.ends ≡ 0 → vec_capacity mid.ends ≡ vec_capacity m.ends → IsReceiver mid
+forgotten m mid is rest none capacity = ends_taken m mid is rest (omega arith) capacity
+
+takes_kept : (m mid n : Machine) (i : Input) → Takes (record m { ends = mid.ends }) n i → Takes m n i
+takes_kept m mid n i t = record {
+  stands = λ q s. t.stands q (other_ends m mid (After m.config q) s);
+  fills = λ q s. t.fills q (other_ends m mid (After m.config q) s);
+  requests = λ q s. t.requests q (other_ends m mid (After m.config q) s);
+  resends = λ q s. t.resends q (other_ends m mid (After m.config q) s);
+  ends = λ q s. t.ends q (other_ends m mid (After m.config q) s);
+  buffers = λ q s. t.buffers q (other_ends m mid (After m.config q) s);
+  opens = λ q s. t.opens q (other_ends m mid (After m.config q) s);
+  config = t.config;
+  telling = t.telling;
+}
+
+pub takes_forgotten : (m mid n : Machine) (i : Input) → mid ≡ record m { ends = mid.ends } → Takes mid n i → Takes m n i
+takes_forgotten m mid n i rest t = takes_kept m mid n i (subst (λ (k : Machine). Takes k n i) rest t)
+
+pub keeps_forgotten : (m mid n : Machine) → mid ≡ record m { ends = mid.ends } → KeepsBuffers mid n → KeepsBuffers m n
+keeps_forgotten m mid n rest k = subst (λ (a : Machine). KeepsBuffers a n) rest k
+
+pub given_forgotten : (m mid n : Machine) (given : Option Given) → mid ≡ record m { ends = mid.ends } → TakesGiven given mid.asked (buffers mid) (buffers n) → TakesGiven given m.asked (buffers m) (buffers n)
+given_forgotten m mid n given rest t = subst (λ (a : Machine). TakesGiven given a.asked (buffers a) (buffers n)) rest t
+
+answered_kept : (m mid : Machine) (answer : Need) (bytes : List ℕ) → ((q : List Input) → Stands (record m { ends = mid.ends }) q → (turn m.config q (datagram bytes)).need ≡ Some answer)
+    → (q : List Input) → Stands m q → (turn m.config q (datagram bytes)).need ≡ Some answer
+answered_kept m mid answer bytes f q s = f q (other_ends m mid (After m.config q) s)
+
+pub answered_forgotten : (m mid : Machine) (answer : Need) (bytes : List ℕ) → mid ≡ record m { ends = mid.ends } → ((q : List Input) → Stands mid q → (turn mid.config q (datagram bytes)).need ≡ Some answer)
+    → (q : List Input) → Stands m q → (turn m.config q (datagram bytes)).need ≡ Some answer
+answered_forgotten m mid answer bytes rest f =
+    answered_kept m mid answer bytes (subst (λ (a : Machine). (q : List Input) → Stands a q → (turn a.config q (datagram bytes)).need ≡ Some answer) rest f)

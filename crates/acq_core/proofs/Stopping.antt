@@ -1,21 +1,24 @@
 -- All blocks retire.
-use Rattle.std.proofs.Common.{◌≡◌, ℕ, ◌<◌, List, [], ◌∷◌, ◌++◌, length, refl, sym, ap, subst, ◌∙◌, append_assoc, arith}
+use Rattle.std.proofs.Common.{◌≡◌, ℕ, ◌+◌, ◌<◌, List, [], ◌∷◌, ◌++◌, length, Bool, refl, sym, ap, subst, ◌∙◌, append_assoc, arith}
 use Rattle.std.specs.Prelude.{Some, None, vec_len}
 use Rattle.acquisition_machine.specs.declared.config.AcqConfig.{AcqConfig}
 use Rattle.acquisition_machine.specs.Blocks.{Open, fill_of, fills}
 use Rattle.acquisition_machine.specs.Machine.{State, stop, restart, floor_after, all_stopped, step}
+use Rattle.acq_core.specs.declared.ended.Cause.TheVariants.{Stopped}
 use Rattle.acq_core.specs.declared.machine.Machine.{Machine}
 use Rattle.acq_core.specs.Standing.{SlotsStand, AreSlots, Acts, floor_of, HasRoom}
+use Rattle.acq_core.specs.Ending.{end_of, told_end, ends_of}
 use Rattle.acq_core.specs.Retiring.{ChangesSlots, RetiresFirst, RetiresAll}
 use Rattle.acq_core.specs.Turning.{Gives}
 use Rattle.acq_core.proofs.Acting.{append_nil}
-use Rattle.acq_core.proofs.Settling.{no_left, mid_config, slots_left}
+use Rattle.acq_core.proofs.Settling.{no_left, mid_config, mid_telling, slots_left}
 
 -- how far stopping has come from the blocks with which it began
 pub record StopsTo (first last : Machine) (os : List Open) : Type 0 where
   pub left : List Open
   pub slots : SlotsStand first.config.p last.slots.items left
   pub fills : last.fills.items ++ fills first.config.p (all_stopped left) ≡ first.fills.items ++ fills first.config.p (all_stopped os)
+  pub ends : last.ends.items ++ ends_of first.telling first.config.p (floor_of last.floor) (all_stopped left) ≡ first.ends.items ++ ends_of first.telling first.config.p (floor_of first.floor) (all_stopped os)
   pub floor : floor_after (floor_of last.floor) (all_stopped left) ≡ floor_after (floor_of first.floor) (all_stopped os)
 
 pub record Stopping (first last : Machine) : Type 0 where
@@ -24,25 +27,31 @@ pub record Stopping (first last : Machine) : Type 0 where
   pub changes : ChangesSlots first last
   pub room : HasRoom last
 
-stop_left : (first mid last : Machine) (os left : List Open) → SlotsStand first.config.p mid.slots.items left → mid.config ≡ first.config → 0 < length mid.slots.items
-    → ((o : Open) (rest : List Open) → SlotsStand mid.config.p mid.slots.items (o ∷ rest) → RetiresFirst mid last o rest)
+stop_left : (first mid last : Machine) (os left : List Open) → SlotsStand first.config.p mid.slots.items left → mid.config ≡ first.config → mid.telling ≡ first.telling → 0 < length mid.slots.items
+    → ((o : Open) (rest : List Open) → SlotsStand mid.config.p mid.slots.items (o ∷ rest) → RetiresFirst mid last Stopped o rest)
     → mid.fills.items ++ fills first.config.p (all_stopped left) ≡ first.fills.items ++ fills first.config.p (all_stopped os)
+    → mid.ends.items ++ ends_of first.telling first.config.p (floor_of mid.floor) (all_stopped left) ≡ first.ends.items ++ ends_of first.telling first.config.p (floor_of first.floor) (all_stopped os)
     → floor_after (floor_of mid.floor) (all_stopped left) ≡ floor_after (floor_of first.floor) (all_stopped os)
     → StopsTo first last os
-stop_left first mid last os [] s config some r fill floor = absurd (no_left first.config.p mid.slots.items s some)
-stop_left first mid last os (o ∷ left) s config some r fill floor =
+stop_left first mid last os [] s config tell some r fill end floor = absurd (no_left first.config.p mid.slots.items s some)
+stop_left first mid last os (o ∷ left) s config tell some r fill end floor =
     let one = r o left (subst (λ (k : AcqConfig). SlotsStand k.p mid.slots.items (o ∷ left)) (sym config) s) in
     let p : ℕ = first.config.p in
+    let t : Bool = first.telling in
     record {
       left = left;
       slots = subst (λ (k : AcqConfig). SlotsStand k.p last.slots.items left) config one.slots;
       fills = ap (λ l. l ++ fills p (all_stopped left)) (one.fills ∙ ap (λ (k : AcqConfig). mid.fills.items ++ fill_of k.p o o.given) config)
           ∙ append_assoc mid.fills.items (fill_of p o o.given) (fills p (all_stopped left)) ∙ fill;
+      ends = ap (λ l. l ++ ends_of t p (floor_of last.floor) (all_stopped left)) (one.ends ∙ ap (λ (k : AcqConfig). mid.ends.items ++ told_end mid.telling (end_of k.p (floor_of mid.floor) Stopped o)) config
+          ∙ ap (λ (v : Bool). mid.ends.items ++ told_end v (end_of p (floor_of mid.floor) Stopped o)) tell)
+          ∙ ap (λ (k : ℕ). (mid.ends.items ++ told_end t (end_of p (floor_of mid.floor) Stopped o)) ++ ends_of t p k (all_stopped left)) one.floor
+          ∙ append_assoc mid.ends.items (told_end t (end_of p (floor_of mid.floor) Stopped o)) (ends_of t p (o.block + 1) (all_stopped left)) ∙ end;
       floor = ap (λ k. floor_after k (all_stopped left)) one.floor ∙ floor;
     }
 
 pub stopping_one : (first mid last : Machine) → Stopping first mid → 0 < vec_len mid.slots
-    → ((o : Open) (rest : List Open) → SlotsStand mid.config.p mid.slots.items (o ∷ rest) → RetiresFirst mid last o rest)
+    → ((o : Open) (rest : List Open) → SlotsStand mid.config.p mid.slots.items (o ∷ rest) → RetiresFirst mid last Stopped o rest)
     → ChangesSlots mid last → HasRoom last → Stopping first last
 stopping_one first mid last s some r ch room =
     let count : mid.slots.len ≡ length mid.slots.items = mid.slots.ok.0 in
@@ -50,9 +59,9 @@ stopping_one first mid last s some r ch room =
     record {
       part = λ os stands.
           let m = s.part os stands in
-          stop_left first mid last os m.left m.slots (mid_config first mid s.changes) more r m.fills m.floor;
-      slots = slots_left mid last s.slots.0 s.slots.1 (mid_config mid last ch) more r;
-      changes = ch ∙ ap (λ (m : Machine). record m { floor = last.floor; slots = last.slots; spare = last.spare; fills = last.fills }) s.changes;
+          stop_left first mid last os m.left m.slots (mid_config first mid s.changes) (mid_telling first mid s.changes) more r m.fills m.ends m.floor;
+      slots = slots_left mid last s.slots.0 Stopped s.slots.1 (mid_config mid last ch) more r;
+      changes = ch ∙ ap (λ (m : Machine). record m { floor = last.floor; slots = last.slots; spare = last.spare; fills = last.fills; ends = last.ends }) s.changes;
       room = room;
     }
 
@@ -70,14 +79,18 @@ stop_gives a b s acts r ch =
         number = ap (λ (m : Machine). m.number) ch ∙ acts.number;
       };
       fills = r.fills;
+      ends = r.ends;
       requests = ap (λ (m : Machine). m.requests.items) ch ∙ sym (append_nil a.requests.items);
       config = config;
+      telling = ap (λ (m : Machine). m.telling) ch;
     }
 
 pub restart_gives : (a : Machine) (s : State) → Acts a s → Gives a (record a { asked = None; floor = Some 1 }) (step a.config s restart)
 restart_gives a s acts = record {
   acts = record { moment = acts.moment; floor = refl; slots = acts.slots; asked = refl; counts = acts.counts; number = acts.number };
   fills = sym (append_nil a.fills.items);
+  ends = sym (append_nil a.ends.items);
+  telling = refl;
   requests = sym (append_nil a.requests.items);
   config = refl;
 }

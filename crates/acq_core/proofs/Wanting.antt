@@ -6,9 +6,11 @@ use Rattle.acquisition_machine.specs.declared.config.AcqConfig.{AcqConfig}
 use Rattle.acquisition_machine.specs.declared.need.Need.TheVariants.{Buffer}
 use Rattle.acquisition_machine.specs.Blocks.{Open, fill_of}
 use Rattle.acquisition_machine.specs.Machine.{State, bound, is_full, lowest_or, floor_after, displaced_of, rest_of, wants}
+use Rattle.acq_core.specs.declared.ended.Cause.TheVariants.{Displaced}
 use Rattle.acq_core.specs.declared.slot.Slot.{Slot}
 use Rattle.acq_core.specs.declared.machine.Machine.{Machine}
 use Rattle.acq_core.specs.Standing.{SlotsStand, Acts, floor_of}
+use Rattle.acq_core.specs.Ending.{end_of, told_end}
 use Rattle.acq_core.specs.Retiring.{ChangesSlots, RetiresFirst, RetiresAll}
 use Rattle.acq_core.specs.Turning.{Answers}
 use Rattle.acq_core.proofs.Acting.{append_nil}
@@ -28,10 +30,10 @@ none_displaced m s acts room =
     let count = count-opens m s acts in
     let free : length s.opens < m.config.window = omega (arith, count) in
     let none : is_full m.config s.opens ≡ false = lt-leb m.config.window (length s.opens) free in
-    rw none (record { slots = acts.slots; fills = sym (append_nil m.fills.items); floor = refl })
+    rw none (record { slots = acts.slots; fills = sym (append_nil m.fills.items); ends = sym (append_nil m.ends.items); floor = refl })
 
 one_displaced_step : (m n : Machine) (os : List Open) → SlotsStand m.config.p m.slots.items os → 0 < length os
-    → ((o : Open) (rest : List Open) → SlotsStand m.config.p m.slots.items (o ∷ rest) → RetiresFirst m n o rest)
+    → ((o : Open) (rest : List Open) → SlotsStand m.config.p m.slots.items (o ∷ rest) → RetiresFirst m n Displaced o rest)
     → RetiresAll m n (displaced_of true os) (rest_of true os)
 one_displaced_step m n [] s some r = absurd (omega arith)
 one_displaced_step m n (o ∷ os) s some r =
@@ -39,11 +41,12 @@ one_displaced_step m n (o ∷ os) s some r =
     record {
       slots = first.slots;
       fills = first.fills ∙ ap (λ l. m.fills.items ++ l) (sym (append_nil (fill_of m.config.p o o.given)));
+      ends = first.ends ∙ ap (λ l. m.ends.items ++ l) (sym (append_nil (told_end m.telling (end_of m.config.p (floor_of m.floor) Displaced o))));
       floor = first.floor;
     }
 
 pub one_displaced : (m n : Machine) (s : State) → Acts m s → m.config.window ≤ vec_len m.slots → 1 ≤ m.config.window
-    → ((o : Open) (rest : List Open) → SlotsStand m.config.p m.slots.items (o ∷ rest) → RetiresFirst m n o rest)
+    → ((o : Open) (rest : List Open) → SlotsStand m.config.p m.slots.items (o ∷ rest) → RetiresFirst m n Displaced o rest)
     → RetiresAll m n (displaced_of (is_full m.config s.opens) s.opens) (rest_of (is_full m.config s.opens) s.opens)
 one_displaced m n s acts room one r =
     let count = count-opens m s acts in
@@ -66,6 +69,8 @@ wants_answers a b s block acts r ch =
           number = ap (λ (m : Machine). m.number) ch ∙ acts.number;
         };
         fills = r.fills;
+        ends = r.ends;
+        telling = ap (λ (m : Machine). m.telling) ch;
         requests = ap (λ (m : Machine). m.requests.items) ch ∙ sym (append_nil a.requests.items);
         config = config;
       };

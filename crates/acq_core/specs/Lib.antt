@@ -1,4 +1,5 @@
 pub mod Standing
+pub mod Ending
 pub mod Hearing
 pub mod Retiring
 pub mod Turning

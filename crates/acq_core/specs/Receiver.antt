@@ -1,8 +1,8 @@
 -- What callers know of a receiver.
-use Rattle.std.specs.Prelude.{◌≡◌, ℕ, List, [], ◌∷◌, ◌++◌, length, map, Option, Some, None}
+use Rattle.std.specs.Prelude.{◌≡◌, ℕ, List, [], ◌∷◌, ◌++◌, length, map, Bool, Option, Some, None}
 use Rattle.block_assembly.specs.Assembly.{size_of}
 use Rattle.acquisition_machine.specs.declared.config.AcqConfig.{AcqConfig}
-use Rattle.acquisition_machine.specs.Blocks.{Given, fills}
+use Rattle.acquisition_machine.specs.Blocks.{Given, Open, fills}
 use Rattle.acquisition_machine.specs.Machine.{Input, State, request_bytes}
 use Rattle.acquisition_machine.specs.Runs.{After, turn}
 use Rattle.acquisition_machine.specs.TurnLaws.{with_given, held, given_of}
@@ -11,10 +11,15 @@ use Rattle.acq_core.specs.declared.slot.Hold.TheVariants.{Without, With}
 use Rattle.acq_core.specs.declared.slot.Slot.{Slot}
 use Rattle.acq_core.specs.declared.machine.Machine.{Machine}
 use Rattle.acq_core.specs.Standing.{Acts, ActsForSome, HasRoom, HasPlace}
-use Rattle.acq_core.specs.Waiting.{waiting_fills, waiting_requests, AreNumbered}
+use Rattle.acq_core.specs.Ending.{ends_of}
+use Rattle.acq_core.specs.Waiting.{waiting_fills, waiting_requests, waiting_resends, waiting_ends, AreNumbered}
 
 abbrev pub config_of : Machine → AcqConfig
 config_of m = m.config
+
+-- the blocks that retire are told
+abbrev pub is_telling : Machine → Bool
+is_telling m = m.telling
 
 -- the block for which a buffer is asked
 abbrev pub asked_block : Machine → Option ℕ
@@ -51,14 +56,23 @@ pub record Shows (m : Machine) (s : State) : Type 0 where
 abbrev pub ReceiversShowTheirInputs : Type 0
 ReceiversShowTheirInputs = (m : Machine) (q : List Input) → Stands m q → Shows m (After (config_of m) q)
 
--- One more input came: what waits grows by what its turn gives, and by nothing else.
+-- how often the open block with this id has asked for missing packets
+abbrev pub rounds_of : Option Open → ℕ
+rounds_of None = 0
+rounds_of (Some o) = o.rounds
+
+-- One more input came: what waits grows by what its turn gives, and by nothing else. The blocks that are told
+-- are those that retire at this turn alone.
 pub record Takes (old new : Machine) (i : Input) : Type 0 where
   pub stands : (q : List Input) → Stands old q → Stands new (q ++ i ∷ [])
   pub fills : (q : List Input) → Stands old q → waiting_fills new ≡ waiting_fills old ++ fills (config_of old).p (turn (config_of old) q i).retired
   pub requests : (q : List Input) → Stands old q → waiting_requests new ≡ waiting_requests old ++ map request_bytes (turn (config_of old) q i).requests
+  pub resends : (q : List Input) → Stands old q → waiting_resends new ≡ waiting_resends old ++ map (λ r. r.resend) (turn (config_of old) q i).requests
+  pub ends : (q : List Input) → Stands old q → waiting_ends new ≡ ends_of (is_telling old) (config_of old).p (After (config_of old) q).floor (turn (config_of old) q i).retired
   pub buffers : (q : List Input) → Stands old q → buffers new ≡ held (turn (config_of old) q i).after.opens
   pub opens : (q : List Input) → Stands old q → open_count new ≡ length (turn (config_of old) q i).after.opens
   pub config : config_of new ≡ config_of old
+  pub telling : is_telling new ≡ is_telling old
 
 -- No buffer is lost, and none is doubled: those that wait, and then those of open blocks, are what they were.
 abbrev pub KeepsBuffers : Machine → Machine → Type 0

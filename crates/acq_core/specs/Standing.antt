@@ -6,7 +6,7 @@ use Rattle.stream_packets.specs.Packets.{StreamPacket}
 use Rattle.block_image.specs.Sizes.{IsPayloadSize}
 use Rattle.block_assembly.specs.declared.progress.Progress.{Progress}
 use Rattle.block_assembly.specs.Assembly.{AssemblyStands}
-use Rattle.block_assembly.specs.declared.progress.TheConstants.{PACKET_IDS}
+use Rattle.block_assembly.specs.PacketIds.{packet_ids}
 use Rattle.acquisition_machine.specs.declared.config.AcqConfig.{AcqConfig}
 use Rattle.acquisition_machine.specs.declared.counts.Counts.{Counts}
 use Rattle.acquisition_machine.specs.Blocks.{Given, Open}
@@ -21,8 +21,8 @@ use Rattle.acq_core.specs.declared.machine.Machine.{Machine}
 
 -- both bitmaps have all packet ids
 pub record IsWide (spare : Spare) : Type 0 where
-  pub kept : length spare.kept ≡ PACKET_IDS
-  pub refused : length spare.refused ≡ PACKET_IDS
+  pub kept : length spare.kept ≡ packet_ids
+  pub refused : length spare.refused ≡ packet_ids
 
 -- the buffer of this place, in the assembly of the packets that were heard
 pub record IsFilling (p b : ℕ) (at : ℕ) (assembly : Progress) (g : Given) (heard : List StreamPacket) : Type 0 where
@@ -112,6 +112,8 @@ pub record HasRoom (a : Machine) : Type 0 where
   pub spare : a.config.window ≤ vec_capacity a.spare
   pub fills : vec_len a.fills + vec_len a.slots ≤ vec_capacity a.fills
   pub fills_all : a.config.window + 1 ≤ vec_capacity a.fills
+  pub ends : vec_len a.ends + vec_len a.slots ≤ vec_capacity a.ends
+  pub ends_all : a.config.window ≤ vec_capacity a.ends
   pub pairs : vec_len a.spare + vec_len a.slots ≡ a.config.window
   pub wide : AllByRecursion IsWide a.spare.items
   pub requests : 8 * a.config.window ≤ vec_capacity a.requests

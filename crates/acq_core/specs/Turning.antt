@@ -7,15 +7,18 @@ use Rattle.acquisition_machine.specs.declared.need.Need.TheVariants.{Buffer, Don
 use Rattle.acquisition_machine.specs.Blocks.{Open, fills}
 use Rattle.acquisition_machine.specs.Machine.{State, Turn, put, quiet, settles, ignored}
 use Rattle.acq_core.specs.declared.machine.Machine.{Machine}
-use Rattle.acq_core.specs.Standing.{Acts, asked_of}
+use Rattle.acq_core.specs.Standing.{Acts, asked_of, floor_of}
+use Rattle.acq_core.specs.Ending.{ends_of}
 use Rattle.acq_core.specs.Hearing.{heard_in}
 
 -- The state goes on by this turn, and what it gives waits.
 pub record Gives (old new : Machine) (t : Turn) : Type 0 where
   pub acts : Acts new t.after
   pub fills : new.fills.items ≡ old.fills.items ++ fills old.config.p t.retired
+  pub ends : new.ends.items ≡ old.ends.items ++ ends_of old.telling old.config.p (floor_of old.floor) t.retired
   pub requests : new.requests.items ≡ old.requests.items ++ map asked_of t.requests
   pub config : new.config ≡ old.config
+  pub telling : new.telling ≡ old.telling
 
 -- and the datagram is answered that
 pub record Answers (old new : Machine) (answer : Need) (t : Turn) : Type 0 where

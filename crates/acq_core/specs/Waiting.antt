@@ -4,7 +4,9 @@ use Rattle.std.specs.List.{AllByRecursion}
 use Rattle.gvcp_wire.specs.Control.{plain}
 use Rattle.gvcp_aux.specs.Bodies.{resend_head, resend_command}
 use Rattle.acquisition_machine.specs.declared.retired.Retired.{Retired}
+use Rattle.gvcp_aux.specs.declared.resend.Resend.{Resend}
 use Rattle.acq_core.specs.declared.asked.Asked.{Asked}
+use Rattle.acq_core.specs.declared.ended.Ended.{Ended}
 use Rattle.acq_core.specs.declared.machine.Machine.{Machine}
 
 -- the command's 28 bytes
@@ -18,6 +20,14 @@ waiting_fills m = m.fills.items
 -- the requests that wait, first in first
 abbrev pub waiting_requests : Machine → List (List ℕ)
 waiting_requests m = map asked_bytes m.requests.items
+
+-- what they ask for
+abbrev pub waiting_resends : Machine → List Resend
+waiting_resends m = map (λ a. a.resend) m.requests.items
+
+-- the blocks that retired at the last input and weren't told yet, first in first
+abbrev pub waiting_ends : Machine → List Ended
+waiting_ends m = m.ends.items
 
 -- each has a number from 1 on
 abbrev pub AreNumbered : Machine → Type 0

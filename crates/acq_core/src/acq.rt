@@ -1,12 +1,15 @@
+use crate::ended::Ended;
+use crate::ending::forget;
 use crate::giving::give;
 use crate::hearing::hear;
 use crate::machine::Machine;
 use crate::making::start;
 use crate::retiring::{restart, stop};
 use crate::rounds::tick;
-use crate::waiting::{next_fill, next_request};
+use crate::waiting::{first_request, next_ended, next_fill, next_request};
 use acquisition_machine::{AcqConfig, Counts, Need, Retired};
 use gev_types::{Buf, NoMemory};
+use gvcp_aux::Resend;
 use std::alloc::Global;
 use std::marker::Model;
 
@@ -31,14 +34,16 @@ impl Model for Acq {
 }
 
 impl Acq {
-    ghost use Rattle.std.specs.Prelude.{◌≡◌, ◌++◌, ◌∷◌, [], List, length, IfOk, IsSome, MatchOption, None, Some};
+    ghost use Rattle.std.specs.Prelude.{◌≡◌, ◌++◌, ◌∷◌, [], List, length, IfOk, IfSome, IsSome, MatchOption, None, Some, true, false};
     ghost use Rattle.acquisition_machine.specs.Machine.{Input, datagram, claimed, tick as moment_input, stop as stopped, restart as restarted};
+    ghost use Rattle.acquisition_machine.specs.Machine.{open_at};
     ghost use Rattle.acquisition_machine.specs.Runs.{After, turn};
     ghost use Rattle.acquisition_machine.specs.TurnLaws.{asked_by, TakesGiven};
+    ghost use Rattle.gvcp_aux.specs.declared.resend.Resend.{Resend as ResendOf};
     ghost use Rattle.acq_core.specs.Standing.{IsConfig, capped};
-    ghost use Rattle.acq_core.specs.Waiting.{waiting_fills, waiting_requests};
+    ghost use Rattle.acq_core.specs.Waiting.{waiting_fills, waiting_requests, waiting_resends, waiting_ends};
     ghost use Rattle.acq_core.specs.Giving.{given_as};
-    ghost use Rattle.acq_core.specs.Receiver.{config_of, asked_block, open_count, buffers, Stands, Takes, KeepsBuffers, KeepsBlocks};
+    ghost use Rattle.acq_core.specs.Receiver.{config_of, is_telling, asked_block, open_count, buffers, rounds_of, Stands, Takes, KeepsBuffers, KeepsBlocks};
 
     /// A receiver that heard nothing yet. It takes all the memory that the receiver will use: for each
     /// place of the window two bitmaps of 131,074 packet ids, and the lists of what is open and waits.
@@ -48,6 +53,8 @@ impl Acq {
         ensures config { IfOk result (λ acq. config_of acq ≡ config) }
         ensures fills { IfOk result (λ acq. waiting_fills acq ≡ []) }
         ensures requests { IfOk result (λ acq. waiting_requests acq ≡ []) }
+        ensures ends { IfOk result (λ acq. waiting_ends acq ≡ []) }
+        ensures telling { IfOk result (λ acq. is_telling acq ≡ false) }
         ensures buffers { IfOk result (λ acq. buffers acq ≡ []) }
         ensures opens { IfOk result (λ acq. open_count acq ≡ 0) }
         ensures asked { IfOk result (λ acq. asked_block acq ≡ None) }
@@ -69,6 +76,7 @@ impl Acq {
         ensures buffers { KeepsBuffers self.old self.new }
         ensures asked { asked_block self.new ≡ asked_by (Some result) }
     {
+        forget(&mut self.machine);
         hear(&mut self.machine, bytes)
     }
 
@@ -82,6 +90,7 @@ impl Acq {
         ensures buffers { TakesGiven (given_as answer) (asked_block self.old) (buffers self.old) (buffers self.new) }
         ensures asked { asked_block self.new ≡ None }
     {
+        forget(&mut self.machine);
         give(&mut self.machine, answer);
     }
 
@@ -95,6 +104,7 @@ impl Acq {
         ensures buffers { KeepsBuffers self.old self.new }
         ensures asked { asked_block self.new ≡ None }
     {
+        forget(&mut self.machine);
         tick(&mut self.machine, moment);
     }
 
@@ -109,6 +119,7 @@ impl Acq {
         ensures none_open { open_count self.new ≡ 0 }
         ensures asked { asked_block self.new ≡ None }
     {
+        forget(&mut self.machine);
         stop(&mut self.machine);
     }
 
@@ -123,6 +134,7 @@ impl Acq {
         ensures none_open { open_count self.new ≡ 0 }
         ensures asked { asked_block self.new ≡ None }
     {
+        forget(&mut self.machine);
         restart(&mut self.machine);
     }
 
@@ -131,6 +143,9 @@ impl Acq {
         ensures fill { MatchOption result ((waiting_fills self.old ≡ []) × (waiting_fills self.new ≡ []))
             (λ fill. waiting_fills self.old ≡ fill ∷ waiting_fills self.new) }
         ensures requests { waiting_requests self.new ≡ waiting_requests self.old }
+        ensures resends { waiting_resends self.new ≡ waiting_resends self.old }
+        ensures ends { waiting_ends self.new ≡ waiting_ends self.old }
+        ensures telling { is_telling self.new ≡ is_telling self.old }
         ensures rest { KeepsBlocks self.old self.new }
     {
         next_fill(&mut self.machine)
@@ -140,10 +155,57 @@ impl Acq {
     pub fn next_request(&mut self) -> Option<[u8; 28]>
         ensures request { MatchOption result ((waiting_requests self.old ≡ []) × (waiting_requests self.new ≡ []))
             (λ bytes. waiting_requests self.old ≡ bytes ∷ waiting_requests self.new) }
+        ensures resend { MatchOption result (waiting_resends self.old ≡ waiting_resends self.new)
+            (λ bytes. (r : ResendOf) × (waiting_resends self.old ≡ r ∷ waiting_resends self.new)) }
         ensures fills { waiting_fills self.new ≡ waiting_fills self.old }
+        ensures ends { waiting_ends self.new ≡ waiting_ends self.old }
+        ensures telling { is_telling self.new ≡ is_telling self.old }
         ensures rest { KeepsBlocks self.old self.new }
     {
         next_request(&mut self.machine)
+    }
+
+    /// What the first request that waits asks for, and the number of its block's round. It waits on.
+    pub fn first_request(&self) -> Option<(Resend, u8)>
+        ensures request { MatchOption result (waiting_resends self.now ≡ [])
+            (λ r. (rest : List ResendOf) × (waiting_resends self.now ≡ r.0 ∷ rest)) }
+        ensures round { (q : List Input) → Stands self.now q
+            → IfSome result (λ r. r.1 ≡ rounds_of (open_at r.0.block (After (config_of self.now) q).opens)) }
+    {
+        first_request(&self.machine)
+    }
+
+    /// From now on each block that retires is told, by `next_ended`.
+    pub fn tell_ends(&mut self)
+        ensures telling { is_telling self.new ≡ true }
+        ensures fills { waiting_fills self.new ≡ waiting_fills self.old }
+        ensures requests { waiting_requests self.new ≡ waiting_requests self.old }
+        ensures resends { waiting_resends self.new ≡ waiting_resends self.old }
+        ensures ends { waiting_ends self.new ≡ waiting_ends self.old }
+        ensures rest { KeepsBlocks self.old self.new }
+    {
+        self.machine.telling = true;
+    }
+
+    /// The first block that retired at the last call and wasn't told yet, those without a buffer included;
+    /// None where none is left, or where they aren't told. The next input forgets those that are left.
+    pub fn next_ended(&mut self) -> Option<Ended>
+        ensures end { MatchOption result ((waiting_ends self.old ≡ []) × (waiting_ends self.new ≡ []))
+            (λ end. waiting_ends self.old ≡ end ∷ waiting_ends self.new) }
+        ensures fills { waiting_fills self.new ≡ waiting_fills self.old }
+        ensures requests { waiting_requests self.new ≡ waiting_requests self.old }
+        ensures resends { waiting_resends self.new ≡ waiting_resends self.old }
+        ensures telling { is_telling self.new ≡ is_telling self.old }
+        ensures rest { KeepsBlocks self.old self.new }
+    {
+        next_ended(&mut self.machine)
+    }
+
+    /// The greatest moment that was told, in milliseconds.
+    pub fn now(&self) -> u64
+        ensures { (q : List Input) → Stands self.now q → result ≡ (After (config_of self.now) q).now }
+    {
+        self.machine.moment
     }
 
     /// What was counted since the receiver was made. Each count stands still at its type's end.

@@ -95,6 +95,7 @@ fn open(machine: &mut Machine, block: u64, answer: Option<(u8, Buf)>)
     requires room { HasRoom machine.old }
     requires asked { machine.old.asked ≡ Some block }
     requires place { HasPlace machine.old }
+    requires forgotten { vec_len machine.old.ends ≡ 0 }
     ensures gives { (s : State) → Acts machine.old s → IsSound machine.old.config s
         → Gives machine.old machine.new (step machine.old.config s (claimed (given_as answer))) }
     ensures room { HasRoom machine.new }
@@ -119,6 +120,7 @@ pub(crate) fn give(machine: &mut Machine, answer: Option<(u8, Buf)>)
     requires room { HasRoom machine.old }
     requires asked { IsSome machine.old.asked }
     requires place { HasPlace machine.old }
+    requires forgotten { vec_len machine.old.ends ≡ 0 }
     ensures gives { (s : State) → Acts machine.old s → IsSound machine.old.config s
         → Gives machine.old machine.new (step machine.old.config s (claimed (given_as answer))) }
     ensures room { HasRoom machine.new }

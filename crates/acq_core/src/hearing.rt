@@ -14,6 +14,7 @@ ghost use Rattle.acq_core.specs.Retiring.{ChangesSlots, RetiresAll};
 ghost use Rattle.acq_core.specs.Turning.{Answers, turn_of, with_heard};
 
 use crate::counting::count;
+use crate::ended::Cause;
 use crate::machine::Machine;
 use crate::retiring::{retire_first, settle};
 use crate::slot::Slot;
@@ -86,7 +87,7 @@ fn make_room(machine: &mut Machine)
     if machine.slots.len() < usize::from(machine.config.window) {
         return;
     }
-    retire_first(machine);
+    retire_first(machine, Cause::Displaced);
 }
 
 /// A buffer is wanted for a block that isn't open.
@@ -102,7 +103,7 @@ fn want(machine: &mut Machine, block: u64) -> Need
 }
 
 /// Where the open block with this id stands.
-fn find(slots: &[Slot], block: u64) -> Option<usize>
+pub(crate) fn find(slots: &[Slot], block: u64) -> Option<usize>
     ensures { result ≡ position (λ x. x.block == block) slots.now }
 {
     slots.iter().position(|slot| slot.block == block)

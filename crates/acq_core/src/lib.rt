@@ -10,6 +10,8 @@ mod acq;
 mod asked;
 mod asking;
 mod counting;
+mod ended;
+mod ending;
 mod giving;
 mod hearing;
 mod laws;
@@ -25,4 +27,5 @@ mod waiting;
 
 pub use acq::Acq;
 pub use acquisition_machine::{AcqConfig, Counts, Need, Retired, Why};
+pub use ended::{Cause, Ended, Held};
 pub use laws::receivers_show_their_inputs;

@@ -1,4 +1,5 @@
 use crate::asked::Asked;
+use crate::ended::Ended;
 use crate::slot::{Slot, Spare};
 use acquisition_machine::{AcqConfig, Counts, Retired};
 
@@ -23,6 +24,10 @@ pub struct Machine {
     pub(crate) spare: Vec<Spare>,
     /// The fills that wait to be taken, first in first.
     pub(crate) fills: Vec<Retired>,
+    /// Whether the blocks that retire are told.
+    pub(crate) telling: bool,
+    /// The blocks that retired at the last input and weren't told yet, first in first.
+    pub(crate) ends: Vec<Ended>,
     /// The requests that wait to be sent, first in first.
     pub(crate) requests: Vec<Asked>,
 }

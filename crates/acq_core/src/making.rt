@@ -1,6 +1,6 @@
 //! A receiver that heard nothing yet, with all the memory that it will use.
 
-ghost use Rattle.std.specs.Prelude.{◌≡◌, ◌≤◌, [], IfOk};
+ghost use Rattle.std.specs.Prelude.{◌≡◌, ◌≤◌, [], IfOk, false};
 ghost use Rattle.std.specs.List.{AllByRecursion};
 ghost use Rattle.std.specs.Vec.{vec_len, vec_capacity};
 ghost use Rattle.acquisition_machine.specs.Runs.{first_state};
@@ -44,6 +44,8 @@ pub(crate) fn start(alloc: Global, config: AcqConfig) -> Result<Machine, NoMemor
     ensures acts { IfOk result (λ m. Acts m first_state) }
     ensures room { IfOk result HasRoom }
     ensures fills { IfOk result (λ m. m.fills.items ≡ []) }
+    ensures ends { IfOk result (λ m. m.ends.items ≡ []) }
+    ensures telling { IfOk result (λ m. m.telling ≡ false) }
     ensures requests { IfOk result (λ m. m.requests.items ≡ []) }
 {
     let window = usize::from(config.window);
@@ -57,6 +59,8 @@ pub(crate) fn start(alloc: Global, config: AcqConfig) -> Result<Machine, NoMemor
         number: 1,
         spare: pairs(alloc, config.window)?,
         fills: Vec::with_capacity(alloc, window + 1)?,
+        telling: false,
+        ends: Vec::with_capacity(alloc, window)?,
         requests: Vec::with_capacity(alloc, 8 * window)?,
     })
 }

@@ -1,6 +1,6 @@
 //! What is asked of one open block.
 
-ghost use Rattle.std.specs.Prelude.{◌≡◌, ◌+◌, ◌≤◌, ◌<◌, ◌++◌, is_some};
+ghost use Rattle.std.specs.Prelude.{◌≡◌, ◌+◌, ◌≤◌, ◌<◌, ◌++◌};
 ghost use Rattle.std.specs.Vec.{vec_len, vec_capacity};
 ghost use Rattle.std.specs.List.{AllByRecursion};
 ghost use Rattle.stream_packets.specs.Packets.{head_of};
@@ -8,8 +8,10 @@ ghost use Rattle.gvsp_wire.specs.View.{view};
 ghost use Rattle.block_assembly.specs.Verdicts.{IsRead};
 ghost use Rattle.acquisition_machine.specs.Blocks.{Open, hearing, has_whole, due, fill_of};
 ghost use Rattle.acq_core.specs.Standing.{HoldsFor, IsHeld, SlotStands, IsSlot, IsWide};
+ghost use Rattle.acq_core.specs.Ending.{cause_if};
 ghost use Rattle.acq_core.specs.Hearing.{need_of_verdict, need_without, need_in, heard_in};
 
+use crate::ended::Cause;
 use crate::slot::{Hold, Slot, Spare};
 use acquisition_machine::{AcqConfig, Need, Retired, Why};
 use block_assembly::Verdict;
@@ -27,12 +29,18 @@ fn is_whole(slot: &Slot, p: u32) -> bool
     }
 }
 
-/// Whether the block retires at this moment.
-pub(crate) fn is_due(slot: &Slot, config: AcqConfig, moment: u64) -> bool
+/// Why the block retires at this moment, if it does.
+pub(crate) fn due_cause(slot: &Slot, config: AcqConfig, moment: u64) -> Option<Cause>
     requires { IsSlot config.p slot.now }
-    ensures { (o : Open) → SlotStands config.p slot.now o → result ≡ is_some (due config moment o) }
+    ensures { (o : Open) → SlotStands config.p slot.now o → result ≡ cause_if (due config moment o) }
 {
-    is_whole(slot, config.p) || u64::from(config.timeout) <= moment.saturating_sub(slot.last)
+    if is_whole(slot, config.p) {
+        return Some(Cause::Complete);
+    }
+    if u64::from(config.timeout) <= moment.saturating_sub(slot.last) {
+        return Some(Cause::Old);
+    }
+    None
 }
 
 /// The block's buffer with what the block gave, if it has one, joins the fills, and its bitmaps wait for

@@ -3,6 +3,8 @@
 ghost use Rattle.std.specs.Prelude.{◌≡◌, [], OnOk};
 ghost use Rattle.acq_core.specs.Waiting.{waiting_fills, waiting_requests};
 
+mod ends;
+
 use crate::{Acq, AcqConfig, Counts, Need, Why};
 use gev_types::Buf;
 use gvsp_wire::WireError;

@@ -17,7 +17,7 @@ use Rattle.block_image.proofs.CountLemmas.{placed_count-le, placed_end-le}
 use Rattle.missing_ranges.specs.Missing.{is_gone, has_gone}
 use Rattle.packet_bitmap.specs.Bits.{has}
 use Rattle.block_assembly.specs.declared.progress.Progress.{Progress}
-use Rattle.block_assembly.specs.declared.progress.TheConstants.{PACKET_IDS}
+use Rattle.block_assembly.specs.PacketIds.{packet_ids}
 use Rattle.block_assembly.specs.declared.verdict.Verdict.{Verdict}
 use Rattle.block_assembly.specs.declared.verdict.Verdict.TheVariants.{Kept, Repeat, Misfit, Notice}
 use Rattle.block_assembly.specs.Assembly.{IsAssembly, AssemblyStands, StandsForSome, IsSound}
@@ -115,7 +115,7 @@ stands_noted a p b size heard h s = go (not (h.status == 0x8010) && nat_le h.id 
     wide = s.wide;
     gone = λ k low. s.gone k low ∙ gone_stays k heard (notice h) (none k low (and_cases (not (h.status == 0x8010)) (nat_le h.id 131073) e));
   } where
-    none : (k : ℕ) → k < PACKET_IDS → (not (h.status == 0x8010) ≡ false) ⊎ (nat_le h.id 131073 ≡ false) → is_gone k (notice h) ≡ false
+    none : (k : ℕ) → k < packet_ids → (not (h.status == 0x8010) ≡ false) ⊎ (nat_le h.id 131073 ≡ false) → is_gone k (notice h) ≡ false
     none k low (inl later) = and_right (h.id == k) (not (h.status == 0x8010)) later
     none k low (inr high) = and_left (h.id == k) (not (h.status == 0x8010)) (ne_eqb h.id k (λ same. omega (arith, leb-false h.id 131073 high)))
 
@@ -227,15 +227,15 @@ acts_for_some a new v x told done read of_block some = record {
 }
 
 -- an assembly that has taken nothing
-pub started : (a : Progress) → IsPayloadSize a.payload_size → IsBufferSize a.size → a.buf.bytes ≡ replicate a.size 0 → a.kept ≡ replicate PACKET_IDS false → a.refused ≡ replicate PACKET_IDS false
+pub started : (a : Progress) → IsPayloadSize a.payload_size → IsBufferSize a.size → a.buf.bytes ≡ replicate a.size 0 → a.kept ≡ replicate packet_ids false → a.refused ≡ replicate packet_ids false
     → a.leader ≡ None → a.trailer ≡ None → a.count ≡ 0 → a.highest ≡ None → a.shortest ≡ None → a.placed ≡ 0 → a.end ≡ 0 → a.past ≡ false → AssemblyStands a a.payload_size a.block a.size []
 started a p n zeros clear none lead trail count high short placed end past = record {
   payload_size = refl;
   block = refl;
   buffer_size = refl;
   assembly = nothing_kept a p n zeros clear lead trail count high short placed end past;
-  wide = ap length none ∙ length-replicate PACKET_IDS false;
-  gone = λ k low. ap (λ bits. has bits k) none ∙ has-clear PACKET_IDS k;
+  wide = ap length none ∙ length-replicate packet_ids false;
+  gone = λ k low. ap (λ bits. has bits k) none ∙ has-clear packet_ids k;
 }
 
 abbrev same_filling : List ℕ → Record → Filling

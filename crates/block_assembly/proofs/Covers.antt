@@ -154,7 +154,7 @@ IsLongAt p len k (payload h d) = h.id ≡ k → is_long_enough p len k (length d
 IsLongAt p len k (trailer h y) = Unit {0}
 IsLongAt p len k (notice h) = Unit {0}
 
-abbrev MayAll : ℕ → ℕ → List StreamPacket → Type 0
+abbrev pub MayAll : ℕ → ℕ → List StreamPacket → Type 0
 MayAll p b ks = AllByRecursion (λ x. may_keep p b x ≡ true) ks
 
 -- the packet with the id k is a payload, and so payload k is there
@@ -186,7 +186,7 @@ long_if_full p b len k h d some may full =
     let same : length d ≡ p = omega (arith, may_keep-payload p b h d may) in
     ap (is_long_enough p len k) same ∙ full_is_long p len k some
 
-longs_none : (p b len k : ℕ) (ks : List StreamPacket) → 1 ≤ p → MayAll p b ks → AllByRecursion (IsFull p) ks → AllByRecursion (IsLongAt p len k) ks
+pub longs_none : (p b len k : ℕ) (ks : List StreamPacket) → 1 ≤ p → MayAll p b ks → AllByRecursion (IsFull p) ks → AllByRecursion (IsLongAt p len k) ks
 longs_none p b len k [] some may full = tt
 longs_none p b len k (leader h i ∷ xs) some may full = (tt, longs_none p b len k xs some may.1 full.1)
 longs_none p b len k (payload h d ∷ xs) some may full = ((λ same. long_if_full p b len k h d some may.0 full.0), longs_none p b len k xs some may.1 full.1)
@@ -199,7 +199,7 @@ long_below p b len k low h d some less may from same = go (cases_lt (length d) p
   go (inl short) = let above : low ≤ h.id = from short in absurd (omega arith)
   go (inr full) = long_if_full p b len k h d some may full
 
-longs_some : (p b len k low : ℕ) (ks : List StreamPacket) → 1 ≤ p → k < low → MayAll p b ks → AllByRecursion (IsShortFrom p low) ks → AllByRecursion (IsLongAt p len k) ks
+pub longs_some : (p b len k low : ℕ) (ks : List StreamPacket) → 1 ≤ p → k < low → MayAll p b ks → AllByRecursion (IsShortFrom p low) ks → AllByRecursion (IsLongAt p len k) ks
 longs_some p b len k low [] some less may from = tt
 longs_some p b len k low (leader h i ∷ xs) some less may from = (tt, longs_some p b len k low xs some less may.1 from.1)
 longs_some p b len k low (payload h d ∷ xs) some less may from = ((λ same. long_below p b len k low h d some less may.0 from.0 same), longs_some p b len k low xs some less may.1 from.1)

@@ -24,7 +24,7 @@ use Rattle.block_image.proofs.CountLemmas.{placed_count-nil, placed_end-nil, pla
 use Rattle.missing_ranges.specs.Missing.{higher}
 use Rattle.packet_bitmap.specs.Bits.{has}
 use Rattle.block_assembly.specs.declared.progress.Progress.{Progress}
-use Rattle.block_assembly.specs.declared.progress.TheConstants.{PACKET_IDS}
+use Rattle.block_assembly.specs.PacketIds.{packet_ids}
 use Rattle.block_assembly.specs.Shortest.{IsShortest}
 use Rattle.block_assembly.specs.Assembly.{IsAssembly, is_trailer_id, lines_of}
 use Rattle.block_assembly.specs.Steps.{with_leader, with_trailer, with_payload, end_inside}
@@ -187,7 +187,7 @@ payload_kept a ks h d s t read =
     }
 
 -- nothing kept, over a buffer of zeros
-pub nothing_kept : (a : Progress) → IsPayloadSize a.payload_size → IsBufferSize a.size → a.buf.bytes ≡ replicate a.size 0 → a.kept ≡ replicate PACKET_IDS false
+pub nothing_kept : (a : Progress) → IsPayloadSize a.payload_size → IsBufferSize a.size → a.buf.bytes ≡ replicate a.size 0 → a.kept ≡ replicate packet_ids false
     → a.leader ≡ None → a.trailer ≡ None → a.count ≡ 0 → a.highest ≡ None → a.shortest ≡ None → a.placed ≡ 0 → a.end ≡ 0 → a.past ≡ false → IsAssembly a []
 nothing_kept a p n zeros clear lead trail count high short placed end past = record {
   payload_size = p;
@@ -196,8 +196,8 @@ nothing_kept a p n zeros clear lead trail count high short placed end past = rec
   numbered = tt;
   leaders = tt;
   bytes = zeros ∙ sym (image_bytes-nil a.payload_size a.size);
-  wide = ap length clear ∙ length-replicate PACKET_IDS false;
-  ids = λ k. ap (λ bits. has bits k) clear ∙ has-clear PACKET_IDS k;
+  wide = ap length clear ∙ length-replicate packet_ids false;
+  ids = λ k. ap (λ bits. has bits k) clear ∙ has-clear packet_ids k;
   leader = lead;
   told = subst TellsSizeIfLeader (sym lead) tt;
   trailer = λ k. ap (λ o. is_trailer_id o k) (sym trail);

@@ -7,3 +7,7 @@ pub mod Wholes
 pub mod Accepts
 pub mod ReadPackets
 pub mod VerdictLemmas
+pub mod FewKept
+pub mod Missed
+pub mod Losses
+pub mod Told

@@ -1,5 +1,5 @@
 -- What the assembly of a block stands for: the packets of the block that it took, in order of arrival.
-use Rattle.std.specs.Prelude.{◌≡◌, ℕ, ◌-◌, ◌≤◌, ◌<◌, ◌^◌, min, ◌==◌, List, length, Bool, false, Option, Some, None, is_some}
+use Rattle.std.specs.Prelude.{◌≡◌, ℕ, ◌-◌, ◌≤◌, ◌<◌, ◌^◌, min, ◌==◌, ◌&&◌, nat_le, List, length, Bool, false, Option, Some, None, is_some}
 use Rattle.stream_packets.specs.Packets.{StreamPacket}
 use Rattle.block_image.specs.Kept.{kept, has_id, has_trailer}
 use Rattle.block_image.specs.KeptFacts.{IsKept, ArePayloadsNumbered, AreLeadersFirst}
@@ -10,13 +10,18 @@ use Rattle.missing_ranges.specs.Missing.{has_gone, highest}
 use Rattle.packet_bitmap.specs.Bits.{has}
 use Rattle.block_assembly.specs.declared.progress.Progress.{Progress}
 use Rattle.block_assembly.specs.declared.progress.Ending.{Ending}
-use Rattle.block_assembly.specs.declared.progress.TheConstants.{PACKET_IDS}
+use Rattle.block_assembly.specs.PacketIds.{packet_ids}
 use Rattle.block_assembly.specs.Shortest.{IsShortest}
 
 -- the trailer among these has this id, if there is one
 abbrev pub is_trailer_id : Option Ending → ℕ → Bool
 is_trailer_id None k = false
 is_trailer_id (Some ending) k = ending.id == k
+
+-- its id is that of a payload, of which there are n
+abbrev pub is_trailer_within : Option Ending → ℕ → Bool
+is_trailer_within None n = false
+is_trailer_within (Some ending) n = nat_le 1 ending.id && nat_le ending.id n
 
 -- how many lines it tells
 abbrev pub lines_of : Option Ending → Option ℕ
@@ -31,7 +36,7 @@ pub record IsAssembly (a : Progress) (ks : List StreamPacket) : Type 0 where
   pub numbered : ArePayloadsNumbered ks
   pub leaders : AreLeadersFirst ks
   pub bytes : a.buf.bytes ≡ image_bytes a.payload_size ks a.size
-  pub wide : length a.kept ≡ PACKET_IDS
+  pub wide : length a.kept ≡ packet_ids
   pub ids : (k : ℕ) → has a.kept k ≡ has_id k ks
   pub leader : a.leader ≡ leader_in ks
   pub told : TellsSizeIfLeader a.leader
@@ -52,8 +57,8 @@ pub record AssemblyStands (a : Progress) (p b size : ℕ) (heard : List StreamPa
   pub block : a.block ≡ b
   pub buffer_size : a.size ≡ size
   pub assembly : IsAssembly a (kept a.payload_size a.block heard)
-  pub wide : length a.refused ≡ PACKET_IDS
-  pub gone : (k : ℕ) → k < PACKET_IDS → has a.refused k ≡ has_gone k heard
+  pub wide : length a.refused ≡ packet_ids
+  pub gone : (k : ℕ) → k < packet_ids → has a.refused k ≡ has_gone k heard
 
 -- it is the assembly of some block after some packets
 pub record StandsForSome (a : Progress) : Type 0 where
@@ -71,12 +76,19 @@ block_of a = a.block
 abbrev pub size_of : Progress → ℕ
 size_of a = a.size
 
+-- some id from 1 to the last is clear
+pub record HasClearFrom (bits : List Bool) (last : ℕ) : Type 0 where
+  pub id : ℕ
+  pub from_one : 1 ≤ id
+  pub within : id ≤ last
+  pub clear : has bits id ≡ false
+
 -- what the steps rest on
 pub record IsSound (a : Progress) : Type 0 where
   pub payload_size : IsPayloadSize a.payload_size
   pub size : IsBufferSize a.size
-  pub wide : length a.kept ≡ PACKET_IDS
-  pub wide_refused : length a.refused ≡ PACKET_IDS
+  pub wide : length a.kept ≡ packet_ids
+  pub wide_refused : length a.refused ≡ packet_ids
   pub told : TellsSizeIfLeader a.leader
   pub buffer : length a.buf.bytes ≡ a.size
   pub placed : a.placed ≤ a.size

@@ -1,5 +1,8 @@
+pub mod PacketIds
 pub mod Shortest
 pub mod Assembly
 pub mod Verdicts
 pub mod Steps
+pub mod Losing
+pub mod Accounts
 pub mod Laws

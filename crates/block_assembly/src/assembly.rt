@@ -6,13 +6,16 @@ ghost use Rattle.block_image.specs.Image.{image};
 ghost use Rattle.block_image.specs.Sizes.{IsPayloadSize};
 ghost use Rattle.missing_ranges.specs.Missing.{top_of, has_gone};
 ghost use Rattle.packet_bitmap.specs.Bits.{has};
+ghost use Rattle.block_assembly.specs.PacketIds.{packet_ids};
 ghost use Rattle.block_assembly.specs.Assembly.{AssemblyStands, block_of};
+ghost use Rattle.block_assembly.specs.Accounts.{account_of};
 ghost use Rattle.block_assembly.specs.Verdicts.{IsRead, verdict_of};
 
+use crate::account::{Account, told};
 use crate::completing::{completes, top};
 use crate::judging::judge;
 use crate::keeping::act;
-use crate::progress::{PACKET_IDS, Progress};
+use crate::progress::Progress;
 use crate::recording::record;
 use crate::verdict::Verdict;
 use gev_types::Buf;
@@ -44,8 +47,8 @@ impl Assembly {
     /// `payload_size` is the most bytes of a payload packet.
     pub fn start(buf: Buf, kept: Bitmap, refused: Bitmap, block: u64, payload_size: u32) -> Assembly
         requires payload_size { IsPayloadSize payload_size }
-        requires kept { length kept ≡ PACKET_IDS }
-        requires refused { length refused ≡ PACKET_IDS }
+        requires kept { length kept ≡ packet_ids }
+        requires refused { length refused ≡ packet_ids }
         ensures stands { AssemblyStands result payload_size block (length buf.bytes) [] }
         ensures of_block { block_of result ≡ block }
     {
@@ -103,16 +106,25 @@ impl Assembly {
     pub fn top(&self) -> Option<u32>
         ensures top { (p b size : ℕ) (heard : List StreamPacket) → AssemblyStands self.now p b size heard
             → result ≡ top_of p (kept p b heard) }
-        ensures in_range { IfSome result (λ top. top < PACKET_IDS) }
+        ensures in_range { IfSome result (λ top. top < packet_ids) }
     {
         top(&self.progress)
+    }
+
+    /// What is told of the block beside its image: how many packets were kept, why the image isn't whole,
+    /// and which packets were lost.
+    pub fn account(&self) -> Account
+        ensures { (p b size : ℕ) (heard : List StreamPacket) → AssemblyStands self.now p b size heard
+            → result ≡ account_of p size (kept p b heard) }
+    {
+        told(&self.progress)
     }
 
     /// The ids of the packets that were kept.
     pub fn kept(&self) -> &Bitmap
         ensures ids { (p b size : ℕ) (heard : List StreamPacket) → AssemblyStands self.now p b size heard
             → (id : ℕ) → has result.now id ≡ has_id id (kept p b heard) }
-        ensures wide { length result.now ≡ PACKET_IDS }
+        ensures wide { length result.now ≡ packet_ids }
     {
         &self.progress.kept
     }
@@ -120,8 +132,8 @@ impl Assembly {
     /// The ids of the packets that the camera can't send again, by its notices.
     pub fn refused(&self) -> &Bitmap
         ensures ids { (p b size : ℕ) (heard : List StreamPacket) → AssemblyStands self.now p b size heard
-            → (id : ℕ) → id < PACKET_IDS → has result.now id ≡ has_gone id heard }
-        ensures wide { length result.now ≡ PACKET_IDS }
+            → (id : ℕ) → id < packet_ids → has result.now id ≡ has_gone id heard }
+        ensures wide { length result.now ≡ packet_ids }
     {
         &self.progress.refused
     }
@@ -130,8 +142,8 @@ impl Assembly {
     pub fn finish(self) -> (Buf, Bitmap, Bitmap)
         ensures image { (p b size : ℕ) (heard : List StreamPacket) → AssemblyStands self p b size heard
             → result.0 ≡ image p b size heard }
-        ensures kept { length result.1 ≡ PACKET_IDS }
-        ensures refused { length result.2 ≡ PACKET_IDS }
+        ensures kept { length result.1 ≡ packet_ids }
+        ensures refused { length result.2 ≡ packet_ids }
     {
         let Assembly { progress } = self;
         let rec = record(&progress);

@@ -16,7 +16,7 @@ use crate::progress::{Ending, Progress, Short};
 use block_image::{count_payloads, extent_of, start_of_payload};
 
 /// How many lines the kept trailer tells.
-fn lines_of(trailer: Option<Ending>) -> Option<u32>
+pub(crate) fn lines_of(trailer: Option<Ending>) -> Option<u32>
     ensures { result ≡ lines_of trailer }
 {
     match trailer {
@@ -36,7 +36,7 @@ pub(crate) fn extent(assembly: &Progress) -> Option<u32>
 }
 
 /// Whether this is the kept trailer's id.
-fn is_trailer_id(trailer: Option<Ending>, id: u32) -> bool
+pub(crate) fn is_trailer_id(trailer: Option<Ending>, id: u32) -> bool
     ensures { result ≡ is_trailer_id trailer id }
 {
     match trailer {
@@ -47,7 +47,7 @@ fn is_trailer_id(trailer: Option<Ending>, id: u32) -> bool
 
 /// Whether the payloads up to the `last` one of the image are as long as they have to be, if all of
 /// them are there. The last one has `rest` bytes or more.
-fn are_long(last: u32, rest: u64, shortest: Option<Short>) -> bool
+pub(crate) fn are_long(last: u32, rest: u64, shortest: Option<Short>) -> bool
     ensures { result ≡ are_long last rest shortest }
 {
     match shortest {
@@ -74,7 +74,7 @@ fn has_payloads(assembly: &Progress, len: u32, last: u32) -> bool
 }
 
 /// How many payloads carry an image of `len` bytes.
-fn last_payload(payload_size: u32, len: u32) -> u32
+pub(crate) fn last_payload(payload_size: u32, len: u32) -> u32
     requires payload_size { IsPayloadSize payload_size }
     requires len { len ≤ max_buffer_size }
     ensures value { result ≡ payload_count payload_size len }

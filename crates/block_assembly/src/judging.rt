@@ -3,9 +3,10 @@
 ghost use Rattle.std.specs.Prelude.{◌≡◌, ◌<◌, length};
 ghost use Rattle.stream_packets.specs.Packets.{head_of};
 ghost use Rattle.gvsp_wire.specs.View.{view};
+ghost use Rattle.block_assembly.specs.PacketIds.{packet_ids};
 ghost use Rattle.block_assembly.specs.Verdicts.{is_new, verdict_in};
 
-use crate::progress::{PACKET_IDS, Progress};
+use crate::progress::Progress;
 use crate::verdict::Verdict;
 use block_image::does_fit;
 use gvsp_wire::Packet;
@@ -20,7 +21,7 @@ fn is_new(assembly: &Progress, packet: &Packet<'_>) -> bool
 
 /// What becomes of the packet.
 pub(crate) fn judge(assembly: &Progress, packet: &Packet<'_>) -> Verdict
-    requires { length assembly.now.kept ≡ PACKET_IDS }
+    requires { length assembly.now.kept ≡ packet_ids }
     ensures { result ≡ verdict_in assembly.now (view packet.now) }
 {
     if packet.is_notice() {

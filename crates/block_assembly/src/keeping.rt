@@ -4,12 +4,13 @@ ghost use Rattle.std.specs.Prelude.{◌≡◌, ◌≤◌, ◌<◌, ◌||◌, tru
 ghost use Rattle.gvsp_wire.specs.View.{view};
 ghost use Rattle.block_image.specs.Kept.{fits};
 ghost use Rattle.missing_ranges.specs.Missing.{higher};
+ghost use Rattle.block_assembly.specs.PacketIds.{packet_ids};
 ghost use Rattle.block_assembly.specs.Shortest.{lower_short, shortest_with};
 ghost use Rattle.block_assembly.specs.Assembly.{IsSound};
 ghost use Rattle.block_assembly.specs.Verdicts.{IsRead};
 ghost use Rattle.block_assembly.specs.Steps.{marked, with_leader, with_trailer, with_payload, with_packet, noted, acted};
 
-use crate::progress::{Ending, PACKET_IDS, Progress, Short};
+use crate::progress::{Ending, Progress, Short};
 use crate::span::span_of;
 use crate::verdict::Verdict;
 use gev_types::MAX_PACKET_ID;
@@ -123,7 +124,7 @@ fn keep(assembly: &mut Progress, packet: &Packet<'_>)
 
 /// Notes that the camera can't send a packet again, where the notice says so.
 fn note(assembly: &mut Progress, head: Head)
-    requires { length assembly.old.refused ≡ PACKET_IDS }
+    requires { length assembly.old.refused ≡ packet_ids }
     ensures { assembly.new ≡ noted assembly.old head }
 {
     if head.status != NOT_YET_AVAILABLE && head.id <= MAX_PACKET_ID {

@@ -5,11 +5,13 @@
 //! and of missing ranges give of that list, in whatever order the packets came.
 #![tactic(auto)]
 
+mod account;
 mod assembly;
 mod completing;
 mod judging;
 mod keeping;
 mod laws;
+mod lost;
 mod progress;
 mod recording;
 mod span;
@@ -17,7 +19,10 @@ mod span;
 mod tests;
 mod verdict;
 
+pub use account::Account;
 pub use assembly::Assembly;
-pub use laws::verdicts_tell;
+pub use block_reasons::Reasons;
+pub use laws::{packet_ids_are_those, verdicts_tell};
+pub use lost::{FirstRanges, Lost};
 pub use progress::PACKET_IDS;
 pub use verdict::Verdict;

@@ -8,6 +8,8 @@ ghost use Rattle.block_image.specs.Extent.{TellsItsSize};
 ghost use Rattle.block_assembly.specs.Assembly.{block_of};
 ghost use Rattle.block_assembly.specs.Verdicts.{IsRead};
 
+mod accounts;
+
 use crate::{Assembly, PACKET_IDS, Verdict};
 use gev_types::{Buf, MAX_BUFFER_SIZE, Record};
 use gvsp_wire::{Head, LeaderInfo, Packet};

@@ -1,5 +1,5 @@
 -- A live run over ports that give its links and clocks and take them back.
-use Rattle.std.specs.Prelude.{◌≡◌, ◌⊎◌, ℕ, List, [], ◌∷◌, Option, Some, None}
+use Rattle.std.specs.Prelude.{◌≡◌, ◌⊎◌, ℕ, List, [], ◌∷◌, Option, Some}
 use Rattle.board_machine.specs.declared.events.Entry.{Entry}
 use Rattle.gev_links.specs.Links.{Address, Answer, IsBlank}
 use Rattle.gev_links.specs.PortsState.{IsNew}

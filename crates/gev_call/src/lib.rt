@@ -1,7 +1,11 @@
 //! The program's call: what `gevacq` does with its words, its input, its output and its ports.
+//!
+//! `specs/Runs.antt` says what a live run over ports did; what the other commands do is said by `gev_top`.
 #![tactic(auto)]
 
 mod running;
+#[cfg(test)]
+mod tests;
 mod top;
 
 pub use running::run_live;

@@ -1,9 +1,13 @@
 //! A live run over ports.
 
-ghost use Rattle.std.specs.Prelude.{◌≡◌, ◌≢◌, ◌+◌, ◌≤◌, ℕ, None, IfSome};
+ghost use Rattle.std.specs.Prelude.{◌≡◌, ◌≢◌, ◌+◌, ◌≤◌, ℕ, [], ◌∷◌, None, IfSome};
 ghost use Rattle.board_machine.specs.Histories.{After};
 ghost use Rattle.board_machine.specs.Laws.{IsAlone};
 ghost use Rattle.gev_links.specs.Faults.{Rose};
+ghost use Rattle.gev_links.specs.Links.{IsBlank};
+ghost use Rattle.gev_links.specs.PortsState.{IsNew};
+ghost use Rattle.gev_binding.specs.Bound.{ComeBack, RaisesBy};
+ghost use Rattle.gev_top.specs.LiveWords.{IsInRange};
 ghost use Rattle.gev_call.specs.Runs.{RunsOver, RunsNothing};
 
 use buffer_words::{Board, Pass};
@@ -16,17 +20,41 @@ use std::alloc::Global;
 use std::sync::Wait;
 use std::thread::Threads;
 
-/// Runs over these links, and gives all back.
-fn run_over<R: Threads + Wait + Sync, K: Sink, P: Ports, G: Gate + Sync>(
-    rt: &R,
-    alloc: Global,
-    numbers: LiveNumbers,
-    links: ThreeLinks<P::L>,
-    ports: &mut P,
-    gate: &G,
-    sink: &mut K,
-    kept: &mut Option<(Board, Pass)>,
-) -> Status
+/// Gives a run's links and clocks back.
+fn give_ends<P: Ports>(ports: &mut P, ends: Ends<P::L, P::L, P::C>)
+    ensures links { ComeBack (P.links ports.old) (P.links ports.new) (ends.camera ∷ ends.stream ∷ ends.control ∷ []) }
+    ensures clocks { ComeBack (P.clocks ports.old) (P.clocks ports.new) (ends.camera_clock ∷ ends.host_clock ∷ ends.app_clock ∷ []) }
+    ensures binds { P.binds ports.new ≡ P.binds ports.old }
+    ensures faults { RaisesBy (P.L.faults ends.camera) (P.L.faults ends.stream) (P.L.faults ends.control) (P.faults ports.old) (P.faults ports.new) }
+{
+    let Ends {
+        camera,
+        stream,
+        control,
+        camera_clock,
+        host_clock,
+        app_clock,
+    } = ends;
+    let links = ThreeLinks {
+        camera,
+        stream,
+        control,
+    };
+    give_back(ports, links, camera_clock, host_clock, app_clock);
+}
+
+/// Takes three clocks of the ports, beside these links.
+fn with_clocks<P: Ports>(ports: &mut P, links: ThreeLinks<P::L>) -> Ends<P::L, P::L, P::C>
+    ensures camera { result.camera ≡ links.camera }
+    ensures stream { result.stream ≡ links.stream }
+    ensures control { result.control ≡ links.control }
+    ensures camera_clock { IsBlank (P.C.told result.camera_clock) }
+    ensures host_clock { IsBlank (P.C.told result.host_clock) }
+    ensures app_clock { IsBlank (P.C.told result.app_clock) }
+    ensures binds { P.binds ports.new ≡ P.binds ports.old }
+    ensures links { P.links ports.new ≡ P.links ports.old }
+    ensures clocks { P.clocks ports.new ≡ P.clocks ports.old }
+    ensures faults { P.faults ports.new ≡ P.faults ports.old }
 {
     let ThreeLinks {
         camera,
@@ -36,17 +64,48 @@ fn run_over<R: Threads + Wait + Sync, K: Sink, P: Ports, G: Gate + Sync>(
     let camera_clock = ports.clock();
     let host_clock = ports.clock();
     let app_clock = ports.clock();
+    Ends {
+        camera,
+        stream,
+        control,
+        camera_clock,
+        host_clock,
+        app_clock,
+    }
+}
+
+/// Runs over these links and clocks on a new board, and gives all back.
+fn run_over<R: Threads + Wait + Sync, K: Sink, P: Ports, G: Gate + Sync>(
+    rt: &R,
+    alloc: Global,
+    numbers: LiveNumbers,
+    ends: Ends<P::L, P::L, P::C>,
+    ports: &mut P,
+    gate: &G,
+    sink: &mut K,
+    kept: &mut Option<(Board, Pass)>,
+) -> Status
+    requires within { IsInRange numbers }
+    requires unkept { kept.old ≡ None }
+    requires camera { IsNew (P.L.received ends.camera) (P.L.sent ends.camera) (P.L.faults ends.camera) }
+    requires stream { IsNew (P.L.received ends.stream) (P.L.sent ends.stream) (P.L.faults ends.stream) }
+    requires control { IsNew (P.L.received ends.control) (P.L.sent ends.control) (P.L.faults ends.control) }
+    requires camera_clock { IsBlank (P.C.told ends.camera_clock) }
+    requires host_clock { IsBlank (P.C.told ends.host_clock) }
+    requires app_clock { IsBlank (P.C.told ends.app_clock) }
+    ensures live { IfSome kept.new (λ k. RunsOver P.L.received P.L.sent P.L.faults P.C.told numbers result (P.links ports.old) (P.links ports.new)
+        (P.clocks ports.old) (P.clocks ports.new) (K.written sink.old) (K.written sink.new) (K.faults sink.old) (K.faults sink.new) k.1.seen) }
+    ensures alone { IfSome kept.new (λ k. IsAlone (After k.1.seen) 0) }
+    ensures none { kept.new ≡ None → RunsNothing result (K.written sink.old) (K.written sink.new) (K.faults sink.old) (K.faults sink.new) }
+    ensures binds { P.binds ports.new ≡ P.binds ports.old }
+    ensures link_fault { result ≡ Status.LinkFault → Rose (P.faults ports.old) (P.faults ports.new) }
+    ensures links_steady { result ≢ Status.LinkFault → P.faults ports.new ≡ P.faults ports.old }
+    ensures writes_steady { result ≢ Status.WriteFault → K.faults sink.new ≡ K.faults sink.old }
+    ensures understood { (place : ℕ) → result ≢ Status.Usage place }
+{
     match Board::new(alloc) {
         Ok(made) => {
             let (board, mut pass) = made;
-            let ends = Ends {
-                camera,
-                stream,
-                control,
-                camera_clock,
-                host_clock,
-                app_clock,
-            };
             let (status, ends) = live_over(
                 rt,
                 alloc,
@@ -66,18 +125,41 @@ fn run_over<R: Threads + Wait + Sync, K: Sink, P: Ports, G: Gate + Sync>(
             status
         }
         Err(_) => {
-            give_back(
-                ports,
-                ThreeLinks {
-                    camera,
-                    stream,
-                    control,
-                },
-                camera_clock,
-                host_clock,
-                app_clock,
-            );
+            give_ends(ports, ends);
             Status::NoMemory
         }
+    }
+}
+
+/// A live run with these numbers: binds three links, takes three clocks, makes the board and runs over them, and
+/// gives links and clocks back in the order in which they came. The board and the pass of the run are kept in
+/// `kept`, where a board was made.
+pub fn run_live<R: Threads + Wait + Sync, K: Sink, P: Ports, G: Gate + Sync>(
+    rt: &R,
+    alloc: Global,
+    numbers: LiveNumbers,
+    ports: &mut P,
+    gate: &G,
+    sink: &mut K,
+    kept: &mut Option<(Board, Pass)>,
+) -> Status
+    requires within { IsInRange numbers }
+    requires unkept { kept.old ≡ None }
+    ensures live { IfSome kept.new (λ k. RunsOver P.L.received P.L.sent P.L.faults P.C.told numbers result (P.links ports.old) (P.links ports.new)
+        (P.clocks ports.old) (P.clocks ports.new) (K.written sink.old) (K.written sink.new) (K.faults sink.old) (K.faults sink.new) k.1.seen) }
+    ensures alone { IfSome kept.new (λ k. IsAlone (After k.1.seen) 0) }
+    ensures none { kept.new ≡ None → RunsNothing result (K.written sink.old) (K.written sink.new) (K.faults sink.old) (K.faults sink.new) }
+    ensures binds { P.binds ports.new ≤ P.binds ports.old + 3 }
+    ensures link_fault { result ≡ Status.LinkFault → Rose (P.faults ports.old) (P.faults ports.new) }
+    ensures links_steady { result ≢ Status.LinkFault → P.faults ports.new ≡ P.faults ports.old }
+    ensures writes_steady { result ≢ Status.WriteFault → K.faults sink.new ≡ K.faults sink.old }
+    ensures understood { (place : ℕ) → result ≢ Status.Usage place }
+{
+    match bind_three(ports) {
+        Ok(links) => {
+            let ends = with_clocks(ports, links);
+            run_over(rt, alloc, numbers, ends, ports, gate, sink, kept)
+        }
+        Err(_) => Status::LinkFault,
     }
 }

@@ -4,3 +4,6 @@ pub mod Stories
 pub mod Statuses
 pub mod Telling
 pub mod Taking
+pub mod CameraPart
+pub mod ApplicationPart
+pub mod Meaning

@@ -1,10 +1,12 @@
 -- A live run by what its workers promised.
-use Rattle.std.proofs.Common.{◌≡◌, inl, inr, ℕ, List, [], ◌++◌, Option, Result, refl, sym, subst, append-nil, ◌≤◌}
+use Rattle.std.proofs.Common.{◌≡◌, inl, inr, ℕ, zero, suc, List, [], ◌++◌, Option, Result, refl, sym, subst, append-nil, ◌≤◌, length}
 use Rattle.gev_types.specs.declared.memory.NoMemory as memory
 use Rattle.board_machine.specs.declared.events.Entry.{Entry}
 use Rattle.board_machine.specs.declared.events.Event.TheVariants.{Join}
 use Rattle.board_machine.specs.Places.{IsPrefix}
-use Rattle.board_machine.specs.Histories.{own_of}
+use Rattle.board_machine.specs.Histories.{own_of, After}
+use Rattle.board_machine.specs.Machine.{empty_board, IsActor}
+use Rattle.board_machine.specs.Laws.{IsAlone}
 use Rattle.board_machine.specs.Kinds.{HasNone, is_fill_refused}
 use Rattle.buffer_words.specs.Passes.{Token, own}
 use Rattle.buffer_words.specs.Workers.{AreOf}
@@ -20,13 +22,18 @@ use Rattle.gev_status.specs.declared.status.Status.TheVariants.{NoMemory}
 use Rattle.gev_crew.specs.Prepared.{Prepares, SawOnly}
 use Rattle.gev_reader.specs.Kinds.{is_strict_readers}
 use Rattle.gev_reader.specs.History.{LiveReading}
-use Rattle.gev_reader.proofs.Whole.{part_stays, part_fills}
+use Rattle.gev_reader.proofs.Whole.{part_stays, part_fills, part_sized}
 use Rattle.gev_reader.proofs.Strict.{part_lays_nothing}
 use Rattle.gev_live.specs.Told.{Told, reader_side, live_config, live_camera}
-use Rattle.gev_live.specs.History.{live_size}
+use Rattle.gev_live.specs.History.{live_size, LiveHistory}
 use Rattle.gev_live.specs.Endings.{taken_of, status_by, EndsSo}
 use Rattle.gev_live.specs.LiveRun.{Numbers, LiveRun, RunsLive}
 use Rattle.gev_live.specs.Ran.{RanCrew}
+use Rattle.gev_live.proofs.Quiet.{one_size, takes_by}
+use Rattle.gev_live.proofs.CameraPart.{camera_part}
+use Rattle.gev_live.proofs.ApplicationPart.{application_part}
+use Rattle.gev_live.specs.Parts.{LiveCamera, LiveApplication}
+use Rattle.gev_live.proofs.Meaning.{links_stay, link_failed, answer_means, spent_all, never_spent}
 use Rattle.gev_live.proofs.Stories.{seen_more, prefix_then, home_own, home_prefix, Story, crew_of, live_history}
 
 -- what was seen when a worker was home stands in all that is seen at the end
@@ -48,16 +55,9 @@ pub ran_live : (n : Numbers) (camera stream : Address) (answer : Status) (o e : 
     → LiveRun n camera stream answer o e written written_after faults faults_after u.seen
 ran_live n camera stream answer o e served read taken lines written written_after faults faults_after s u saw r ends = record {
   crew = crew_of r.a r.b r.d;
-  history = live_history n.buffers s r.one r.two r.three r.home r.back u r.a r.worked_a r.b r.worked_b r.d r.worked_d story;
+  history = history;
   served = served;
-  camera_part = record {
-    given = r.a;
-    back = r.worked_a;
-    number = refl;
-    new = r.crew.first.new;
-    serves = r.serves;
-    own = home_own s r.one r.a r.worked_a r.three r.home u.seen r.crew.first (first_in r) r.crew.ended_run;
-  };
+  camera_part = served_part;
   read = read;
   reader_part = record {
     client = r.client;
@@ -67,20 +67,19 @@ ran_live n camera stream answer o e served read taken lines written written_afte
     last = r.reads.last;
     on = r.reads.on;
     reading = reading;
+    sized = part_sized live_config r.b.number read r.reads.made u.seen live_size reading r.crew.ended_run
+        (one_size live_size n.buffers history.prepared history.since u.seen history.prepares history.begins history.kinds);
     fills = part_fills live_config r.b.number read r.reads.made u.seen reading;
     faults = r.faults;
   };
   applied = taken;
   lines = lines;
-  application_part = record {
-    given = r.d;
-    back = r.worked_d;
-    number = refl;
-    new = r.crew.third.new;
-    applies = r.applies;
-    own = home_own r.two r.three r.d r.worked_d r.back u u.seen r.crew.third (third_in u.seen) r.crew.ended_run;
-  };
+  application_part = taken_part;
   ended = ends;
+  steady = links_stay (live_camera n.seed) o e served read n.frames n.turns taken answer served_part r.faults ends.cause;
+  failed = link_failed (live_camera n.seed) o e served read n.frames n.turns taken answer served_part r.faults ends.cause;
+  means = answer_means served read n.frames n.turns (length r.reads.made) lines taken_part.made taken answer taken_part.told_lines
+      (spent_all stream r.reads.on.setup_end read n.turns r.reads.made (never_spent stream new_client r.reads.on.setup r.reads.on.setup_end r.reads.on.client r.reads.on.set_up_by) r.reads.on.ends) ends.cause;
 }
   where
     own_b : own_of r.b.number u.seen ≡ own r.worked_b
@@ -106,11 +105,39 @@ ran_live n camera stream answer o e served read taken lines written written_afte
       legal = r.legal;
     }
 
+    history : LiveHistory n.buffers (crew_of r.a r.b r.d) u.seen
+    history = live_history n.buffers s r.one r.two r.three r.home r.back u r.a r.worked_a r.b r.worked_b r.d r.worked_d story
+
+    served_part : LiveCamera (live_camera n.seed) o.camera e.camera o.camera_clock e.camera_clock served
+    served_part = camera_part served (live_camera n.seed) r.serves.camera o.camera e.camera o.camera_clock e.camera_clock r.a r.serves.middle r.serves.serves
+
+    taken_part : LiveApplication o.app_clock e.app_clock n.frames r.d.number lines taken u.seen
+    taken_part = application_part n.frames o.app_clock e.app_clock lines taken r.d r.worked_d u.seen r.applies r.crew.third.new r.crew.ended_run
+        (home_prefix r.two r.three r.d r.worked_d r.back u u.seen r.crew.third (third_in u.seen))
+        (home_own r.two r.three r.d r.worked_d r.back u u.seen r.crew.third (third_in u.seen) r.crew.ended_run)
+        (takes_by r.d.number live_size n.buffers history.prepared history.since u.seen history.prepares history.begins history.hands)
+
 pub ends_as : (first second status : Status) (lines : List ℕ) (frames taken count : ℕ) (written written_after : Option (List ℕ)) (faults faults_after : ℕ) → first ≡ second → taken ≡ count
     → EndsSo first status (lines ++ live_line frames taken) written written_after faults faults_after → EndsSo second status (lines ++ live_line frames count) written written_after faults faults_after
 ends_as first second status lines frames taken count written written_after faults faults_after e f ends =
     subst (λ k. EndsSo second status (lines ++ live_line frames k) written written_after faults faults_after) f
     (subst (λ s. EndsSo s status (lines ++ live_line frames taken) written written_after faults faults_after) e ends)
+
+-- the first actor is alone on the empty board
+alone_there : IsAlone empty_board 0
+alone_there = record { actor = λ e. cc; only = λ n is_one. only n is_one }
+  where
+    only : (n : ℕ) → IsActor empty_board n → n ≡ 0
+    only zero is_one = refl
+    only (suc n) is_one = absurd (is_one refl)
+
+pub none_alone : (h : List Entry) → h ≡ [] → IsAlone (After h) 0
+none_alone h none = subst (λ l. IsAlone (After l) 0) (sym none) alone_there
+
+pub runs_alone : (n : Numbers) (camera stream : Address) (answer : Status) (o e : Told) (written written_after : Option (List ℕ)) (faults faults_after : ℕ) (h : List Entry)
+    → RunsLive n camera stream answer o e written written_after faults faults_after h → IsAlone (After h) 0
+runs_alone n camera stream answer o e written written_after faults faults_after h (inl run) = run.history.alone
+runs_alone n camera stream answer o e written written_after faults faults_after h (inr none) = none.alone
 
 -- memory was wanting before anything was done
 pub none_begun : (n : Numbers) (camera stream : Address) (o : Told) (written : Option (List ℕ)) (faults : ℕ) (h : List Entry) → 1 ≤ n.buffers → h ≡ []
@@ -120,6 +147,7 @@ none_begun n camera stream o written faults h some none = inr (record {
   events = [];
   short = record { ids = []; fewer = some; prepared = []; each = refl; last = []; looks = inl refl; is = refl };
   seen = none;
+  alone = none_alone h none;
   untold = refl;
   unwritten = refl;
   no_fault = refl;

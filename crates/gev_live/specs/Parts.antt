@@ -1,5 +1,5 @@
 -- What each worker of a live run did, by the whole history and by what its links and its clock told.
-use Rattle.std.specs.Prelude.{◌≡◌, ℕ, List, [], ◌∷◌, ◌++◌, Result}
+use Rattle.std.specs.Prelude.{◌≡◌, ◌⊎◌, ℕ, ◌<◌, ◌≤◌, List, [], ◌∷◌, ◌++◌, length, Option, Result, Ok, Err}
 use Rattle.gev_types.specs.declared.memory.NoMemory.{NoMemory}
 use Rattle.board_machine.specs.declared.events.Entry.{Entry}
 use Rattle.board_machine.specs.declared.events.Event.{Event}
@@ -7,21 +7,33 @@ use Rattle.board_machine.specs.Histories.{own_of}
 use Rattle.acquisition_machine.specs.declared.config.AcqConfig.{AcqConfig}
 use Rattle.acquisition_machine.specs.Machine.{stop}
 use Rattle.block_fills.specs.Fills.{tried, retired_items}
-use Rattle.buffer_words.specs.Passes.{Token, own}
 use Rattle.client_machine.specs.Machine.{Client, new_client}
 use Rattle.camera_machine.specs.Camera.{Camera}
-use Rattle.gev_links.specs.Links.{Address}
+use Rattle.gev_links.specs.Links.{Address, Answer, failed, Adds}
 use Rattle.gev_serve.specs.declared.ends.ServeEnd.{ServeEnd}
 use Rattle.gev_control.specs.declared.acq_end.AcqEnd.{AcqEnd}
 use Rattle.gev_control.specs.Ends.{is_fault_end}
 use Rattle.gev_acq.specs.declared.turn.Turn.{Turn}
 use Rattle.gev_acq.specs.Reading.{FaultsOf}
+use Rattle.gev_acq.specs.Claims.{claims_in}
 use Rattle.gev_acq.specs.Turns.{Turned}
 use Rattle.gev_acq.specs.Acquired.{inputs_in}
 use Rattle.gev_reader.specs.Reads.{ReadsOn}
-use Rattle.gev_reader.specs.History.{LiveReading}
-use Rattle.gev_crew.specs.Work.{ServesAndStops, AppliesAndStops}
+use Rattle.gev_reader.specs.History.{LiveReading, AreSized}
+use Rattle.board_machine.specs.Handout.{handed_items, taken_items}
+use Rattle.gev_links.specs.Faults.{Rose}
+use Rattle.gev_links.specs.Moments.{TellsEach}
+use Rattle.gev_serve.specs.declared.ends.ServeEnd.TheVariants as serves
+use Rattle.gev_serve.specs.Wires.{Wire}
+use Rattle.gev_serve.specs.Turns.{Served, sent_over}
+use Rattle.gev_serve.specs.Turns as camera
+use Rattle.gev_apply.specs.Looks.{Looked, lent_in, lines_of}
+use Rattle.gev_apply.specs.Looks as application
+use Rattle.gev_apply.specs.Applied.{IsEnough}
+use Rattle.gev_apply.specs.History.{LiveTakes}
+use Rattle.gev_crew.specs.Work.{most_turns}
 use Rattle.gev_live.specs.Told.{Told, reader_side}
+use Rattle.gev_live.specs.History.{live_size}
 
 -- The reader, actor k: it set the camera up, made these turns, served the receiver's inputs, stopped the receiver
 -- and then the run. What it put into the output is what its turns' inputs and the stop retire, in order; each
@@ -35,24 +47,48 @@ pub record LiveReader (c : AcqConfig) (camera stream : Address) (o e : Told) (tu
   pub on : ReadsOn c camera stream (reader_side o new_client) (reader_side e client) [] journal turns end made turned last
   pub reading : LiveReading c k end made h
   pub fills : tried (own_of k h) ≡ retired_items c (inputs_in made ++ stop ∷ [])
+  pub sized : AreSized live_size (claims_in (inputs_in made))
   pub faults : FaultsOf (is_fault_end end) o.stream.faults e.stream.faults o.control.faults e.control.faults
 
--- The camera, actor k: it served this new camera on its link, and stopped the run where it failed. Its entries in
--- the history are those that it made so.
-pub record LiveCamera (s : Camera) (o e : Told) (k : ℕ) (end : ServeEnd) (h : List Entry) : Type 0 where
-  pub given : Token
-  pub back : Token
-  pub number : given.number ≡ k
-  pub new : own given ≡ []
-  pub serves : ServesAndStops end s o.camera e.camera o.camera_clock e.camera_clock given back
-  pub own : own_of k h ≡ own back
+-- How the camera's worker ended, by its last turn: none was cut short and no receive failed, or memory was wanting in
+-- the last turn, or its receive or one of its sends failed.
+abbrev pub EndsServing : ServeEnd → List Served → List Served → List Answer → List (Address × List ℕ) → ℕ → ℕ → Type 0
+EndsServing serves.Stopped whole cut missed rest faults faults_after =
+    (length whole < most_turns) × (cut ≡ []) × (missed ≡ []) × (rest ≡ []) × (faults_after ≡ faults)
+EndsServing serves.Spent whole cut missed rest faults faults_after =
+    (length whole ≡ most_turns) × (cut ≡ []) × (missed ≡ []) × (rest ≡ []) × (faults_after ≡ faults)
+EndsServing serves.NoMemory whole cut missed rest faults faults_after =
+    (length cut ≡ 1) × (missed ≡ []) × (faults_after ≡ faults)
+EndsServing serves.Fault whole cut missed rest faults faults_after =
+    (((length cut ≡ 1) × (missed ≡ [])) ⊎ ((cut ≡ []) × (missed ≡ failed ∷ []))) × Rose faults faults_after
 
--- The application, actor k: it took buffers and made their lines, and stopped the run when it had enough. Its
--- entries in the history are those that it made so.
-pub record LiveApplication (o e : Told) (frames k : ℕ) (lines : List ℕ) (answer : Result ℕ NoMemory) (h : List Entry) : Type 0 where
-  pub given : Token
-  pub back : Token
-  pub number : given.number ≡ k
-  pub new : own given ≡ []
-  pub applies : AppliesAndStops frames o.app_clock e.app_clock [] lines answer given back
-  pub own : own_of k h ≡ own back
+-- The camera's worker: it made these turns of a new camera, in each of which it received once and read the clock
+-- once. What it sent is what these turns send, in order, up to the end.
+pub record LiveCamera (s : Camera) (v w : Wire) (told now_told : Option (List ℕ)) (end : ServeEnd) : Type 0 where
+  pub whole : List Served
+  pub cut : List Served
+  pub missed : List Answer
+  pub received : TellsEach v.received w.received (camera.answers_in (whole ++ cut) ++ missed)
+  pub moments : TellsEach told now_told (camera.moments_in (whole ++ cut))
+  pub sent : List (Address × List ℕ)
+  pub rest : List (Address × List ℕ)
+  pub sends : Adds v.sent w.sent sent
+  pub are : sent_over s (whole ++ cut) ≡ sent ++ rest
+  pub ends : EndsServing end whole cut missed rest v.faults w.faults
+
+-- How many buffers the application took, and their lines: at most the asked number, and fewer only where the run was
+-- over and no buffer was left. Where memory was wanting for a line the lines are those before it.
+abbrev pub TellsTaken : ℕ → List Looked → List ℕ → Result ℕ NoMemory → Type 0
+TellsTaken frames made lines (Ok taken) =
+    (taken ≡ length (lent_in made)) × (taken ≤ frames) × IsEnough frames taken made × (lines ≡ lines_of (lent_in made))
+TellsTaken frames made lines (Err error) =
+    (before : List Looked) × (last : Looked) × (made ≡ before ++ last ∷ []) × (length (lent_in before) < frames) × (lines ≡ lines_of (lent_in before))
+
+-- The application, actor k: its entries are those of these turns and of at most one stop. What it took, with the bytes
+-- and the records of the fills, is all that was handed out; its lines are those of these buffers, in order.
+pub record LiveApplication (told now_told : Option (List ℕ)) (frames k : ℕ) (lines : List ℕ) (answer : Result ℕ NoMemory) (h : List Entry) : Type 0 where
+  pub made : List Looked
+  pub takes : LiveTakes k made h
+  pub handed : handed_items h ≡ taken_items k h
+  pub tells : TellsEach told now_told (application.moments_in made)
+  pub told_lines : TellsTaken frames made lines answer

@@ -2,6 +2,8 @@
 
 ghost use Rattle.std.specs.Prelude.{◌≡◌, ◌≤◌, ℕ, [], vec_capacity};
 ghost use Rattle.gev_types.specs.Limits.{place_count};
+ghost use Rattle.board_machine.specs.Histories.{After};
+ghost use Rattle.board_machine.specs.Laws.{IsAlone};
 ghost use Rattle.board_machine.specs.Actors.{born};
 ghost use Rattle.buffer_words.specs.Boards.{board_id};
 ghost use Rattle.buffer_words.specs.Passes.{SameHands, own};
@@ -125,6 +127,7 @@ pub fn live_over<
     requires lanes { _lanes ≡ 1 }
     ensures table { pass.new.table ≡ pass.old.table }
     ensures hands { SameHands pass.old pass.new }
+    ensures alone { IsAlone (After pass.new.seen) 0 }
     ensures live { RunsLive (record { seed = seed; frames = frames; buffers = buffers; turns = turns }) (L.address ends.camera) (S.address ends.stream) result.0
         (record {
           camera = wire (L.received ends.camera) (L.sent ends.camera) (L.faults ends.camera);

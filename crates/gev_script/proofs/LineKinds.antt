@@ -159,6 +159,7 @@ line_kinds name.CloseAll words = number_plain name.CloseAll (λ n. line.close_al
 line_kinds name.Step words =
     named_plain name.Step (step_line words) (λ h. h)
     (plain_bind (next_of words) _ (plain_next words) (λ a. plain_bind (next_of a.1) _ (plain_next a.1) (λ b. plain_step_of a.0 b.0 b.1)))
+line_kinds name.Mode words = number_plain name.Mode (λ n. line.mode n) 2 words (λ h. h)
 line_kinds name.End words = alone_plain name.End line.end_of_script words (λ h. h)
 line_kinds name.CameraHeader words = named_header name.CameraHeader (camera_header_fields words) tt
 line_kinds name.Command words =

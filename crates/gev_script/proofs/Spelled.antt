@@ -131,6 +131,7 @@ words_are (line.open_child parent index) h =
     ∙ bound (number_in 0 most_u32 (decimal index)) index _ (short index h.1)
 words_are (line.close_all serial) h = bound (number_in 0 most_u64 (decimal serial)) serial _ (long serial h)
 words_are (line.step actor act place) h = step_is actor act place h.actor_from h.actor_to h.takes
+words_are (line.mode mode) h = bound (number_in 0 2 (decimal mode)) mode _ (within 0 2 mode (omega arith) (omega arith) h)
 words_are line.end_of_script h = refl
 words_are line.camera_header h = refl
 words_are (line.command peer digits) h =
@@ -192,6 +193,7 @@ words_split (line.step actor act place) h =
     let small : actor ≤ 4 = h.actor_to in
     split_joined 32 (codes "step") (decimal actor ∷ act_word act ∷ place_words place)
     (refl, (number_lacks_space actor (omega arith), (act_lacks_space act, place_lacks act place h.takes)))
+words_split (line.mode mode) h = split_joined 32 (codes "mode") (decimal mode ∷ []) (refl, (number_lacks_space mode (omega (arith, h)), tt))
 words_split line.end_of_script h = split_joined 32 (codes "end") [] (refl, tt)
 words_split line.camera_header h = split_joined 32 (codes "gevacq-camera") (codes "1" ∷ []) (refl, (refl, tt))
 words_split (line.command peer digits) h =

@@ -356,6 +356,7 @@ name_word name.BufferInfo = codes "binfo"
 name_word name.OpenChild = codes "open"
 name_word name.CloseAll = codes "close"
 name_word name.Step = codes "step"
+name_word name.Mode = codes "mode"
 name_word name.End = codes "end"
 name_word name.CameraHeader = codes "gevacq-camera"
 name_word name.Command = codes "c"
@@ -363,7 +364,7 @@ name_word name.Frame = codes "frame"
 
 are_names : AllRows (λ word found. word ≡ name_word found) names
 are_names =
-    (refl, (refl, (refl, (refl, (refl, (refl, (refl, (refl, (refl, (refl, (refl, (refl, (refl, (refl, (refl, (refl, (refl, (refl, (refl, (refl, (refl, tt)))))))))))))))))))))
+    (refl, (refl, (refl, (refl, (refl, (refl, (refl, (refl, (refl, (refl, (refl, (refl, (refl, (refl, (refl, (refl, (refl, (refl, (refl, (refl, (refl, (refl, tt))))))))))))))))))))))
 
 named_ok : (found : Name) (words : List (List ℕ)) (l : ScriptLine) → line_named found words ≡ Ok l → Says (name_word found ∷ words) l
 named_ok name.Header words l h = header_ok words l h
@@ -383,6 +384,7 @@ named_ok name.BufferInfo words l h = buffer_info_ok words l h
 named_ok name.OpenChild words l h = open_child_ok words l h
 named_ok name.CloseAll words l h = one_number (codes "close") (λ n. line.close_all n) most_u64 words l (λ n. refl) long h
 named_ok name.Step words l h = step_ok words l h
+named_ok name.Mode words l h = one_number (codes "mode") (λ n. line.mode n) 2 words l (λ n. refl) (λ n few. few) h
 named_ok name.End words l h = alone_ok (codes "end") line.end_of_script l words refl tt h
 named_ok name.CameraHeader words l h = camera_header_ok words l h
 named_ok name.Command words l h = command_ok words l h

@@ -138,6 +138,12 @@ step_line words = do
   act ← next_of actor.1
   step_of actor.0 act.0 act.1
 
+-- `mode <n>`
+abbrev pub mode_line : List (List ℕ) → Read ScriptLine
+mode_line words = do
+  mode ← number_after 2 words
+  Ok (line.mode mode)
+
 abbrev pub camera_header_fields : List (List ℕ) → Read ScriptLine
 camera_header_fields words = do
   after ← after_word (codes "1") words
@@ -174,6 +180,7 @@ line_named name.BufferInfo words = buffer_info_line words
 line_named name.OpenChild words = open_child_line words
 line_named name.CloseAll words = close_all_line words
 line_named name.Step words = step_line words
+line_named name.Mode words = mode_line words
 line_named name.End words = alone line.end_of_script words
 line_named name.CameraHeader words = camera_header_line words
 line_named name.Command words = command_line words

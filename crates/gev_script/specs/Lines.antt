@@ -3,7 +3,7 @@ use Rattle.std.specs.Prelude.{ℕ, List, Option, Result, Ok, Err}
 use Rattle.gev_script.specs.declared.act.Act.{Act}
 use Rattle.gev_script.specs.declared.kind.ScriptKind.{ScriptKind}
 use Rattle.gev_script.specs.declared.line.Line.{Line}
-use Rattle.gev_script.specs.declared.line.Line.TheVariants.{Header, Announce, Queue, Revoke, Flush, Start, Stop, Tick, Datagram, Take, Kill, EventFlush, Info, BufferInfo, OpenChild, CloseAll, Step, End, CameraHeader, Command, Frame}
+use Rattle.gev_script.specs.declared.line.Line.TheVariants.{Header, Announce, Queue, Revoke, Flush, Start, Stop, Tick, Datagram, Take, Kill, EventFlush, Info, BufferInfo, OpenChild, CloseAll, Step, Mode, End, CameraHeader, Command, Frame}
 
 -- the numbers of a replay script's header
 pub record Config : Type 0 where
@@ -39,6 +39,7 @@ pub data ScriptLine : Type 0 where
   open_child : Option ℕ → ℕ → ScriptLine
   close_all : ℕ → ScriptLine
   step : ℕ → Act → Option ℕ → ScriptLine
+  mode : ℕ → ScriptLine
   end_of_script : ScriptLine
   camera_header : ScriptLine
   command : ℕ → List ℕ → ScriptLine
@@ -62,6 +63,7 @@ view (BufferInfo place generation which) = buffer_info place generation which
 view (OpenChild parent index) = open_child parent index
 view (CloseAll serial) = close_all serial
 view (Step actor act place) = step actor act place
+view (Mode n) = mode n
 view End = end_of_script
 view CameraHeader = camera_header
 view (Command peer hex) = command peer hex.now

@@ -21,6 +21,7 @@ later_names =
     ∷ (codes "open", name.OpenChild)
     ∷ (codes "close", name.CloseAll)
     ∷ (codes "step", name.Step)
+    ∷ (codes "mode", name.Mode)
     ∷ (codes "end", name.End)
     ∷ (codes "gevacq-camera", name.CameraHeader)
     ∷ (codes "c", name.Command)

@@ -2,7 +2,7 @@ ghost use Rattle.std.specs.Prelude.{◌≡◌, option_map};
 ghost use Rattle.gev_script.specs.Lines.{seen, view};
 ghost use Rattle.gev_script.specs.Words.{parts_after};
 ghost use Rattle.gev_script.specs.Tables.{row_of, acts_alone, acts_at_place};
-ghost use Rattle.gev_script.specs.Grammar.{alone, times_of, header_fields, header_line, announce_line, queue_line, revoke_line, flush_line, stop_line, tick_line, datagram_line, info_line, buffer_info_line, open_child_line, close_all_line, step_alone, step_at_place, step_of, step_line, camera_header_fields, camera_header_line, command_line};
+ghost use Rattle.gev_script.specs.Grammar.{alone, times_of, header_fields, header_line, announce_line, queue_line, revoke_line, flush_line, stop_line, tick_line, datagram_line, info_line, buffer_info_line, open_child_line, close_all_line, step_alone, step_at_place, step_of, step_line, mode_line, camera_header_fields, camera_header_line, command_line};
 
 use crate::act::Act;
 use crate::fields::{
@@ -241,6 +241,15 @@ pub fn step_line(rest: Option<&[u8]>) -> Result<Line<'_>, ScriptKind>
     let (actor, rest) = next_part(SPACE, rest)?;
     let (act, rest) = next_part(SPACE, rest)?;
     step_of(actor, act, rest)
+}
+
+/// `mode <n>`
+pub fn mode_line(rest: Option<&[u8]>) -> Result<Line<'_>, ScriptKind>
+    ensures { seen result ≡ mode_line (parts_after 32 (option_map (λ r. r.now) rest.entry)) }
+{
+    let word = one_part(SPACE, rest)?;
+    let mode = u8_in(0, 2, word)?;
+    Ok(Line::Mode { mode })
 }
 
 fn camera_header_fields(rest: Option<&[u8]>) -> Result<Line<'_>, ScriptKind>

@@ -85,6 +85,11 @@ pub enum Line<'a> {
         /// 0 to 14, for an act on a place.
         place: Option<u8>,
     },
+    /// `mode <n>`: the buffer handling mode.
+    Mode {
+        /// 0 to 2: oldest first, oldest first with overwrite, newest only.
+        mode: u8,
+    },
     /// `end`
     End,
     /// `gevacq-camera 1`

@@ -36,6 +36,8 @@ pub enum Name {
     CloseAll,
     /// `step`
     Step,
+    /// `mode`
+    Mode,
     /// `end`
     End,
     /// `gevacq-camera`

@@ -8,8 +8,8 @@ ghost use Rattle.gev_script.specs.Spelling.{IsScriptLine};
 use crate::fields::{SPACE, is};
 use crate::forms::{
     alone, announce_line, buffer_info_line, camera_header_line, close_all_line, command_line,
-    datagram_line, flush_line, header_line, info_line, open_child_line, queue_line, revoke_line,
-    step_line, stop_line, tick_line,
+    datagram_line, flush_line, header_line, info_line, mode_line, open_child_line, queue_line,
+    revoke_line, step_line, stop_line, tick_line,
 };
 use crate::kind::ScriptKind;
 use crate::line::Line;
@@ -78,6 +78,9 @@ fn later_name_of(word: &[u8]) -> Result<Name, ScriptKind>
     if is(word, b"step") {
         return Ok(Name::Step);
     }
+    if is(word, b"mode") {
+        return Ok(Name::Mode);
+    }
     if is(word, b"end") {
         return Ok(Name::End);
     }
@@ -123,6 +126,7 @@ fn line_named(name: Name, rest: Option<&[u8]>) -> Result<Line<'_>, ScriptKind>
         Name::OpenChild => open_child_line(rest),
         Name::CloseAll => close_all_line(rest),
         Name::Step => step_line(rest),
+        Name::Mode => mode_line(rest),
         Name::End => alone(Line::End, rest),
         Name::CameraHeader => camera_header_line(rest),
         Name::Command => command_line(rest),

@@ -112,6 +112,8 @@ fn each_form_of_line(rt: HostRuntime) -> Result<(), Fail> {
         ("step 1 sweep-pool", step(1, Act::SweepPool, None)),
         ("step 1 sweep-out", step(1, Act::SweepOut, None)),
         ("step 1 close", step(1, Act::Close, None)),
+        ("mode 0", Line::Mode { mode: 0 }),
+        ("mode 2", Line::Mode { mode: 2 }),
         ("end", Line::End),
         ("gevacq-camera 1", Line::CameraHeader),
         (

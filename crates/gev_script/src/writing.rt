@@ -144,6 +144,7 @@ fn add_line(out: &mut Vec<u8>, line: &Line<'_>) -> Result<(), NoMemory>
         }
         Line::CloseAll { serial } => add_number(out, b"close ", serial),
         Line::Step { actor, act, place } => add_step(out, actor, act, place),
+        Line::Mode { mode } => add_number(out, b"mode ", u64::from(mode)),
         Line::End => add(out, b"end"),
         Line::CameraHeader => add(out, b"gevacq-camera 1"),
         Line::Command { peer, hex } => {

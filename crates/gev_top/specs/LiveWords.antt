@@ -1,5 +1,5 @@
 -- The words of a live run, and what the words of any command line ask for.
-use Rattle.std.specs.Prelude.{ℕ, ◌^◌, ◌-◌, List, [], ◌∷◌, codes, Option, Some, None, Result, Ok, Err, if◌then◌else◌}
+use Rattle.std.specs.Prelude.{◌≡◌, ℕ, ◌≤◌, ◌^◌, ◌-◌, List, [], ◌∷◌, codes, Option, Some, None, Result, Ok, Err, if◌then◌else◌}
 use Rattle.std.specs.Str.{bytes_eq}
 use Rattle.gev_top.specs.declared.command.Command.{Command}
 use Rattle.gev_top.specs.declared.live_numbers.LiveNumbers.{LiveNumbers}
@@ -15,6 +15,16 @@ live_of words = do
   turns ← number_at 1 100000000 5 words
   done ← none_at 6 words
   Ok (record { seed = seed; frames = frames; buffers = buffers; lanes = lanes; turns = turns })
+
+-- A live run wants 1 to 1,000 frames and 1 to 15 buffers, has one lane, and makes 1 to 100,000,000 turns.
+pub record IsInRange (n : LiveNumbers) : Type 0 where
+  pub some_frames : 1 ≤ n.frames
+  pub few_frames : n.frames ≤ 1000
+  pub some_buffers : 1 ≤ n.buffers
+  pub few_buffers : n.buffers ≤ 15
+  pub one_lane : n.lanes ≡ 1
+  pub some_turns : 1 ≤ n.turns
+  pub few_turns : n.turns ≤ 100000000
 
 -- what the words of a live run say; None where the first word isn't `live`
 abbrev pub live_named : List ℕ → List (List ℕ) → Option (Said LiveNumbers)

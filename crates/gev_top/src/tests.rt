@@ -11,6 +11,7 @@ mod faults;
 mod handles;
 mod large_images;
 mod making;
+mod modes;
 mod refusals;
 mod second_reading;
 mod short_frames;
@@ -78,6 +79,7 @@ fn reports(rt: HostRuntime) -> Result<(), Fail> {
         board::STEPS,
         handles::HANDLES,
         standard_ids::STANDARD_IDS,
+        modes::MODES,
     ];
     for table in tables {
         for row in table {

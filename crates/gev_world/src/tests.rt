@@ -120,6 +120,58 @@ soak frames=9 taken=9 complete=8 incomplete=1 underrun=0 requests=2 commands=4
     check_run(&rt, &run, &[], SoakEnd::Done, text)
 }
 
+/// Runs a world of so many frames over a network that loses nothing, and compares the end of its text.
+fn check_last_line(rt: &(impl Abort + AllocGlobal), frames: u32, last: &[u8]) -> Result<(), Fail> {
+    let alloc = rt.alloc();
+    let mut world = World::new(alloc, 3, frames, 0, 0, 0, false)?;
+    let mut sink = MemorySink::new(alloc, 65_536, &[]);
+    assert_eq!(rt; world.run(alloc, &mut sink), SoakEnd::Done);
+    assert!(rt; sink.written().ends_with(last));
+    Ok(())
+}
+
+// The setup's four commands are done at 40 ms, and a frame comes each 10 ms behind it: so a run of so many
+// frames ends at 40 ms and 10 ms for each. Of the heartbeats the first is executed at 1040 ms and one each
+// second then, so that the run of 100 frames is the first one with a fifth command.
+#[test]
+fn heartbeats_come_each_second(rt: HostRuntime) -> Result<(), Fail> {
+    check_last_line(
+        &rt,
+        99,
+        b"
+soak frames=99 taken=99 complete=99 incomplete=0 underrun=0 requests=0 commands=4
+",
+    )?;
+    check_last_line(
+        &rt,
+        100,
+        b"
+soak frames=100 taken=100 complete=100 incomplete=0 underrun=0 requests=0 commands=5
+",
+    )?;
+    check_last_line(
+        &rt,
+        199,
+        b"
+soak frames=199 taken=199 complete=199 incomplete=0 underrun=0 requests=0 commands=5
+",
+    )?;
+    check_last_line(
+        &rt,
+        200,
+        b"
+soak frames=200 taken=200 complete=200 incomplete=0 underrun=0 requests=0 commands=6
+",
+    )?;
+    check_last_line(
+        &rt,
+        2000,
+        b"
+soak frames=2000 taken=2000 complete=2000 incomplete=0 underrun=0 requests=0 commands=24
+",
+    )
+}
+
 #[test]
 fn all_lost(rt: HostRuntime) -> Result<(), Fail> {
     let run = Run {

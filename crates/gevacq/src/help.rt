@@ -26,6 +26,11 @@ gevacq soak <seed> <frames> <loss> <repeat> <swap> [short]
     Reads nothing. With `short` the image of block b lacks its last b mod 8
     lines.
 
+gevacq live <seed> <frames> <buffers> <lanes> <turns>
+    Runs a camera and its host as threads over UDP on 127.0.0.1, and writes a
+    line for each of so many images that were handed out, and a last line. The
+    host ends after so many turns at most. Reads nothing.
+
 gevacq --help, gevacq -h
     Prints this text.
 
@@ -33,8 +38,11 @@ gevacq --version
     Prints the name and the version.
 
 <seed>                      0 to 18446744073709551615
-<frames>                    0 to 100000
+<frames>                    0 to 100000, of `live` 1 to 1000
 <loss>, <repeat>, <swap>    0 to 1000, of a thousand packets
+<buffers>                   1 to 15
+<lanes>                     1
+<turns>                     1 to 100000000
 
 Numbers are decimal, without a sign and without a leading zero. The lines of
 scripts and reports, the wire formats and the exit statuses are described in
@@ -48,4 +56,5 @@ usage: gevacq streams
 usage: gevacq camera
 usage: gevacq make <seed> <frames> <loss> <repeat> <swap>
 usage: gevacq soak <seed> <frames> <loss> <repeat> <swap> [short]
+usage: gevacq live <seed> <frames> <buffers> <lanes> <turns>
 ";

@@ -4,9 +4,15 @@
 mod help;
 
 use crate::help::{HELP, USAGE};
-use gev_real::{StandardInput, StandardOutput};
-use gev_top::{Status, gevacq_top};
+use gev_call::gevacq_top;
+use gev_links::OpenGate;
+use gev_real::{RealPorts, StandardInput, StandardOutput};
+use gev_status::Status;
+use std::net::Net;
 use std::process::ExitCode;
+use std::sync::Wait;
+use std::thread::Threads;
+use std::time::Clock;
 use std::{env, io};
 
 /// The program's name and version.
@@ -14,7 +20,7 @@ const VERSION: &str = "gevacq 0.2.0\n";
 
 fn main(rt: HostRuntime) -> ExitCode {
     let status = match words(&rt) {
-        Ok(words) => run(&rt, words.as_slice()),
+        Ok(words) => run(&rt, &rt, words.as_slice()),
         Err(status) => status,
     };
     let _ = report(&rt, status);
@@ -37,8 +43,13 @@ fn words(rt: &HostRuntime) -> Result<Vec<String>, Status> {
     Ok(words)
 }
 
-/// Answers `--help`, `-h` and `--version`, and hands every other command line on.
-fn run(rt: &HostRuntime, words: &[String]) -> Status {
+/// Answers `--help`, `-h` and `--version`, and hands every other command line on. A live run has its threads and
+/// its sockets of `handles`.
+fn run<R: Threads + Wait + Net + Clock + Sync>(
+    rt: &HostRuntime,
+    handles: &R,
+    words: &[String],
+) -> Status {
     if let [word] = words {
         if word.as_str() == "--help" || word.as_str() == "-h" {
             return print(rt, HELP);
@@ -49,7 +60,18 @@ fn run(rt: &HostRuntime, words: &[String]) -> Status {
     }
     let mut source = StandardInput::new(rt.reader());
     let mut sink = StandardOutput::new(io::writer(rt));
-    gevacq_top(rt.alloc(), words, &mut source, &mut sink)
+    let mut ports = RealPorts::new(handles);
+    let mut kept = None;
+    gevacq_top(
+        handles,
+        rt.alloc(),
+        words,
+        &mut source,
+        &mut sink,
+        &mut ports,
+        &OpenGate,
+        &mut kept,
+    )
 }
 
 /// Prints a text on standard output.

@@ -1,25 +1,18 @@
 -- A datagram that wants a buffer: a place is claimed, the outcome is told, and the datagram is told again.
-use Rattle.std.proofs.Common.{◌≡◌, ◌≢◌, ◌⊎◌, ℕ, ◌<◌, ◌≤◌, List, [], ◌∷◌, ◌++◌, length, set, Option, Some, None, refl, sym, ap, subst, ◌∙◌, inl, inr, arith, append_assoc}
+use Rattle.std.proofs.Common.{◌≡◌, ◌≢◌, ◌⊎◌, ℕ, ◌<◌, Bool, List, [], ◌∷◌, ◌++◌, length, set, get_or, Option, Some, None, refl, sym, ap, subst, ◌∙◌, inl, inr, arith, append_assoc}
 use Rattle.std.proofs.lemmas.List.{length-set}
 use Rattle.std.proofs.lemmas.Bool.{cases_eq}
 use Rattle.gev_types.specs.Filling.{Filling}
 use Rattle.board_machine.specs.declared.events.Entry.{Entry}
 use Rattle.board_machine.specs.declared.events.Event.{Event}
-use Rattle.board_machine.specs.declared.events.Event.TheVariants.{Claim}
-use Rattle.board_machine.specs.Places.{times, same, put_in}
-use Rattle.board_machine.specs.Machine.{Board, InHand, hand, word_at, picks}
-use Rattle.board_machine.specs.Adding.{entries_of, Adds, AddsEntry, KeepsActors}
+use Rattle.gentl_types.specs.declared.word.Word.{Word}
+use Rattle.board_machine.specs.Machine.{Board, IsActor, InHand, word_at, vacant}
+use Rattle.board_machine.specs.Adding.{entries_of, Adds, AddsOf}
 use Rattle.board_machine.specs.Histories.{RunsFrom}
-use Rattle.board_machine.specs.Handout.{handed}
 use Rattle.board_machine.specs.Owners.{IsCounted}
-use Rattle.board_machine.proofs.Adding.{adds_one, adds_both, entries_of-append, entry_keeps}
-use Rattle.board_machine.proofs.Boards.{in_hand_of-le}
-use Rattle.board_machine.proofs.Counts.{due_le}
-use Rattle.board_machine.proofs.Handed.{handed-append}
-use Rattle.board_machine.proofs.Places.{same_self, times-put}
+use Rattle.board_machine.proofs.Adding.{adds_both, entries_of-append}
 use Rattle.board_machine.proofs.Runs.{stands_lists, run_owned}
 use Rattle.board_model.specs.Plain.{PlainState, lying, nothing, HasBuf}
-use Rattle.board_model.proofs.CallsHands.{times_set}
 use Rattle.board_model.proofs.CallsFill.{lying_within, lying_cleared}
 use Rattle.acquisition_machine.specs.declared.config.AcqConfig.{AcqConfig}
 use Rattle.acquisition_machine.specs.declared.need.Need.{Need}
@@ -35,37 +28,23 @@ use Rattle.acq_core.specs.Giving.{given_as}
 use Rattle.acq_core.specs.Standing.{IsConfig}
 use Rattle.acq_core.specs.Receiver.{config_of, asked_block, buffers, Stands, Takes, KeepsBlocks}
 use Rattle.acq_core.specs.Waiting.{waiting_fills, waiting_requests}
-use Rattle.script_trace.specs.Trace.{Part, board, acquirer}
+use Rattle.mode_calls.specs.declared.mode.Mode.{Mode}
+use Rattle.mode_calls.specs.Modes.{ClaimsFor}
+use Rattle.script_trace.specs.Trace.{Trace, Part, board, acquirer}
+use Rattle.script_trace.specs.Modes.{FillsInMode, place_of}
+use Rattle.script_trace.proofs.Quiet.{claims_quiet}
 use Rattle.script_trace.specs.Contents.{contents_of}
-use Rattle.script_trace.specs.StreamLines.{FillsRetired, HeardAgain, Hears, outcome, told_twice, retired_by, tells}
+use Rattle.script_trace.specs.StreamLines.{HeardAgain, Hears, outcome, told_twice, retired_by, tells}
 use Rattle.script_replay.specs.declared.fill_counts.FillCounts.{FillCounts}
 use Rattle.script_replay.specs.Boards.{LiesAsTold, IsLeftBy, IsReady}
 use Rattle.script_replay.specs.Acquiring.{IsAway, AreApart, AreAway, IsAtRest, FillsAll, Settled, Drives, Claims}
-use Rattle.script_replay.specs.Counting.{counted_on, blocks_in}
-use Rattle.script_replay.proofs.Counted.{counted-append, blocks_grow}
+use Rattle.script_replay.specs.Counting.{counted_claim, counted_in}
+use Rattle.script_replay.proofs.Counted.{counted-more, own_hands}
+use Rattle.script_replay.proofs.Dropping.{Keeps, contents_quiet, claims_keep, claims_apart, none_counted, some_counted}
 use Rattle.script_replay.proofs.Lines.{contents-append}
 use Rattle.script_replay.proofs.Places.{set_apart}
 use Rattle.script_replay.proofs.Retiring.{own_fills}
 use Rattle.script_replay.proofs.Driving.{settles_at, none_called, turned}
-
--- ---- what a claim leaves
-
-claim_words : (b : Board) (k i : ℕ) (claim : Option ℕ) (new : Board) → AddsEntry b k (Claim claim) new → word_at new i ≡ word_at b i
-claim_words b k i None new step = ap (λ (c : Board). word_at c i) step.after
-claim_words b k i (Some j) new step = ap (λ (c : Board). word_at c i) step.after
-
-claim_hands : (b : Board) (k i : ℕ) (claim : Option ℕ) (new : Board) → AddsEntry b k (Claim claim) new → InHand b k i → InHand new k i
-claim_hands b k i None new step has = subst (λ (c : Board). InHand c k i) (sym step.after) has
-claim_hands b k i (Some j) new step has =
-    let same_hand : times i (hand new k) ≡ times i (hand (picks b k j) k) = ap (λ (c : Board). times i (hand c k)) step.after in
-    omega (arith, same_hand, times_set b k i (put_in j (hand b k)) step.may.actor, times-put i j (hand b k), has)
-
--- a claimed place was in no hand
-claim_apart : (b : Board) (k i j : ℕ) (new : Board) → IsCounted b → AddsEntry b k (Claim (Some j)) new → InHand b k i → i ≢ j
-claim_apart b k i j new owned step has e =
-    let pooled : 1 ≤ times j b.pool = subst (λ (is : List ℕ). 1 ≤ times j is) (sym step.may.meets.1) (let one : same j j ≡ 1 = same_self j in omega (arith, one)) in
-    let mine : 1 ≤ times j (hand b k) = subst (λ n. 1 ≤ times n (hand b k)) e has in
-    omega (arith, pooled, mine, in_hand_of-le j b.hands k, owned.once j, due_le (word_at b j).state)
 
 -- ---- buffers beside a claimed one
 
@@ -106,10 +85,10 @@ away_more s g (x ∷ front) back away apart all =
 -- ---- the claim
 
 -- the place that was claimed, with its buffer lifted
-pub claimed_beside : (s mid new : PlainState) (place : ℕ) → AddsEntry s.board acquirer (Claim (Some place)) mid.board → mid.contents ≡ s.contents → new.board ≡ mid.board → new.contents ≡ set mid.contents place nothing → Beside s new place
-claimed_beside s mid new place step same board_same gone = record {
-  hands = λ i has. subst (λ (b : Board). InHand b acquirer i) (sym board_same) (claim_hands s.board acquirer i (Some place) mid.board step has);
-  words = λ i. ap (λ (b : Board). word_at b i) board_same ∙ claim_words s.board acquirer i (Some place) mid.board step;
+pub claimed_beside : (s mid new : PlainState) (place : ℕ) → Keeps s.board mid.board → mid.contents ≡ s.contents → new.board ≡ mid.board → new.contents ≡ set mid.contents place nothing → Beside s new place
+claimed_beside s mid new place keeps same board_same gone = record {
+  hands = λ i has. subst (λ (b : Board). InHand b acquirer i) (sym board_same) (omega (arith, keeps.hands i, has));
+  words = λ i. ap (λ (b : Board). word_at b i) board_same ∙ ap (λ (ws : List Word). get_or ws i vacant) keeps.words;
   lies = λ i apart. ap (λ c. lying c i) gone ∙ set_apart mid.contents place i nothing apart ∙ ap (λ c. lying c i) same;
   wide = ap length gone ∙ length-set mid.contents place nothing ∙ ap length same;
 }
@@ -123,19 +102,17 @@ claimed_away mid new place buf has lies size board_same gone = record {
   within = subst (λ n. place < n) (sym (ap length gone ∙ length-set mid.contents place nothing)) (lying_within mid.contents place lies);
 }
 
-claim_left : (s new : PlainState) (h : List Entry) (claim : Option ℕ) → AddsEntry s.board acquirer (Claim claim) new.board → ((i : ℕ) → LiesAsTold new.board new.contents (contents_of h) i) → IsLeftBy s h → IsLeftBy new (h ++ entries_of acquirer (Claim claim ∷ []))
-claim_left s new h None step lies left = record {
-  board = stands_lists s.board new.board h acquirer (Claim None ∷ []) left.board (adds_one s.board new.board acquirer (Claim None) step);
-  lies = λ i. subst (λ (told : List (Option Filling)). LiesAsTold new.board new.contents told i) (sym (contents-append _ h (entries_of acquirer (Claim None ∷ [])))) (lies i);
-}
-claim_left s new h (Some j) step lies left = record {
-  board = stands_lists s.board new.board h acquirer (Claim (Some j) ∷ []) left.board (adds_one s.board new.board acquirer (Claim (Some j)) step);
-  lies = λ i. subst (λ (told : List (Option Filling)). LiesAsTold new.board new.contents told i) (sym (contents-append _ h (entries_of acquirer (Claim (Some j) ∷ [])))) (lies i);
+claim_left : (mode : Mode) (claim : Option (ℕ × Bool)) (s new : PlainState) (h : List Entry) (events : List Event) → ClaimsFor mode claim events → Adds s.board acquirer events new.board
+    → ((i : ℕ) → LiesAsTold new.board new.contents (contents_of h) i) → IsLeftBy s h → IsLeftBy new (h ++ entries_of acquirer events)
+claim_left mode claim s new h events got adds lies left = record {
+  board = stands_lists s.board new.board h acquirer events left.board adds;
+  lies = λ i. subst (λ (told : List (Option Filling)). LiesAsTold new.board new.contents told i)
+      (sym (contents-append _ h (entries_of acquirer events) ∙ contents_quiet (contents_of h) acquirer events (claims_quiet mode claim events got))) (lies i);
 }
 
-none_lies : (s new : PlainState) (told : List (Option Filling)) (i : ℕ) → AddsEntry s.board acquirer (Claim None) new.board → new.contents ≡ s.contents → LiesAsTold s.board s.contents told i → LiesAsTold new.board new.contents told i
-none_lies s new told i step same (inl e) = inl (ap (λ c. lying c i) same ∙ e)
-none_lies s new told i step same (inr lifted) = inr (ap (λ c. lying c i) same ∙ lifted.0, claim_hands s.board acquirer i None new.board step lifted.1)
+none_lies : (s new : PlainState) (told : List (Option Filling)) (i : ℕ) → Keeps s.board new.board → new.contents ≡ s.contents → LiesAsTold s.board s.contents told i → LiesAsTold new.board new.contents told i
+none_lies s new told i keeps same (inl e) = inl (ap (λ c. lying c i) same ∙ e)
+none_lies s new told i keeps same (inr lifted) = let mine = lifted.1 in inr (ap (λ c. lying c i) same ∙ lifted.0, omega (arith, keeps.hands i, mine))
 
 beside_lies : (s new : PlainState) (told : List (Option Filling)) (i j : ℕ) → Beside s new j → IsAway new (record { place = j; size = (word_at new.board j).size }) → LiesAsTold s.board s.contents told i → LiesAsTold new.board new.contents told i
 beside_lies s new told i j beside away as_told = go (cases_eq i j) as_told
@@ -148,38 +125,60 @@ beside_lies s new told i j beside away as_told = go (cases_eq i j) as_told
 well_owned : (s : PlainState) → IsReady s → IsCounted s.board
 well_owned s ready = subst IsCounted (sym ready.left.board.state) (run_owned ready.history ready.left.board.run)
 
--- the pool was empty
-pub claims_none : (s new : PlainState) (m n : Machine) → AddsEntry s.board acquirer (Claim None) new.board → new.contents ≡ s.contents → Takes m n (claimed None) → Claims s m new n
-claims_none s new m n step same takes = record {
-  claim = None;
-  step = step;
-  takes = takes;
-  left = λ h left. claim_left s new h None step (λ i. none_lies s new (contents_of h) i step same (left.lies i)) left;
-}
+-- there was no place
+pub claims_none : (mode : Mode) (s new : PlainState) (m n : Machine) (a : FillCounts) → AddsOf s.board acquirer (ClaimsFor mode None) new.board → new.contents ≡ s.contents → Takes m n (claimed None) → Claims mode s m a new n a
+claims_none mode s new m n a called same takes =
+    let keeps : Keeps s.board new.board = claims_keep mode None called.events s.board new.board called.kind called.adds in
+    record {
+      claim = None;
+      events = called.events;
+      got = called.kind;
+      adds = called.adds;
+      actors = called.actors;
+      words = keeps.words;
+      takes = takes;
+      left = λ h left. claim_left mode None s new h called.events called.kind called.adds (λ i. none_lies s new (contents_of h) i keeps same (left.lies i)) left;
+      counted = none_counted mode a called.events called.kind;
+    }
 
-none_one : (s new : PlainState) (g : Given) → AddsEntry s.board acquirer (Claim None) new.board → new.contents ≡ s.contents → IsAway s g → IsAway new g
-none_one s new g step same away = record {
-  in_hand = claim_hands s.board acquirer g.place None new.board step away.in_hand;
+none_one : (s new : PlainState) (g : Given) → Keeps s.board new.board → new.contents ≡ s.contents → IsAway s g → IsAway new g
+none_one s new g keeps same away = record {
+  in_hand = omega (arith, keeps.hands g.place, away.in_hand);
   lifted = ap (λ c. lying c g.place) same ∙ away.lifted;
-  size = away.size ∙ sym (ap (λ w. w.size) (claim_words s.board acquirer g.place None new.board step));
+  size = away.size ∙ ap (λ (ws : List Word). (get_or ws g.place vacant).size) (sym keeps.words);
   within = subst (λ n. g.place < n) (sym (ap length same)) away.within;
 }
 
-pub none_away : (s new : PlainState) (gs : List Given) → AddsEntry s.board acquirer (Claim None) new.board → new.contents ≡ s.contents → AreAway s gs → AreAway new gs
-none_away s new [] step same away = away
-none_away s new (g ∷ gs) step same away = (none_one s new g step same away.0, away.1, none_away s new gs step same away.2)
+none_all : (s new : PlainState) (gs : List Given) → Keeps s.board new.board → new.contents ≡ s.contents → AreAway s gs → AreAway new gs
+none_all s new [] keeps same away = away
+none_all s new (g ∷ gs) keeps same away = (none_one s new g keeps same away.0, away.1, none_all s new gs keeps same away.2)
+
+pub none_away : (mode : Mode) (s new : PlainState) (gs : List Given) → AddsOf s.board acquirer (ClaimsFor mode None) new.board → new.contents ≡ s.contents → AreAway s gs → AreAway new gs
+none_away mode s new gs called same away = none_all s new gs (claims_keep mode None called.events s.board new.board called.kind called.adds) same away
 
 -- a place was claimed, and its buffer lifted
-pub claims_some : (s mid new : PlainState) (m n : Machine) (place : ℕ) (buf : Filling) → AddsEntry s.board acquirer (Claim (Some place)) mid.board → mid.contents ≡ s.contents → InHand mid.board acquirer place → HasBuf mid place
-    → length buf.bytes ≡ (word_at mid.board place).size → new.board ≡ mid.board → new.contents ≡ set mid.contents place nothing → Takes m n (claimed (given_as (Some (place, buf)))) → Claims s m new n
-claims_some s mid new m n place buf step same has lies size board_same gone takes = record {
-  claim = Some place;
-  step = record { may = step.may; after = board_same ∙ step.after };
-  takes = subst (λ (k : ℕ). Takes m n (claimed (Some (record { place = place; size = k })))) (size ∙ ap (λ w. w.size) (claim_words s.board acquirer place (Some place) mid.board step)) takes;
-  left = λ h left. claim_left s new h (Some place) (record { may = step.may; after = board_same ∙ step.after })
-      (λ i. beside_lies s new (contents_of h) i place (claimed_beside s mid new place step same board_same gone) away (left.lies i)) left;
+pub claims_some : (mode : Mode) (s mid new : PlainState) (m n : Machine) (a b : FillCounts) (place : ℕ) (was_dropped : Bool) (buf : Filling) → AddsOf s.board acquirer (ClaimsFor mode (Some (place, was_dropped))) mid.board → mid.contents ≡ s.contents
+    → InHand mid.board acquirer place → HasBuf mid place → length buf.bytes ≡ (word_at mid.board place).size → new.board ≡ mid.board → new.contents ≡ set mid.contents place nothing
+    → Takes m n (claimed (given_as (Some (place, buf)))) → b ≡ counted_claim a was_dropped → Claims mode s m a new n b
+claims_some mode s mid new m n a b place was_dropped buf called same has lies size board_same gone takes counted = record {
+  claim = Some (place, was_dropped);
+  events = called.events;
+  got = called.kind;
+  adds = adds;
+  actors = λ k is. subst (λ (c : Board). IsActor c k) (sym board_same) (called.actors k is);
+  words = ap (λ (c : Board). c.words) board_same ∙ keeps.words;
+  takes = subst (λ (k : ℕ). Takes m n (claimed (Some (record { place = place; size = k })))) (size ∙ ap (λ (ws : List Word). (get_or ws place vacant).size) keeps.words) takes;
+  left = λ h left. claim_left mode (Some (place, was_dropped)) s new h called.events called.kind adds
+      (λ i. beside_lies s new (contents_of h) i place (claimed_beside s mid new place keeps same board_same gone) away (left.lies i)) left;
+  counted = some_counted mode a b place was_dropped called.events called.kind counted;
 }
   where
+    keeps : Keeps s.board mid.board
+    keeps = claims_keep mode (Some (place, was_dropped)) called.events s.board mid.board called.kind called.adds
+
+    adds : Adds s.board acquirer called.events new.board
+    adds = record { runs = called.adds.runs; after = board_same ∙ called.adds.after }
+
     away : IsAway new (record { place = place; size = (word_at new.board place).size })
     away = subst (λ (k : ℕ). IsAway new (record { place = place; size = k })) (size ∙ ap (λ (b : Board). (word_at b place).size) (sym board_same)) (claimed_away mid new place buf has lies size board_same gone)
 
@@ -190,36 +189,39 @@ given_away s new g (Some b) before after takes beside apart mine away =
     (away_more new g takes.front takes.back mine (subst (λ (gs : List Given). AreApart g.place gs) takes.were apart)
     (subst (λ (gs : List Given). AreAway new gs) takes.were (beside_all s new g.place before beside apart away)))
 
-pub some_away : (s mid new : PlainState) (m n : Machine) (place : ℕ) (buf : Filling) → IsReady s → AddsEntry s.board acquirer (Claim (Some place)) mid.board → mid.contents ≡ s.contents → InHand mid.board acquirer place → HasBuf mid place
-    → length buf.bytes ≡ (word_at mid.board place).size → new.board ≡ mid.board → new.contents ≡ set mid.contents place nothing → TakesGiven (given_as (Some (place, buf))) (asked_block m) (buffers m) (buffers n) → AreAway s (buffers m) → AreAway new (buffers n)
-some_away s mid new m n place buf ready step same has lies size board_same gone takes away =
-    given_away s new (record { place = place; size = length buf.bytes }) (asked_block m) (buffers m) (buffers n) takes (claimed_beside s mid new place step same board_same gone)
-    (all_apart s place (buffers m) (λ i mine. claim_apart s.board acquirer i place mid.board (well_owned s ready) step mine) away)
+pub some_away : (mode : Mode) (s mid new : PlainState) (m n : Machine) (place : ℕ) (was_dropped : Bool) (buf : Filling) → IsReady s → AddsOf s.board acquirer (ClaimsFor mode (Some (place, was_dropped))) mid.board → mid.contents ≡ s.contents
+    → InHand mid.board acquirer place → HasBuf mid place → length buf.bytes ≡ (word_at mid.board place).size → new.board ≡ mid.board → new.contents ≡ set mid.contents place nothing
+    → TakesGiven (given_as (Some (place, buf))) (asked_block m) (buffers m) (buffers n) → AreAway s (buffers m) → AreAway new (buffers n)
+some_away mode s mid new m n place was_dropped buf ready called same has lies size board_same gone takes away =
+    given_away s new (record { place = place; size = length buf.bytes }) (asked_block m) (buffers m) (buffers n) takes
+    (claimed_beside s mid new place (claims_keep mode (Some (place, was_dropped)) called.events s.board mid.board called.kind called.adds) same board_same gone)
+    (all_apart s place (buffers m) (λ i mine. claims_apart mode s.board i place was_dropped called.events (well_owned s ready) called.kind called.adds.runs mine) away)
     (claimed_away mid new place buf has lies size board_same gone) away
 
-pub claims_actors : (s new : PlainState) (m n : Machine) → Claims s m new n → KeepsActors s.board new.board
-claims_actors s new m n claims = entry_keeps s.board new.board acquirer (Claim claims.claim) tt claims.step
-
-pub claims_ready : (s new : PlainState) (m n : Machine) → Claims s m new n → IsReady s → IsReady new
+pub claims_ready : {mode : Mode} {a b : FillCounts} (s new : PlainState) (m n : Machine) → Claims mode s m a new n b → IsReady s → IsReady new
 claims_ready s new m n claims ready = record {
-  actors = λ k low. claims_actors s new m n claims k (ready.actors k low);
-  history = ready.history ++ entries_of acquirer (Claim claims.claim ∷ []);
+  actors = λ k low. claims.actors k (ready.actors k low);
+  history = ready.history ++ entries_of acquirer claims.events;
   left = claims.left ready.history ready.left;
 }
 
 -- ---- a datagram
 
 -- what an input left, where its buffers were filled
-pub settled_by : (s new : PlainState) (m mid n : Machine) (a b : FillCounts) (i : Input) → Takes m mid i → KeepsBlocks mid n → waiting_fills m ≡ [] → FillsAll (waiting_fills mid) s a new b → Settled i s m a new n b
-settled_by s new m mid n a b i takes keeps none all = record { retired = waiting_fills mid; turned = turned m mid n i takes keeps none; all = all }
+pub settled_by : (mode : Mode) (s new : PlainState) (m mid n : Machine) (a b : FillCounts) (i : Input) → Takes m mid i → KeepsBlocks mid n → waiting_fills m ≡ [] → FillsAll mode (waiting_fills mid) s a new b → Settled mode i s m a new n b
+settled_by mode s new m mid n a b i takes keeps none all = record { retired = waiting_fills mid; turned = turned m mid n i takes keeps none; all = all }
+
+-- where the trace is in this mode, a datagram is heard so
+abbrev pub HearsIn : AcqConfig → Mode → List ℕ → Trace → Part → Type 0
+HearsIn c mode bytes t part = t.mode ≡ mode → Hears c t bytes (asked_by (turn c t.inputs (datagram bytes)).need) part
 
 -- A datagram that wants no buffer.
-pub hears_at : (s new : PlainState) (m n : Machine) (a b : FillCounts) (bytes : List ℕ) (need : Need) → Settled (datagram bytes) s m a new n b → ((q : List Input) → Stands m q → (turn (config_of m) q (datagram bytes)).need ≡ Some need) → asked_by (Some need) ≡ None
-    → Drives (λ t. Hears (config_of m) t bytes (asked_by (turn (config_of m) t.inputs (datagram bytes)).need)) 0 s m a [] new n b
-hears_at s new m n a b bytes need settled answer none t behind =
-    settles_at s s new m n a b [] (datagram bytes) settled.retired [] [] (λ u. Hears (config_of m) u bytes (asked_by (turn (config_of m) u.inputs (datagram bytes)).need)) t
-    (λ es filled. subst (λ (wanted : Option ℕ). Hears (config_of m) t bytes wanted (tells t [] (datagram bytes) es [])) (sym (ap asked_by (answer t.inputs behind.inputs) ∙ none))
-    (record { events = es; filled = filled; is = refl }))
+pub hears_at : (mode : Mode) (s new : PlainState) (m n : Machine) (a b : FillCounts) (bytes : List ℕ) (need : Need) → Settled mode (datagram bytes) s m a new n b → ((q : List Input) → Stands m q → (turn (config_of m) q (datagram bytes)).need ≡ Some need) → asked_by (Some need) ≡ None
+    → Drives (HearsIn (config_of m) mode bytes) 0 s m a [] new n b
+hears_at mode s new m n a b bytes need settled answer none t behind =
+    settles_at mode s s new m n a b [] (datagram bytes) settled.retired [] [] (HearsIn (config_of m) mode bytes) t
+    (λ es filled same. subst (λ (wanted : Option ℕ). Hears (config_of m) t bytes wanted (tells t [] (datagram bytes) es [])) (sym (ap asked_by (answer t.inputs behind.inputs) ∙ none))
+    (record { events = es; filled = subst (λ (k : Mode). FillsInMode k (retired_by (config_of m) t.inputs (datagram bytes)) es) (sym same) filled; is = refl }))
     (none_called s) settled.all settled.turned refl behind
 
 -- what the receiver was told of a datagram that wants a buffer
@@ -227,21 +229,23 @@ twice : (q : List Input) (i j k : Input) → ((q ++ i ∷ []) ++ j ∷ []) ++ k 
 twice q i j k = append_assoc (q ++ i ∷ []) (j ∷ []) (k ∷ []) ∙ append_assoc q (i ∷ []) (j ∷ k ∷ [])
 
 -- A datagram that wants a buffer.
-pub hears_twice : (s given_up given new : PlainState) (m first held n : Machine) (a b c : FillCounts) (bytes : List ℕ) (block : ℕ) → Settled (datagram bytes) s m a given_up first b → Claims given_up first given held → Settled (datagram bytes) given held b new n c
-    → ((q : List Input) → Stands m q → (turn (config_of m) q (datagram bytes)).need ≡ Some (Buffer block))
-    → Drives (λ t. Hears (config_of m) t bytes (asked_by (turn (config_of m) t.inputs (datagram bytes)).need)) 0 s m a [] new n c
-hears_twice s given_up given new m first held n a b c bytes block settled claims again answer t behind = record {
+pub hears_twice : (mode : Mode) (s given_up given new : PlainState) (m first held n : Machine) (a b k c : FillCounts) (bytes : List ℕ) (block : ℕ) → Settled mode (datagram bytes) s m a given_up first b → Claims mode given_up first b given held k
+    → Settled mode (datagram bytes) given held k new n c → ((q : List Input) → Stands m q → (turn (config_of m) q (datagram bytes)).need ≡ Some (Buffer block))
+    → Drives (HearsIn (config_of m) mode bytes) 0 s m a [] new n c
+hears_twice mode s given_up given new m first held n a b k c bytes block settled claims again answer t behind = record {
   part = part;
-  spells = subst (λ (wanted : Option ℕ). Hears (config_of m) t bytes wanted part) (sym (ap asked_by (answer t.inputs behind.inputs))) heard;
+  spells = λ same. subst (λ (wanted : Option ℕ). Hears (config_of m) t bytes wanted part) (sym (ap asked_by (answer t.inputs behind.inputs))) (heard same);
   runs = runs_three;
-  fills = own_fills (contents_of t.entries) (one ++ Claim claims.claim ∷ two);
+  fills = own_fills (contents_of t.entries) (one ++ (get ++ two));
   handles = refl;
   idles = refl;
   text = refl;
-  none_taken = none_taken;
+  mode = refl;
+  told_mode = refl;
+  none_taken = own_hands (one ++ (get ++ two));
   behind = record {
-    board = subst (λ (h : List Entry). IsLeftBy new h) entries (again.all.left ((t.entries ++ entries_of acquirer one) ++ entries_of acquirer (Claim claims.claim ∷ [])) (claims.left (t.entries ++ entries_of acquirer one) (settled.all.left t.entries behind.board)));
-    inputs = subst (λ (q : List Input). Stands n q) (twice t.inputs (datagram bytes) (claimed (outcome (board t) claims.claim)) (datagram bytes)) (again.turned.stands ((t.inputs ++ datagram bytes ∷ []) ++ claimed (outcome (board t) claims.claim) ∷ []) held_stands);
+    board = subst (λ (h : List Entry). IsLeftBy new h) entries (again.all.left ((t.entries ++ entries_of acquirer one) ++ entries_of acquirer get) (claims.left (t.entries ++ entries_of acquirer one) (settled.all.left t.entries behind.board)));
+    inputs = subst (λ (q : List Input). Stands n q) (twice t.inputs (datagram bytes) (claimed (outcome (board t) got)) (datagram bytes)) (again.turned.stands ((t.inputs ++ datagram bytes ∷ []) ++ claimed (outcome (board t) got) ∷ []) held_stands);
   };
   counted = counted;
 }
@@ -249,16 +253,24 @@ hears_twice s given_up given new m first held n a b c bytes block settled claims
     one : List Event
     one = settled.all.events
 
+    get : List Event
+    get = claims.events
+
     two : List Event
     two = again.all.events
 
+    got : Option ℕ
+    got = place_of claims.claim
+
     part : Part
     part = record {
-      entries = entries_of acquirer (one ++ Claim claims.claim ∷ two);
-      inputs = told_twice t bytes claims.claim;
+      entries = entries_of acquirer (one ++ (get ++ two));
+      inputs = told_twice t bytes got;
       handles = t.handles;
       idle = 0;
       text = [];
+      mode = t.mode;
+      told_mode = t.told_mode;
     }
 
     same_words : (claim : Option ℕ) → outcome given_up.board claim ≡ outcome (board t) claim
@@ -270,64 +282,69 @@ hears_twice s given_up given new m first held n a b c bytes block settled claims
     first_stands : Stands first (t.inputs ++ datagram bytes ∷ [])
     first_stands = settled.turned.stands t.inputs behind.inputs
 
-    held_stands : Stands held ((t.inputs ++ datagram bytes ∷ []) ++ claimed (outcome (board t) claims.claim) ∷ [])
-    held_stands = subst (λ (g : Option Given). Stands held ((t.inputs ++ datagram bytes ∷ []) ++ claimed g ∷ [])) (same_words claims.claim) (claims.takes.stands (t.inputs ++ datagram bytes ∷ []) first_stands)
+    held_stands : Stands held ((t.inputs ++ datagram bytes ∷ []) ++ claimed (outcome (board t) got) ∷ [])
+    held_stands = subst (λ (g : Option Given). Stands held ((t.inputs ++ datagram bytes ∷ []) ++ claimed g ∷ [])) (same_words got) (claims.takes.stands (t.inputs ++ datagram bytes ∷ []) first_stands)
 
     config_held : config_of held ≡ config_of m
     config_held = claims.takes.config ∙ settled.turned.config
 
-    entries : ((t.entries ++ entries_of acquirer one) ++ entries_of acquirer (Claim claims.claim ∷ [])) ++ entries_of acquirer two ≡ t.entries ++ entries_of acquirer (one ++ Claim claims.claim ∷ two)
+    parts : entries_of acquirer (one ++ (get ++ two)) ≡ entries_of acquirer one ++ (entries_of acquirer get ++ entries_of acquirer two)
+    parts = entries_of-append acquirer one (get ++ two) ∙ ap (λ h. entries_of acquirer one ++ h) (entries_of-append acquirer get two)
+
+    entries : ((t.entries ++ entries_of acquirer one) ++ entries_of acquirer get) ++ entries_of acquirer two ≡ t.entries ++ entries_of acquirer (one ++ (get ++ two))
     entries =
-        append_assoc (t.entries ++ entries_of acquirer one) (entries_of acquirer (Claim claims.claim ∷ [])) (entries_of acquirer two)
-        ∙ append_assoc t.entries (entries_of acquirer one) (entries_of acquirer (Claim claims.claim ∷ two))
-        ∙ ap (λ h. t.entries ++ h) (sym (entries_of-append acquirer one (Claim claims.claim ∷ two)))
+        append_assoc (t.entries ++ entries_of acquirer one) (entries_of acquirer get) (entries_of acquirer two)
+        ∙ append_assoc t.entries (entries_of acquirer one) (entries_of acquirer get ++ entries_of acquirer two)
+        ∙ ap (λ h. t.entries ++ h) (sym parts)
 
-    none_taken : handed (entries_of acquirer (one ++ Claim claims.claim ∷ two)) ≡ []
-    none_taken =
-        ap handed (entries_of-append acquirer one (Claim claims.claim ∷ two)) ∙ handed-append (entries_of acquirer one) (entries_of acquirer (Claim claims.claim ∷ two))
-        ∙ ap (λ is. is ++ handed (entries_of acquirer two)) settled.all.none_taken ∙ again.all.none_taken
-
-    blocks : blocks_in (entries_of acquirer (one ++ Claim claims.claim ∷ two)) ≡ blocks_in (entries_of acquirer one) ++ blocks_in (entries_of acquirer two)
-    blocks = ap blocks_in (entries_of-append acquirer one (Claim claims.claim ∷ two)) ∙ blocks_grow (entries_of acquirer one) (entries_of acquirer (Claim claims.claim ∷ two))
-
-    counted : c ≡ counted_on a (blocks_in part.entries)
+    counted : c ≡ counted_in a part.entries
     counted =
-        again.all.counted ∙ ap (λ (k : FillCounts). counted_on k (blocks_in (entries_of acquirer two))) settled.all.counted
-        ∙ sym (counted-append a (blocks_in (entries_of acquirer one)) (blocks_in (entries_of acquirer two))) ∙ ap (counted_on a) (sym blocks)
+        again.all.counted
+        ∙ (ap (λ (x : FillCounts). counted_in x (entries_of acquirer two)) (claims.counted ∙ ap (λ (x : FillCounts). counted_in x (entries_of acquirer get)) settled.all.counted)
+        ∙ (sym (counted-more (counted_in a (entries_of acquirer one)) (entries_of acquirer get) (entries_of acquirer two))
+        ∙ (sym (counted-more a (entries_of acquirer one) (entries_of acquirer get ++ entries_of acquirer two)) ∙ ap (counted_in a) (sym parts))))
 
-    all_adds : Adds s.board acquirer (one ++ Claim claims.claim ∷ two) new.board
+    all_adds : Adds s.board acquirer (one ++ (get ++ two)) new.board
     all_adds =
-        adds_both s.board given_up.board new.board acquirer one (Claim claims.claim ∷ two) settled.all.adds
-        (adds_both given_up.board given.board new.board acquirer (Claim claims.claim ∷ []) two (adds_one given_up.board given.board acquirer (Claim claims.claim) claims.step) again.all.adds)
+        adds_both s.board given_up.board new.board acquirer one (get ++ two) settled.all.adds
+        (adds_both given_up.board given.board new.board acquirer get two claims.adds again.all.adds)
 
-    runs_three : RunsFrom (board t) (entries_of acquirer (one ++ Claim claims.claim ∷ two))
-    runs_three = subst (λ (b : Board). RunsFrom b (entries_of acquirer (one ++ Claim claims.claim ∷ two))) behind.board.board.state all_adds.runs
+    runs_three : RunsFrom (board t) (entries_of acquirer (one ++ (get ++ two)))
+    runs_three = subst (λ (b : Board). RunsFrom b (entries_of acquirer (one ++ (get ++ two)))) behind.board.board.state all_adds.runs
 
-    heard : HeardAgain (config_of m) t bytes part
-    heard = record {
+    second_retired : again.retired ≡ retired_by (config_of m) (t.inputs ++ datagram bytes ∷ claimed (outcome (board t) got) ∷ []) (datagram bytes)
+    second_retired =
+        again.turned.fills ((t.inputs ++ datagram bytes ∷ []) ++ claimed (outcome (board t) got) ∷ []) held_stands
+        ∙ ap (λ (g : AcqConfig). retired_by g ((t.inputs ++ datagram bytes ∷ []) ++ claimed (outcome (board t) got) ∷ []) (datagram bytes)) config_held
+        ∙ ap (λ (q : List Input). retired_by (config_of m) q (datagram bytes)) (append_assoc t.inputs (datagram bytes ∷ []) (claimed (outcome (board t) got) ∷ []))
+
+    in_mode : (x : Mode) (ys zs : List Retired) (es : List Event) → x ≡ mode → ys ≡ zs → FillsInMode mode ys es → FillsInMode x zs es
+    in_mode x ys zs es same is filled = subst (λ (k : Mode). FillsInMode k zs es) (sym same) (subst (λ (xs : List Retired). FillsInMode mode xs es) is filled)
+
+    heard : t.mode ≡ mode → HeardAgain (config_of m) t bytes part
+    heard same = record {
       first = one;
       claim = claims.claim;
+      claims = get;
       second = two;
-      displaced = subst (λ (ys : List Retired). FillsRetired ys one) (settled.turned.fills t.inputs behind.inputs) settled.all.filled;
-      filled = subst (λ (ys : List Retired). FillsRetired ys two)
-          (again.turned.fills ((t.inputs ++ datagram bytes ∷ []) ++ claimed (outcome (board t) claims.claim) ∷ []) held_stands
-          ∙ ap (λ (g : AcqConfig). retired_by g ((t.inputs ++ datagram bytes ∷ []) ++ claimed (outcome (board t) claims.claim) ∷ []) (datagram bytes)) config_held
-          ∙ ap (λ (q : List Input). retired_by (config_of m) q (datagram bytes)) (append_assoc t.inputs (datagram bytes ∷ []) (claimed (outcome (board t) claims.claim) ∷ []))) again.all.filled;
+      displaced = in_mode t.mode settled.retired _ one same (settled.turned.fills t.inputs behind.inputs) settled.all.filled;
+      got = subst (λ (k : Mode). ClaimsFor k claims.claim get) (sym same) claims.got;
+      filled = in_mode t.mode again.retired _ two same second_retired again.all.filled;
       is = refl;
     }
 
 -- after the outcome was told, the datagram asks for no buffer
-pub asks_no_more : {a b : FillCounts} (s given_up given : PlainState) (m first held : Machine) (bytes : List ℕ) (block : ℕ) (q : List Input) (again : Need) → IsConfig (config_of m) → Stands m q → Settled (datagram bytes) s m a given_up first b → Claims given_up first given held
+pub asks_no_more : {mode : Mode} {a b k : FillCounts} (s given_up given : PlainState) (m first held : Machine) (bytes : List ℕ) (block : ℕ) (q : List Input) (again : Need) → IsConfig (config_of m) → Stands m q → Settled mode (datagram bytes) s m a given_up first b → Claims mode given_up first b given held k
     → ((r : List Input) → Stands m r → (turn (config_of m) r (datagram bytes)).need ≡ Some (Buffer block))
     → ((r : List Input) → Stands held r → (turn (config_of held) r (datagram bytes)).need ≡ Some again) → asked_by (Some again) ≡ None
 asks_no_more s given_up given m first held bytes block q again config stands settled claims answer answer_too =
     ap asked_by (sym (answer_too r held_stands) ∙ ap (λ (c : AcqConfig). (turn c r (datagram bytes)).need) (claims.takes.config ∙ settled.turned.config)
-    ∙ ap (λ (p : List Input). (turn (config_of m) p (datagram bytes)).need) (append_assoc q (datagram bytes ∷ []) (claimed (outcome given_up.board claims.claim) ∷ []))
-    ∙ asks_once (config_of m) q bytes block (outcome given_up.board claims.claim) config.window_some (answer q stands))
-    ∙ none_again (outcome given_up.board claims.claim)
+    ∙ ap (λ (p : List Input). (turn (config_of m) p (datagram bytes)).need) (append_assoc q (datagram bytes ∷ []) (claimed (outcome given_up.board (place_of claims.claim)) ∷ []))
+    ∙ asks_once (config_of m) q bytes block (outcome given_up.board (place_of claims.claim)) config.window_some (answer q stands))
+    ∙ none_again (outcome given_up.board (place_of claims.claim))
   where
     r : List Input
-    r = (q ++ datagram bytes ∷ []) ++ claimed (outcome given_up.board claims.claim) ∷ []
+    r = (q ++ datagram bytes ∷ []) ++ claimed (outcome given_up.board (place_of claims.claim)) ∷ []
 
     held_stands : Stands held r
     held_stands = claims.takes.stands (q ++ datagram bytes ∷ []) (settled.turned.stands q stands)
@@ -336,7 +353,7 @@ asks_no_more s given_up given m first held bytes block q again config stands set
     none_again None = refl
     none_again (Some g) = refl
 
-pub hear_rests : {a b : FillCounts} (s new : PlainState) (m n : Machine) (bytes : List ℕ) → IsAtRest s m → Settled (datagram bytes) s m a new n b → IsReady new → waiting_fills n ≡ [] → waiting_requests n ≡ [] → asked_block n ≡ None → AreAway new (buffers n) → IsAtRest new n
+pub hear_rests : {mode : Mode} {a b : FillCounts} (s new : PlainState) (m n : Machine) (bytes : List ℕ) → IsAtRest s m → Settled mode (datagram bytes) s m a new n b → IsReady new → waiting_fills n ≡ [] → waiting_requests n ≡ [] → asked_block n ≡ None → AreAway new (buffers n) → IsAtRest new n
 hear_rests s new m n bytes rest settled ready no_fill no_request asked away = record {
   ready = ready;
   config = subst IsConfig (sym settled.turned.config) rest.config;
@@ -348,15 +365,15 @@ hear_rests s new m n bytes rest settled ready no_fill no_request asked away = re
   away = away;
 }
 
-pub hear_rests_again : {a b c : FillCounts} (s given_up given new : PlainState) (m first held n : Machine) (bytes : List ℕ) → IsAtRest s m → Settled (datagram bytes) s m a given_up first b → Claims given_up first given held → Settled (datagram bytes) given held b new n c
+pub hear_rests_again : {mode : Mode} {a b k c : FillCounts} (s given_up given new : PlainState) (m first held n : Machine) (bytes : List ℕ) → IsAtRest s m → Settled mode (datagram bytes) s m a given_up first b → Claims mode given_up first b given held k → Settled mode (datagram bytes) given held k new n c
     → IsReady new → waiting_fills n ≡ [] → waiting_requests n ≡ [] → asked_block n ≡ None → AreAway new (buffers n) → IsAtRest new n
 hear_rests_again s given_up given new m first held n bytes rest settled claims again ready no_fill no_request asked away = record {
   ready = ready;
   config = subst IsConfig (sym (again.turned.config ∙ claims.takes.config ∙ settled.turned.config)) rest.config;
   no_fill = no_fill;
   no_request = no_request;
-  inputs = ((rest.inputs ++ datagram bytes ∷ []) ++ claimed (outcome given_up.board claims.claim) ∷ []) ++ datagram bytes ∷ [];
-  stands = again.turned.stands ((rest.inputs ++ datagram bytes ∷ []) ++ claimed (outcome given_up.board claims.claim) ∷ [])
+  inputs = ((rest.inputs ++ datagram bytes ∷ []) ++ claimed (outcome given_up.board (place_of claims.claim)) ∷ []) ++ datagram bytes ∷ [];
+  stands = again.turned.stands ((rest.inputs ++ datagram bytes ∷ []) ++ claimed (outcome given_up.board (place_of claims.claim)) ∷ [])
       (claims.takes.stands (rest.inputs ++ datagram bytes ∷ []) (settled.turned.stands rest.inputs rest.stands));
   unasked = asked;
   away = away;

@@ -20,12 +20,12 @@ abbrev pub with_handles : Handles → Part → Part
 with_handles hs p = record p { handles = hs }
 
 close_spells : (t : Trace) (serial : ℕ) (serials : List ℕ) (named : Bool) (events : List Event) (said : List ℕ) → closing t.handles serial ≡ Ok serials → named ≡ is_among serials (Some 4) → ClosesIf t named (acts t caller events said)
-    → CloseLine t serial (handles_are events (left_open t serial) said)
+    → CloseLine t serial (handles_are t events (left_open t serial) said)
 close_spells t serial serials named events said closed is line =
-    subst (λ (r : Result (List ℕ) GcError). ClosesHandle t serial r (handles_are events (left_open t serial) said)) (sym closed)
-    (subst (λ (b : Bool). ClosesStream t serial b (handles_are events (left_open t serial) said)) is (go named line))
+    subst (λ (r : Result (List ℕ) GcError). ClosesHandle t serial r (handles_are t events (left_open t serial) said)) (sym closed)
+    (subst (λ (b : Bool). ClosesStream t serial b (handles_are t events (left_open t serial) said)) is (go named line))
   where
-    go : (b : Bool) → ClosesIf t b (acts t caller events said) → ClosesStream t serial b (handles_are events (left_open t serial) said)
+    go : (b : Bool) → ClosesIf t b (acts t caller events said) → ClosesStream t serial b (handles_are t events (left_open t serial) said)
     go true done = (done.0, done.1, ap (with_handles (left_open t serial)) done.2)
     go false done = ap (with_handles (left_open t serial)) done
 
@@ -51,7 +51,7 @@ refused_close s handles serial error said refused text t same left =
     record {
       events = a.events;
       spells =
-          subst (λ (r : Result (List ℕ) GcError). ClosesHandle t serial r (handles_are a.events (left_open t serial) said)) (sym err)
+          subst (λ (r : Result (List ℕ) GcError). ClosesHandle t serial r (handles_are t a.events (left_open t serial) said)) (sym err)
           (ap (λ hs. with_handles hs (acts t caller a.events said)) stay ∙ a.spells);
       runs = a.runs;
       fills = a.fills;

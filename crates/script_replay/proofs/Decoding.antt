@@ -7,30 +7,36 @@ use Rattle.board_machine.specs.declared.events.Entry.{Entry}
 use Rattle.board_machine.specs.Machine.{Board}
 use Rattle.board_model.specs.Plain.{PlainState}
 use Rattle.acquisition_machine.specs.declared.config.AcqConfig.{AcqConfig}
-use Rattle.acquisition_machine.specs.Machine.{Input, datagram}
-use Rattle.acquisition_machine.specs.Runs.{turn}
-use Rattle.acquisition_machine.specs.TurnLaws.{asked_by}
+use Rattle.acquisition_machine.specs.Machine.{Input}
 use Rattle.acq_core.specs.declared.machine.Machine.{Machine}
 use Rattle.acq_core.specs.Receiver.{Stands}
-use Rattle.script_trace.specs.Trace.{board}
-use Rattle.script_trace.specs.StreamLines.{DatagramLine, Hears, HearsIfRunning, idles}
+use Rattle.mode_calls.specs.declared.mode.Mode.{Mode}
+use Rattle.script_trace.specs.Trace.{Trace, Part, board}
+use Rattle.script_trace.specs.StreamLines.{DatagramLine, HearsIfRunning, idles}
 use Rattle.script_replay.specs.declared.fill_counts.FillCounts.{FillCounts}
 use Rattle.script_replay.specs.Boards.{IsLeftBy}
 use Rattle.script_replay.specs.Acquiring.{DrivesAt, Drives}
+use Rattle.script_replay.proofs.Claiming.{HearsIn}
+
+-- where the trace is in this mode
+abbrev pub DatagramIn : AcqConfig → Mode → List ℕ → Trace → Part → Type 0
+DatagramIn c mode digits t part = t.mode ≡ mode → DatagramLine c t digits part
 
 pub ok_value : (r : Result (List ℕ) FromHexError) → IsOk r → (bytes : List ℕ) × (r ≡ Ok bytes)
 ok_value (Ok bytes) h = (bytes, refl)
 ok_value (Err e) h = cc
 
-pub idle_drives : (c : AcqConfig) (s : PlainState) (m : Machine) (a : FillCounts) (digits : List ℕ) → IsOk (decode_of digits) → s.board.run ≢ 1 → Drives (λ t. DatagramLine c t digits) 1 s m a [] s m a
-idle_drives c s m a digits spelled stands_still t behind = record {
+pub idle_drives : (c : AcqConfig) (mode : Mode) (s : PlainState) (m : Machine) (a : FillCounts) (digits : List ℕ) → IsOk (decode_of digits) → s.board.run ≢ 1 → Drives (DatagramIn c mode digits) 1 s m a [] s m a
+idle_drives c mode s m a digits spelled stands_still t behind = record {
   part = idles t;
-  spells = (is.0, is.1, subst (λ (runs : Bool). HearsIfRunning c t is.0 runs (idles t)) (sym still) refl);
+  spells = λ same. (is.0, is.1, subst (λ (runs : Bool). HearsIfRunning c t is.0 runs (idles t)) (sym still) refl);
   runs = tt;
   fills = tt;
   handles = refl;
   idles = refl;
   text = refl;
+  mode = refl;
+  told_mode = refl;
   none_taken = refl;
   behind = record {
     board = subst (λ (h : List Entry). IsLeftBy s h) (sym (append-nil t.entries)) behind.board;
@@ -45,22 +51,24 @@ idle_drives c s m a digits spelled stands_still t behind = record {
     still : ((board t).run == 1) ≡ false
     still = ne_eqb (board t).run 1 (λ e. stands_still (ap (λ (b : Board). b.run) behind.board.board.state ∙ e))
 
-pub running_drives : (c : AcqConfig) (s new : PlainState) (m n : Machine) (a b : FillCounts) (digits bytes : List ℕ) → decode_of digits ≡ Ok bytes → s.board.run ≡ 1
-    → Drives (λ t. Hears c t bytes (asked_by (turn c t.inputs (datagram bytes)).need)) 0 s m a [] new n b → Drives (λ t. DatagramLine c t digits) 0 s m a [] new n b
-running_drives c s new m n a b digits bytes is running drives t behind = record {
+pub running_drives : (c : AcqConfig) (mode : Mode) (s new : PlainState) (m n : Machine) (a b : FillCounts) (digits bytes : List ℕ) → decode_of digits ≡ Ok bytes → s.board.run ≡ 1
+    → Drives (HearsIn c mode bytes) 0 s m a [] new n b → Drives (DatagramIn c mode digits) 0 s m a [] new n b
+running_drives c mode s new m n a b digits bytes is running drives t behind = record {
   part = heard.part;
-  spells = (bytes, is, subst (λ (runs : Bool). HearsIfRunning c t bytes runs heard.part) (sym runs_now) heard.spells);
+  spells = λ same. (bytes, is, subst (λ (runs : Bool). HearsIfRunning c t bytes runs heard.part) (sym runs_now) (heard.spells same));
   runs = heard.runs;
   fills = heard.fills;
   handles = heard.handles;
   idles = heard.idles;
   text = heard.text;
+  mode = heard.mode;
+  told_mode = heard.told_mode;
   none_taken = heard.none_taken;
   behind = heard.behind;
   counted = heard.counted;
 }
   where
-    heard : DrivesAt (λ u. Hears c u bytes (asked_by (turn c u.inputs (datagram bytes)).need)) 0 a [] new n b t
+    heard : DrivesAt (HearsIn c mode bytes) 0 a [] new n b t
     heard = drives t behind
 
     runs_now : ((board t).run == 1) ≡ true

@@ -14,7 +14,6 @@ use Rattle.board_machine.proofs.Adding.{adds_none}
 use Rattle.board_machine.proofs.Runs.{runs-append, run_owned}
 use Rattle.board_machine.proofs.Others.{others_run}
 use Rattle.board_calls.specs.Calls.{Starts, Stops}
-use Rattle.board_machine.proofs.Handed.{handed-append}
 use Rattle.board_model.specs.Plain.{PlainState, lying}
 use Rattle.acquisition_machine.specs.declared.config.AcqConfig.{AcqConfig}
 use Rattle.acquisition_machine.specs.declared.retired.Retired.{Retired}
@@ -26,15 +25,18 @@ use Rattle.acq_core.specs.declared.machine.Machine.{Machine}
 use Rattle.acq_core.specs.Standing.{IsConfig}
 use Rattle.acq_core.specs.Receiver.{config_of, asked_block, buffers, Stands, Takes, KeepsBuffers, KeepsBlocks}
 use Rattle.acq_core.specs.Waiting.{waiting_fills, waiting_requests}
+use Rattle.mode_calls.specs.declared.mode.Mode.{Mode}
+use Rattle.mode_calls.specs.declared.mode.Mode.TheVariants.{OldestFirst}
 use Rattle.script_trace.specs.Trace.{Trace, Part, board, caller, acquirer, acts}
+use Rattle.script_trace.specs.Modes.{FillsInMode, handed_out}
 use Rattle.script_trace.specs.Contents.{contents_of}
-use Rattle.script_trace.specs.StreamLines.{FillsRetired, tells, retired_by, requests_text, TickLine, StopLine, StartLine}
+use Rattle.script_trace.specs.StreamLines.{tells, retired_by, requests_text, TickLine, StopLine, StartLine}
 use Rattle.script_trace.specs.Answers.{done_text, refused_text}
 use Rattle.script_replay.specs.declared.fill_counts.FillCounts.{FillCounts}
 use Rattle.script_replay.specs.Boards.{IsLeftBy, IsReady, Acts, ActsAs}
 use Rattle.script_replay.specs.Acquiring.{IsAway, AreAway, IsAtRest, FillsAll, lines_of, Turned, IsBehindTrace, DrivesAt, Drives}
-use Rattle.script_replay.specs.Counting.{counted_on, blocks_in}
-use Rattle.script_replay.proofs.Counted.{blocks_grow, none_by}
+use Rattle.script_replay.specs.Counting.{counted_in}
+use Rattle.script_replay.proofs.Counted.{taken-append, own_hands, others_hand, counted-more, counted-none}
 use Rattle.script_replay.proofs.Quiet.{AreQuiet, quiet_fills, quiet_hands, start_quiet, stop_quiet}
 use Rattle.script_replay.proofs.Lines.{left_quiet, quiet_acts, quiet_ready, stays_in_hand, caller_apart}
 use Rattle.script_replay.proofs.Retiring.{keeps_twice, keeps_itself, fills_none, own_fills, fills-append, ready_after}
@@ -56,26 +58,30 @@ turned m mid n i takes keeps none = record {
 }
 
 -- The line settles.
-pub settles_at : (s mid new : PlainState) (m n : Machine) (a b : FillCounts) (calls : List Event) (i : Input) (xs : List Retired) (text said : List ℕ) (Line : Trace → Part → Type 0) (t : Trace)
-    → ((es : List Event) → FillsRetired (retired_by (config_of m) t.inputs i) es → Line t (tells t calls i es text))
-    → Called s calls mid → FillsAll xs mid a new b → Turned m n i xs → said ≡ text → IsBehindTrace t s m → DrivesAt Line 0 a said new n b t
-settles_at s mid new m n a b calls i xs text said Line t spells called all goes is behind = record {
+pub settles_at : (mode : Mode) (s mid new : PlainState) (m n : Machine) (a b : FillCounts) (calls : List Event) (i : Input) (xs : List Retired) (text said : List ℕ) (Line : Trace → Part → Type 0) (t : Trace)
+    → ((es : List Event) → FillsInMode mode (retired_by (config_of m) t.inputs i) es → Line t (tells t calls i es text))
+    → Called s calls mid → FillsAll mode xs mid a new b → Turned m n i xs → said ≡ text → IsBehindTrace t s m → DrivesAt Line 0 a said new n b t
+settles_at mode s mid new m n a b calls i xs text said Line t spells called all goes is behind = record {
   part = tells t calls i all.events text;
-  spells = spells all.events (subst (λ (ys : List Retired). FillsRetired ys all.events) (goes.fills t.inputs behind.inputs) all.filled);
+  spells = spells all.events (subst (λ (ys : List Retired). FillsInMode mode ys all.events) (goes.fills t.inputs behind.inputs) all.filled);
   runs = runs-append (board t) (entries_of caller calls) (entries_of acquirer all.events) first second;
   fills = fills-append (contents_of t.entries) (entries_of caller calls) (entries_of acquirer all.events) (quiet_fills (contents_of t.entries) caller calls called.quiet) (own_fills (contents_of t.entries) all.events);
   handles = refl;
   idles = refl;
   text = sym is;
-  none_taken = handed-append (entries_of caller calls) (entries_of acquirer all.events) ∙ ap (λ is. is ++ handed (entries_of acquirer all.events)) (quiet_hands caller calls called.quiet) ∙ all.none_taken;
+  mode = refl;
+  told_mode = refl;
+  none_taken =
+      taken-append _ (entries_of caller calls) (entries_of acquirer all.events)
+      ∙ (ap (λ is. is ++ handed_out (entries_of acquirer all.events)) (others_hand caller calls caller_apart ∙ quiet_hands caller calls called.quiet) ∙ own_hands all.events);
   behind = record {
     board = subst (λ (h : List Entry). IsLeftBy new h) (append_assoc t.entries (entries_of caller calls) (entries_of acquirer all.events)) (all.left (t.entries ++ entries_of caller calls) (called.left t.entries behind.board));
     inputs = goes.stands t.inputs behind.inputs;
   };
   counted =
       all.counted
-      ∙ ap (counted_on a)
-      (sym (blocks_grow (entries_of caller calls) (entries_of acquirer all.events) ∙ ap (λ xs. xs ++ blocks_in (entries_of acquirer all.events)) (none_by caller calls caller_apart)));
+      ∙ (ap (λ (k : FillCounts). counted_in k (entries_of acquirer all.events)) (sym (counted-none a caller calls caller_apart))
+      ∙ sym (counted-more a (entries_of caller calls) (entries_of acquirer all.events)));
 }
   where
     first : RunsFrom (board t) (entries_of caller calls)
@@ -91,7 +97,7 @@ pub away_before : (s : PlainState) (m mid : Machine) → waiting_fills m ≡ [] 
 away_before s m mid none keeps away =
     subst (λ (gs : List Given). AreAway s gs) (sym (keeps ∙ ap (λ xs. map given_of xs ++ buffers m) none)) away
 
-pub rests : {a b : FillCounts} (xs : List Retired) (s new : PlainState) (m mid n : Machine) (i : Input) → IsAtRest s m → Takes m mid i → KeepsBlocks mid n → asked_block mid ≡ None → IsReady s → FillsAll xs s a new b → waiting_fills n ≡ [] → waiting_requests n ≡ [] → AreAway new (buffers n) → IsAtRest new n
+pub rests : {mode : Mode} {a b : FillCounts} (xs : List Retired) (s new : PlainState) (m mid n : Machine) (i : Input) → IsAtRest s m → Takes m mid i → KeepsBlocks mid n → asked_block mid ≡ None → IsReady s → FillsAll mode xs s a new b → waiting_fills n ≡ [] → waiting_requests n ≡ [] → AreAway new (buffers n) → IsAtRest new n
 rests xs s new m mid n i rest takes keeps asked ready all no_fill no_request away = record {
   ready = ready_after xs s new all ready;
   config = subst IsConfig (sym (keeps.config ∙ takes.config)) rest.config;
@@ -162,9 +168,11 @@ drives_as Line k said s new m a apart acts_so t behind = record {
   handles = refl;
   idles = refl;
   text = refl;
-  none_taken = none_of (handed (entries_of k did.events)) did.taken;
+  mode = refl;
+  told_mode = refl;
+  none_taken = others_hand k did.events apart ∙ none_of (handed (entries_of k did.events)) did.taken;
   behind = record { board = did.left; inputs = subst (λ (q : List Input). Stands m q) (sym (append-nil t.inputs)) behind.inputs };
-  counted = ap (counted_on a) (sym (none_by k did.events apart));
+  counted = sym (counted-none a k did.events apart);
 }
   where
     did : ActsAs Line k 0 said new t
@@ -172,20 +180,31 @@ drives_as Line k said s new m a apart acts_so t behind = record {
 
 -- ---- stop
 
-pub stop_drives : (s mid new : PlainState) (m stopped_at n : Machine) (a b : FillCounts) (flags : ℕ) (said : List ℕ) → IsAtRest s m → (called : AddsOf s.board caller (Stops flags (Ok tt)) mid.board) → mid.contents ≡ s.contents
-    → Takes m stopped_at stop → FillsAll (waiting_fills stopped_at) mid a new b → KeepsBlocks stopped_at n → said ≡ done_text (codes "stop") → Drives (λ t. StopLine (config_of m) t flags) 0 s m a said new n b
-stop_drives s mid new m stopped_at n a b flags said rest called same takes all keeps is t behind =
-    settles_at s mid new m n a b called.events stop (waiting_fills stopped_at) (done_text (codes "stop")) said (λ u. StopLine (config_of m) u flags) t
-    (λ es filled. (Ok tt, called.events, called.kind, record { events = es; filled = filled; is = refl }))
+-- where the trace is in this mode
+abbrev pub StopsIn : AcqConfig → Mode → ℕ → Trace → Part → Type 0
+StopsIn c mode flags t part = t.mode ≡ mode → StopLine c t flags part
+
+abbrev pub TicksIn : AcqConfig → Mode → ℕ → Trace → Part → Type 0
+TicksIn c mode moment t part = t.mode ≡ mode → TickLine c t moment part
+
+-- the same fills, told of the trace
+fills_told : (mode told : Mode) (xs : List Retired) (es : List Event) → told ≡ mode → FillsInMode mode xs es → FillsInMode told xs es
+fills_told mode told xs es same filled = subst (λ (k : Mode). FillsInMode k xs es) (sym same) filled
+
+pub stop_drives : (mode : Mode) (s mid new : PlainState) (m stopped_at n : Machine) (a b : FillCounts) (flags : ℕ) (said : List ℕ) → IsAtRest s m → (called : AddsOf s.board caller (Stops flags (Ok tt)) mid.board) → mid.contents ≡ s.contents
+    → Takes m stopped_at stop → FillsAll mode (waiting_fills stopped_at) mid a new b → KeepsBlocks stopped_at n → said ≡ done_text (codes "stop") → Drives (StopsIn (config_of m) mode flags) 0 s m a said new n b
+stop_drives mode s mid new m stopped_at n a b flags said rest called same takes all keeps is t behind =
+    settles_at mode s mid new m n a b called.events stop (waiting_fills stopped_at) (done_text (codes "stop")) said (StopsIn (config_of m) mode flags) t
+    (λ es filled same. (Ok tt, called.events, called.kind, record { events = es; filled = fills_told mode t.mode (retired_by (config_of m) t.inputs stop) es same filled; is = refl }))
     (called_by s mid (Stops flags (Ok tt)) (stop_quiet flags (Ok tt)) called same) all (turned m stopped_at n stop takes keeps rest.no_fill) is behind
 
-pub no_stop_drives : (s mid : PlainState) (m : Machine) (a : FillCounts) (c : AcqConfig) (flags : ℕ) (error : GcError) (said : List ℕ) → AddsOf s.board caller (Stops flags (Err error)) mid.board → mid.contents ≡ s.contents → said ≡ refused_text (codes "stop") error → Drives (λ t. StopLine c t flags) 0 s m a said mid m a
-no_stop_drives s mid m a c flags error said called same is =
-    drives_as (λ t. StopLine c t flags) caller said s mid m a caller_apart
-    (quiet_acts s mid caller (Stops flags (Err error)) (λ t. StopLine c t flags) (refused_text (codes "stop") error) said caller_apart (stop_quiet flags (Err error)) (λ t es kind. (Err error, es, kind, refl)) called same is)
+pub no_stop_drives : (mode : Mode) (s mid : PlainState) (m : Machine) (a : FillCounts) (c : AcqConfig) (flags : ℕ) (error : GcError) (said : List ℕ) → AddsOf s.board caller (Stops flags (Err error)) mid.board → mid.contents ≡ s.contents → said ≡ refused_text (codes "stop") error → Drives (StopsIn c mode flags) 0 s m a said mid m a
+no_stop_drives mode s mid m a c flags error said called same is =
+    drives_as (StopsIn c mode flags) caller said s mid m a caller_apart
+    (quiet_acts s mid caller (Stops flags (Err error)) (StopsIn c mode flags) (refused_text (codes "stop") error) said caller_apart (stop_quiet flags (Err error)) (λ t es kind in_mode. (Err error, es, kind, refl)) called same is)
 
-pub stop_rests : {a b : FillCounts} (s mid new : PlainState) (m stopped_at n : Machine) (flags : ℕ) → IsAtRest s m → AddsOf s.board caller (Stops flags (Ok tt)) mid.board → mid.contents ≡ s.contents → Takes m stopped_at stop → KeepsBlocks stopped_at n → asked_block stopped_at ≡ None
-    → FillsAll (waiting_fills stopped_at) mid a new b → waiting_fills n ≡ [] → waiting_requests n ≡ [] → AreAway new (buffers n) → IsAtRest new n
+pub stop_rests : {mode : Mode} {a b : FillCounts} (s mid new : PlainState) (m stopped_at n : Machine) (flags : ℕ) → IsAtRest s m → AddsOf s.board caller (Stops flags (Ok tt)) mid.board → mid.contents ≡ s.contents → Takes m stopped_at stop → KeepsBlocks stopped_at n → asked_block stopped_at ≡ None
+    → FillsAll mode (waiting_fills stopped_at) mid a new b → waiting_fills n ≡ [] → waiting_requests n ≡ [] → AreAway new (buffers n) → IsAtRest new n
 stop_rests s mid new m stopped_at n flags rest called same takes keeps asked all no_fill no_request away =
     rests (waiting_fills stopped_at) mid new m stopped_at n stop (rest_called s mid m (Stops flags (Ok tt)) (stop_quiet flags (Ok tt)) rest called same) takes keeps asked
     (quiet_ready s mid caller (Stops flags (Ok tt)) caller_apart (stop_quiet flags (Ok tt)) rest.ready called same) all no_fill no_request away
@@ -201,9 +220,9 @@ not_running b new called =
 pub start_drives : (s mid : PlainState) (m n : Machine) (a : FillCounts) (said : List ℕ) → IsAtRest s m → (called : AddsOf s.board caller (Starts (Ok tt)) mid.board) → mid.contents ≡ s.contents → Takes m n restart → waiting_fills n ≡ waiting_fills m → said ≡ done_text (codes "start")
     → Drives StartLine 0 s m a said mid n a
 start_drives s mid m n a said rest called same takes none is t behind =
-    settles_at s mid mid m n a a called.events restart (waiting_fills n) (done_text (codes "start")) said StartLine t
+    settles_at OldestFirst s mid mid m n a a called.events restart (waiting_fills n) (done_text (codes "start")) said StartLine t
     (λ es filled. (Ok tt, called.events, called.kind, ap (λ fs. tells t called.events restart fs (done_text (codes "start"))) filled))
-    (called_by s mid (Starts (Ok tt)) (start_quiet (Ok tt)) called same) (subst (λ (xs : List Retired). FillsAll xs mid a mid a) (sym (none ∙ rest.no_fill)) (fills_none mid a))
+    (called_by s mid (Starts (Ok tt)) (start_quiet (Ok tt)) called same) (subst (λ (xs : List Retired). FillsAll OldestFirst xs mid a mid a) (sym (none ∙ rest.no_fill)) (fills_none OldestFirst mid a))
     (turned m n n restart takes (keeps_itself n) rest.no_fill) is behind
 
 pub no_start_drives : (s mid : PlainState) (m : Machine) (a : FillCounts) (error : GcError) (said : List ℕ) → AddsOf s.board caller (Starts (Err error)) mid.board → mid.contents ≡ s.contents → said ≡ refused_text (codes "start") error → Drives StartLine 0 s m a said mid m a
@@ -229,10 +248,11 @@ lines-are : (rs : List Request) → lines_of (map request_bytes rs) ≡ requests
 lines-are [] = refl
 lines-are (r ∷ rs) = ap (λ text. request_line (request_bytes r) ++ text) (lines-are rs)
 
-pub tick_drives : (s new : PlainState) (m mid fed n : Machine) (a b : FillCounts) (moment : ℕ) (old said : List ℕ) → IsAtRest s m → Takes m mid (tick moment) → FillsAll (waiting_fills mid) s a new b → KeepsBlocks mid fed → waiting_requests fed ≡ waiting_requests mid → KeepsBlocks fed n
-    → old ≡ [] → said ≡ old ++ lines_of (waiting_requests fed) → Drives (λ t. TickLine (config_of m) t moment) 0 s m a said new n b
-tick_drives s new m mid fed n a b moment old said rest takes all keeps same keeps_too empty is t behind =
-    settles_at s s new m n a b [] (tick moment) (waiting_fills mid) (requests_text (turn (config_of m) t.inputs (tick moment)).requests) said (λ u. TickLine (config_of m) u moment) t (λ es filled. record { events = es; filled = filled; is = refl })
+pub tick_drives : (mode : Mode) (s new : PlainState) (m mid fed n : Machine) (a b : FillCounts) (moment : ℕ) (old said : List ℕ) → IsAtRest s m → Takes m mid (tick moment) → FillsAll mode (waiting_fills mid) s a new b → KeepsBlocks mid fed → waiting_requests fed ≡ waiting_requests mid → KeepsBlocks fed n
+    → old ≡ [] → said ≡ old ++ lines_of (waiting_requests fed) → Drives (TicksIn (config_of m) mode moment) 0 s m a said new n b
+tick_drives mode s new m mid fed n a b moment old said rest takes all keeps same keeps_too empty is t behind =
+    settles_at mode s s new m n a b [] (tick moment) (waiting_fills mid) (requests_text (turn (config_of m) t.inputs (tick moment)).requests) said (TicksIn (config_of m) mode moment) t
+    (λ es filled same. record { events = es; filled = fills_told mode t.mode (retired_by (config_of m) t.inputs (tick moment)) es same filled; is = refl })
     (none_called s) all (turned m mid n (tick moment) takes (keeps_twice mid fed n keeps keeps_too) rest.no_fill)
     (is ∙ ap (λ w. w ++ lines_of (waiting_requests fed)) empty ∙ ap lines_of (same ∙ takes.requests t.inputs behind.inputs ∙ ap (λ rs. rs ++ map request_bytes (turn (config_of m) t.inputs (tick moment)).requests) rest.no_request)
     ∙ lines-are (turn (config_of m) t.inputs (tick moment)).requests)

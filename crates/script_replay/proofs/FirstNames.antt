@@ -31,6 +31,7 @@ name_of_line (line.buffer_info place generation which) = name.BufferInfo
 name_of_line (line.open_child parent index) = name.OpenChild
 name_of_line (line.close_all serial) = name.CloseAll
 name_of_line (line.step actor act place) = name.Step
+name_of_line (line.mode n) = name.Mode
 name_of_line line.end_of_script = name.End
 name_of_line line.camera_header = name.CameraHeader
 name_of_line (line.command peer digits) = name.Command
@@ -88,6 +89,7 @@ gives_named name.OpenChild words =
     gives_bind (Is name.OpenChild) (two_of words) _ (λ both. gives_bind (Is name.OpenChild) (parent_of both.0) _ (λ parent. gives_bind (Is name.OpenChild) (number_in 0 most_u32 both.1) _ (λ index. refl)))
 gives_named name.CloseAll words = gives_bind (Is name.CloseAll) (number_after most_u64 words) _ (λ serial. refl)
 gives_named name.Step words = gives_bind (Is name.Step) (next_of words) _ (λ actor. gives_bind (Is name.Step) (next_of actor.1) _ (λ act. gives_step_of actor.0 act.0 act.1))
+gives_named name.Mode words = gives_bind (Is name.Mode) (number_after 2 words) _ (λ n. refl)
 gives_named name.End words = gives_alone name.End line.end_of_script words refl
 gives_named name.CameraHeader words =
     gives_refused (Is name.CameraHeader) kinds.Header (camera_header_fields words)

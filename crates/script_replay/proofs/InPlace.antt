@@ -83,6 +83,7 @@ later_in text (line.buffer_info place generation which) read is in_place = tt
 later_in text (line.open_child parent index) read is in_place = tt
 later_in text (line.close_all serial) read is in_place = tt
 later_in text (line.step actor a place) read is in_place = record { actor_most = is.actor_to; in_range = place_in a place is.takes }
+later_in text (line.mode n) read is in_place = tt
 later_in text line.end_of_script read is in_place = tt
 later_in text line.camera_header read is in_place = out_of text line.camera_header read refl in_place
 later_in text (line.command peer digits) read is in_place = out_of text (line.command peer digits) read refl in_place

@@ -9,6 +9,7 @@ pub mod Stepping
 pub mod Named
 pub mod Began
 pub mod Closing
+pub mod Dropping
 pub mod Retiring
 pub mod Driving
 pub mod Claiming

@@ -1,7 +1,6 @@
 -- A line adds its part to the trace that what a script runs on stands behind.
-use Rattle.std.proofs.Common.{◌≡◌, ◌≢◌, ℕ, ◌+◌, ◌-◌, ◌^◌, min, List, [], ◌∷◌, ◌++◌, length, refl, sym, ap, subst, ◌∙◌, arith, append-nil, Option, Result, Ok, Err, OnOk}
+use Rattle.std.proofs.Common.{◌≡◌, ◌≢◌, ℕ, ◌+◌, ◌-◌, ◌^◌, ◌==◌, min, Bool, true, false, codes, eq-eqb, ne_eqb, List, [], ◌∷◌, ◌++◌, length, refl, sym, ap, subst, ◌∙◌, arith, append-nil, Option, Result, Ok, Err, OnOk}
 use Rattle.std.specs.List.{count_by}
-use Rattle.std.proofs.lemmas.List.{length-append}
 use Rattle.gev_script.specs.Lines as line
 use Rattle.gev_script.specs.Lines.{ScriptLine}
 use Rattle.gentl_handles.specs.Handles.{Handles}
@@ -12,14 +11,20 @@ use Rattle.board_machine.specs.declared.events.Event.{Event}
 use Rattle.board_machine.specs.Machine.{Item, Board}
 use Rattle.board_machine.specs.Adding.{entries_of}
 use Rattle.board_machine.specs.Handout.{handed}
-use Rattle.board_machine.proofs.Handed.{handed-append}
+use Rattle.gentl_types.specs.declared.errors.GcError.TheVariants.{ResourceInUse}
+use Rattle.gentl_types.specs.declared.errors.Shown.TheVariants.{Word}
+use Rattle.board_calls.specs.Calls.{run_word}
+use Rattle.mode_calls.specs.declared.mode.Mode.{Mode}
+use Rattle.script_trace.specs.Modes.{mode_of, handed_out, dropped}
+use Rattle.script_trace.specs.Answers.{refused_text, done_text}
+use Rattle.script_trace.specs.StreamLines.{StartLine, sets_mode, ModeIfRunning}
 use Rattle.board_model.specs.Plain.{PlainState}
 use Rattle.acquisition_machine.specs.declared.config.AcqConfig.{AcqConfig}
 use Rattle.acquisition_machine.specs.Machine.{Input}
 use Rattle.acq_core.specs.declared.machine.Machine.{Machine}
 use Rattle.acq_core.specs.Receiver.{config_of, open_count, Stands}
 use Rattle.acq_core.proofs.Receiving.{receivers_show}
-use Rattle.script_trace.specs.Trace.{Trace, Part, board, caller, acquirer, acts, grown}
+use Rattle.script_trace.specs.Trace.{Trace, Part, board, caller, acquirer, acts, only_says, grown}
 use Rattle.script_trace.specs.Ending.{as_count}
 use Rattle.script_trace.specs.Adding.{Spells, AddsPart, Leads}
 use Rattle.script_trace.specs.Opening.{opening}
@@ -31,9 +36,9 @@ use Rattle.script_replay.specs.Boards.{IsLeftBy, IsReady, ActsAs, Acts}
 use Rattle.script_replay.specs.Takes.{ActsUnder}
 use Rattle.script_replay.specs.Closes.{ClosesAs, ClosesUnder}
 use Rattle.script_replay.specs.Acquiring.{IsAtRest, KeepsLifted, DrivesAt, Drives}
-use Rattle.script_replay.specs.Counting.{counted_on, blocks_in}
+use Rattle.script_replay.specs.Counting.{counted_on, counted_in, blocks_in}
 use Rattle.script_replay.specs.Replays.{StandsAt, IsReplaying, AddsAt, Goes}
-use Rattle.script_replay.proofs.Counted.{blocks_grow, none_by, counts_follow}
+use Rattle.script_replay.proofs.Counted.{blocks_grow, counts_follow, taken_counts, others_hand, counted-none, drops_follow, same_fills, same_complete, still_dropped}
 use Rattle.script_replay.proofs.Lines.{caller_apart}
 use Rattle.script_replay.proofs.Resting.{rest_by}
 
@@ -76,27 +81,40 @@ more : (n m k : ℕ) → n ≡ as_count m → min (n + k) (2 ^ 64 - 1) ≡ as_co
 more n m k e = omega (arith, e)
 
 -- what was handed out is counted on
-taken_on : (n count : ℕ) (h es : List Entry) → n ≡ as_count (length (handed h)) → length (handed es) ≡ count → min (n + count) (2 ^ 64 - 1) ≡ as_count (length (handed (h ++ es)))
+taken_on : (n count : ℕ) (h es : List Entry) → n ≡ as_count (length (handed_out h)) → length (handed_out es) ≡ count → min (n + count) (2 ^ 64 - 1) ≡ as_count (length (handed_out (h ++ es)))
 taken_on n count h es was taken =
-    ap (λ k. min (n + k) (2 ^ 64 - 1)) (sym taken) ∙ more n (length (handed h)) (length (handed es)) was
-    ∙ ap as_count (sym (ap length (handed-append h es) ∙ length-append (handed h) (handed es)))
+    ap (λ k. min (n + k) (2 ^ 64 - 1)) (sym taken) ∙ more n (length (handed_out h)) (length (handed_out es)) was
+    ∙ ap as_count (sym (taken_counts _ h es))
 
--- what was filled is counted on
+-- another actor's takes hand out
+others_taken : (k count : ℕ) (es : List Event) → acquirer ≢ k → length (handed (entries_of k es)) ≡ count → length (handed_out (entries_of k es)) ≡ count
+others_taken k count es apart taken = ap length (others_hand k es apart) ∙ taken
+
+-- what was filled and dropped is counted on
 record FilledOn (b : FillCounts) (h : List Entry) : Type 0 where
   fills : b.fills ≡ as_count (length (blocks_in h))
   complete : b.complete ≡ as_count (complete_in (blocks_in h))
+  dropped_is : b.dropped ≡ as_count (length (dropped h))
 
-filled_on : (a b : FillCounts) (h es : List Entry) → FilledOn a h → b ≡ counted_on a (blocks_in es) → FilledOn b (h ++ es)
+counted_so : (r : Running) (t : Trace) → StandsAt r t → FilledOn r.counts t.entries
+counted_so r t stands = record { fills = stands.fills; complete = stands.complete; dropped_is = stands.dropped }
+
+filled_on : (a b : FillCounts) (h es : List Entry) → FilledOn a h → b ≡ counted_in a es → FilledOn b (h ++ es)
 filled_on a b h es was counted =
     let on = counts_follow a (blocks_in h) (blocks_in es) was.fills was.complete in
+    let n : ℕ = length (dropped es) in
+    let c : FillCounts = counted_on a (blocks_in es) in
     record {
-      fills = ap (λ (x : FillCounts). x.fills) counted ∙ on.0 ∙ ap (λ xs. as_count (length xs)) (sym (blocks_grow h es));
-      complete = ap (λ (x : FillCounts). x.complete) counted ∙ on.1 ∙ ap (λ xs. as_count (complete_in xs)) (sym (blocks_grow h es));
+      fills = ap (λ (x : FillCounts). x.fills) counted ∙ (same_fills c n ∙ (on.0 ∙ ap (λ xs. as_count (length xs)) (sym (blocks_grow h es))));
+      complete = ap (λ (x : FillCounts). x.complete) counted ∙ (same_complete c n ∙ (on.1 ∙ ap (λ xs. as_count (complete_in xs)) (sym (blocks_grow h es))));
+      dropped_is =
+          ap (λ (x : FillCounts). x.dropped) counted
+          ∙ (drops_follow c (length (dropped h)) n (still_dropped a (blocks_in es) ∙ was.dropped_is) ∙ ap as_count (sym (taken_counts _ h es)));
     }
 
--- another actor fills nothing for the acquisition
+-- another actor fills and drops nothing for the acquisition
 filled_still : (a : FillCounts) (h : List Entry) (k : ℕ) (es : List Event) → acquirer ≢ k → FilledOn a h → FilledOn a (h ++ entries_of k es)
-filled_still a h k es apart was = filled_on a a h (entries_of k es) was (ap (λ xs. counted_on a xs) (sym (none_by k es apart)))
+filled_still a h k es apart was = filled_on a a h (entries_of k es) was (sym (counted-none a k es apart))
 
 -- ---- lines of acts
 
@@ -107,14 +125,17 @@ acts_stand : (old : Running) (board : PlainState) (k count : ℕ) (events : List
     → IsLeftBy board (t.entries ++ entries_of k events) → length (handed (entries_of k events)) ≡ count
     → StandsAt (with_acts old board (min (old.taken + count) (2 ^ 64 - 1))) (grown t (acts t k events said))
 acts_stand old board k count events said t apart stands left taken =
-    let filled = filled_still old.counts t.entries k events apart (record { fills = stands.fills; complete = stands.complete }) in
+    let filled = filled_still old.counts t.entries k events apart (counted_so old t stands) in
     record {
       behind = record { board = left; inputs = subst (λ (q : List Input). Stands old.acq q) (sym (append-nil t.inputs)) stands.behind.inputs };
       handles = stands.handles;
       fills = filled.fills;
       complete = filled.complete;
-      taken = taken_on old.taken count t.entries (entries_of k events) stands.taken taken;
+      dropped = filled.dropped_is;
+      taken = taken_on old.taken count t.entries (entries_of k events) stands.taken (others_taken k count events apart taken);
       idle = stands.idle ∙ ap as_count (omega arith);
+      mode = stands.mode;
+      told_mode = stands.told_mode;
     }
 
 acts_add : (l : ScriptLine) (Line : Trace → Part → Type 0) (k count : ℕ) (old : Running) (said : List ℕ) (board : PlainState) (t : Trace) → acquirer ≢ k → StandsAt old t
@@ -156,7 +177,7 @@ pub call_goes : (l : ScriptLine) (old : Running) (said : List ℕ) (board : Plai
     → Goes l old said (record old { board = board })
 call_goes l old said board keeps acts_so ready lifted =
     acts_go l (λ t. Spells (config_of old.acq) t l) caller 0 old said board caller_apart keeps acts_so ready lifted (λ t part spells. spells)
-    old.taken (still old.taken (length (handed keeps.trace.entries)) keeps.stands.taken)
+    old.taken (still old.taken (length (handed_out keeps.trace.entries)) keeps.stands.taken)
 
 -- ---- lines that drive the acquisition
 
@@ -167,7 +188,7 @@ drives_add : (l : ScriptLine) (Line : Trace → Part → Type 0) (idle : ℕ) (o
     → ((part : Part) → Line t part → Spells (config_of old.acq) t l part) → DrivesAt Line idle old.counts said new_board acq counts t
     → AddsAt (config_of old.acq) l said (driven old new_board acq counts (min (old.idle + idle) (2 ^ 64 - 1))) t
 drives_add l Line idle old said new_board acq counts t stands spells did =
-    let filled = filled_on old.counts counts t.entries did.part.entries (record { fills = stands.fills; complete = stands.complete }) did.counted in
+    let filled = filled_on old.counts counts t.entries did.part.entries (counted_so old t stands) did.counted in
     record {
       part = did.part;
       adds = record { spells = spells did.part did.spells; runs = did.runs; fills = did.fills };
@@ -177,29 +198,105 @@ drives_add l Line idle old said new_board acq counts t stands spells did =
         handles = stands.handles ∙ sym did.handles;
         fills = filled.fills;
         complete = filled.complete;
-        taken = still old.taken (length (handed t.entries)) stands.taken ∙ taken_on old.taken 0 t.entries did.part.entries stands.taken (ap length did.none_taken);
+        dropped = filled.dropped_is;
+        taken = still old.taken (length (handed_out t.entries)) stands.taken ∙ taken_on old.taken 0 t.entries did.part.entries stands.taken (ap length did.none_taken);
         idle = ap (λ k. min (old.idle + k) (2 ^ 64 - 1)) (sym did.idles) ∙ more old.idle t.idle did.part.idle stands.idle;
+        mode = stands.mode ∙ sym did.mode;
+        told_mode = stands.told_mode ∙ sym did.told_mode;
       };
     }
 
 pub drives_go : (l : ScriptLine) (Line : Trace → Part → Type 0) (idle : ℕ) (old : Running) (said : List ℕ) (new_board : PlainState) (acq : Machine) (counts : FillCounts) → IsReplaying old
     → Drives Line idle old.board old.acq old.counts said new_board acq counts
-    → ((t : Trace) (part : Part) → Line t part → Spells (config_of old.acq) t l part)
+    → ((t : Trace) (part : Part) → StandsAt old t → Line t part → Spells (config_of old.acq) t l part)
     → IsAtRest new_board acq → config_of acq ≡ config_of old.acq
     → (n : ℕ) → n ≡ min (old.idle + idle) (2 ^ 64 - 1) → Goes l old said (driven old new_board acq counts n)
 drives_go l Line idle old said new_board acq counts keeps drives spells rest config n is =
     subst (λ m. Goes l old said (driven old new_board acq counts m)) (sym is) (goes_on l old said (driven old new_board acq counts (min (old.idle + idle) (2 ^ 64 - 1))) keeps
-    (λ t stands. drives_add l Line idle old said new_board acq counts t stands (spells t) (drives t stands.behind))
+    (λ t stands. drives_add l Line idle old said new_board acq counts t stands (λ part. spells t part stands) (drives t stands.behind))
     config rest refl)
 
--- A line that isn't a datagram.
+-- A line that isn't a datagram, and hangs on the mode of the trace.
 pub drive_goes : (l : ScriptLine) (old : Running) (said : List ℕ) (new_board : PlainState) (acq : Machine) (counts : FillCounts) → IsReplaying old
-    → Drives (λ t. Spells (config_of old.acq) t l) 0 old.board old.acq old.counts said new_board acq counts
+    → Drives (λ t part. t.mode ≡ old.mode → Spells (config_of old.acq) t l part) 0 old.board old.acq old.counts said new_board acq counts
     → IsAtRest new_board acq → config_of acq ≡ config_of old.acq
     → Goes l old said (record old { board = new_board; acq = acq; counts = counts })
 drive_goes l old said new_board acq counts keeps drives rest config =
-    drives_go l (λ t. Spells (config_of old.acq) t l) 0 old said new_board acq counts keeps drives (λ t part spells. spells) rest config
+    drives_go l (λ t part. t.mode ≡ old.mode → Spells (config_of old.acq) t l part) 0 old said new_board acq counts keeps drives
+    (λ t part stands spells. spells (sym stands.mode)) rest config old.idle (still old.idle keeps.trace.idle keeps.stands.idle)
+
+-- A start.
+pub start_goes : (old : Running) (said : List ℕ) (new_board : PlainState) (acq : Machine) → IsReplaying old
+    → Drives StartLine 0 old.board old.acq old.counts said new_board acq old.counts
+    → IsAtRest new_board acq → config_of acq ≡ config_of old.acq
+    → Goes line.start old said (record old { board = new_board; acq = acq })
+start_goes old said new_board acq keeps drives rest config =
+    drives_go line.start StartLine 0 old said new_board acq old.counts keeps drives (λ t part stands spells. spells) rest config
     old.idle (still old.idle keeps.trace.idle keeps.stands.idle)
+
+-- ---- mode
+
+-- The mode is set.
+abbrev with_mode : Running → Mode → Running
+with_mode old mode = record old { mode = mode; told_mode = true }
+
+-- the stream isn't running, or is, as the code found
+not_running : (old : Running) (t : Trace) → StandsAt old t → old.board.board.run ≢ 1 → ((board t).run == 1) ≡ false
+not_running old t stands stopped = ne_eqb (board t).run 1 (λ e. stopped (ap (λ (b : Board). b.run) stands.behind.board.board.state ∙ e))
+
+is_running : (old : Running) (t : Trace) → StandsAt old t → old.board.board.run ≡ 1 → ((board t).run == 1) ≡ true
+is_running old t stands running = eq-eqb (board t).run 1 (sym (ap (λ (b : Board). b.run) stands.behind.board.board.state) ∙ running)
+
+-- a part without entries and inputs
+silent_stands : (old : Running) (mode : Mode) (told : Bool) (said : List ℕ) (t : Trace) → StandsAt old t
+    → StandsAt (record old { mode = mode; told_mode = told }) (grown t (record { entries = []; inputs = []; handles = t.handles; idle = 0; text = said; mode = mode; told_mode = told }))
+silent_stands old mode told said t stands = record {
+  behind = record {
+    board = subst (λ (h : List Entry). IsLeftBy old.board h) (sym (append-nil t.entries)) stands.behind.board;
+    inputs = subst (λ (q : List Input). Stands old.acq q) (sym (append-nil t.inputs)) stands.behind.inputs;
+  };
+  handles = stands.handles;
+  fills = stands.fills ∙ ap (λ h. as_count (length (blocks_in h))) (sym (append-nil t.entries));
+  complete = stands.complete ∙ ap (λ h. as_count (complete_in (blocks_in h))) (sym (append-nil t.entries));
+  dropped = stands.dropped ∙ ap (λ h. as_count (length (dropped h))) (sym (append-nil t.entries));
+  taken = stands.taken ∙ ap (λ h. as_count (length (handed_out h))) (sym (append-nil t.entries));
+  idle = stands.idle ∙ ap as_count (omega arith);
+  mode = refl;
+  told_mode = refl;
+}
+
+mode_add : (n : ℕ) (old : Running) (said : List ℕ) (t : Trace) → old.board.board.run ≢ 1 → said ≡ done_text (codes "mode") → StandsAt old t
+    → AddsAt (config_of old.acq) (line.mode n) said (with_mode old (mode_of n)) t
+mode_add n old said t stopped is stands = record {
+  part = sets_mode t (mode_of n);
+  adds = record { spells = subst (λ (b : Bool). ModeIfRunning t n b (sets_mode t (mode_of n))) (sym (not_running old t stands stopped)) refl; runs = tt; fills = tt };
+  text = is;
+  stands = silent_stands old (mode_of n) true (done_text (codes "mode")) t stands;
+}
+
+pub mode_goes : (n : ℕ) (old : Running) (said : List ℕ) (mode : Mode) → IsReplaying old → old.board.board.run ≢ 1 → mode ≡ mode_of n → said ≡ done_text (codes "mode")
+    → Goes (line.mode n) old said (with_mode old mode)
+mode_goes n old said mode keeps stopped same is =
+    subst (λ (m : Mode). Goes (line.mode n) old said (with_mode old m)) (sym same)
+    (goes_on (line.mode n) old said (with_mode old (mode_of n)) keeps (λ t stands. mode_add n old said t stopped is stands) refl keeps.rest refl)
+
+no_mode_add : (n run : ℕ) (old : Running) (said : List ℕ) (t : Trace) → old.board.board.run ≡ 1 → said ≡ refused_text (codes "mode") (ResourceInUse (Word (run_word run))) → StandsAt old t
+    → AddsAt (config_of old.acq) (line.mode n) said old t
+no_mode_add n run old said t running is stands = record {
+  part = only_says t (refused_text (codes "mode") (ResourceInUse (Word (run_word (board t).run))));
+  adds = record { spells = subst (λ (b : Bool). ModeIfRunning t n b (only_says t (refused_text (codes "mode") (ResourceInUse (Word (run_word (board t).run)))))) (sym (is_running old t stands running)) refl; runs = tt; fills = tt };
+  text = is;
+  stands =
+      subst (λ (r : Running). StandsAt r (grown t (only_says t (refused_text (codes "mode") (ResourceInUse (Word (run_word (board t).run)))))))
+      (ap (λ m. record old { mode = m; told_mode = t.told_mode }) (sym stands.mode) ∙ ap (λ b. record old { told_mode = b }) (sym stands.told_mode))
+      (silent_stands old t.mode t.told_mode (refused_text (codes "mode") (ResourceInUse (Word (run_word (board t).run)))) t stands);
+}
+
+-- It isn't, where the stream is running.
+pub no_mode_goes : (n run : ℕ) (old : Running) (said : List ℕ) → IsReplaying old → old.board.board.run ≡ 1 → said ≡ refused_text (codes "mode") (ResourceInUse (Word (run_word run)))
+    → Goes (line.mode n) old said old
+no_mode_goes n run old said keeps running is =
+    goes_on (line.mode n) old said old keeps (λ t stands. no_mode_add n run old said t running is stands) refl keeps.rest refl
 
 -- where the stream isn't running no block is open
 pub none_open : (r : Running) → IsReplaying r → r.board.board.run ≢ 1 → open_count r.acq ≡ 0
@@ -221,22 +318,25 @@ with_tree old board tree = record old { board = board; tree = tree }
 -- acts of the lines' caller, after which these handles are open
 handles_stand : (old : Running) (new_board : PlainState) (tree : Handles) (events : List Event) (said : List ℕ) (t : Trace) → StandsAt old t
     → IsLeftBy new_board (t.entries ++ entries_of caller events) → length (handed (entries_of caller events)) ≡ 0
-    → StandsAt (with_tree old new_board tree) (grown t (handles_are events tree said))
+    → StandsAt (with_tree old new_board tree) (grown t (handles_are t events tree said))
 handles_stand old new_board tree events said t stands left taken =
-    let filled = filled_still old.counts t.entries caller events caller_apart (record { fills = stands.fills; complete = stands.complete }) in
+    let filled = filled_still old.counts t.entries caller events caller_apart (counted_so old t stands) in
     record {
       behind = record { board = left; inputs = subst (λ (q : List Input). Stands old.acq q) (sym (append-nil t.inputs)) stands.behind.inputs };
       handles = refl;
       fills = filled.fills;
       complete = filled.complete;
-      taken = still old.taken (length (handed t.entries)) stands.taken ∙ taken_on old.taken 0 t.entries (entries_of caller events) stands.taken taken;
+      dropped = filled.dropped_is;
+      taken = still old.taken (length (handed_out t.entries)) stands.taken ∙ taken_on old.taken 0 t.entries (entries_of caller events) stands.taken (others_taken caller 0 events caller_apart taken);
       idle = stands.idle ∙ ap as_count (omega arith);
+      mode = stands.mode;
+      told_mode = stands.told_mode;
     }
 
 close_add : (serial : ℕ) (old : Running) (said : List ℕ) (new_board : PlainState) (t : Trace) → StandsAt old t → ClosesAs serial said new_board t
     → AddsAt (config_of old.acq) (line.close_all serial) said (with_tree old new_board (left_open t serial)) t
 close_add serial old said new_board t stands did = record {
-  part = handles_are did.events (left_open t serial) said;
+  part = handles_are t did.events (left_open t serial) said;
   adds = record { spells = did.spells; runs = did.runs; fills = did.fills };
   text = refl;
   stands = handles_stand old new_board (left_open t serial) did.events said t stands did.left did.taken;
@@ -261,7 +361,7 @@ close_goes serial old said new_board tree keeps closes is ready lifted =
 open_add : (parent : Option ℕ) (index : ℕ) (old : Running) (t : Trace) → StandsAt old t
     → AddsAt (config_of old.acq) (line.open_child parent index) (opened_text (opening_under t.handles parent index)) (with_tree old old.board (with_opened t.handles (opening_under t.handles parent index))) t
 open_add parent index old t stands = record {
-  part = handles_are [] (with_opened t.handles (opening_under t.handles parent index)) (opened_text (opening_under t.handles parent index));
+  part = handles_are t [] (with_opened t.handles (opening_under t.handles parent index)) (opened_text (opening_under t.handles parent index));
   adds = record { spells = refl; runs = tt; fills = tt };
   text = refl;
   stands = handles_stand old old.board (with_opened t.handles (opening_under t.handles parent index)) [] (opened_text (opening_under t.handles parent index)) t stands

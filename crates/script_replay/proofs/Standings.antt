@@ -1,5 +1,5 @@
 -- What the machine's state stands for, before and after a line.
-use Rattle.std.proofs.Common.{◌≡◌, ℕ, List, [], Some, None, Ok, refl, sym, ap, subst, ◌∙◌}
+use Rattle.std.proofs.Common.{◌≡◌, ℕ, false, List, [], Some, None, Ok, refl, sym, ap, subst, ◌∙◌}
 use Rattle.script_runs.specs.declared.ran.Ran.{Ran}
 use Rattle.script_runs.specs.declared.ran.Ran.TheVariants.{GoesOn, Ended}
 use Rattle.gentl_handles.specs.declared.handle.Handle.{Handle}
@@ -11,11 +11,11 @@ use Rattle.acq_core.specs.declared.machine.Machine.{Machine}
 use Rattle.acq_core.specs.Standing.{IsConfig}
 use Rattle.acq_core.specs.Receiver.{config_of, asked_block, buffers, Stands}
 use Rattle.acq_core.specs.Waiting.{waiting_fills, waiting_requests}
+use Rattle.mode_calls.specs.declared.mode.Mode.TheVariants.{OldestFirst}
 use Rattle.script_trace.specs.Opening.{opening, first_handles}
 use Rattle.script_trace.specs.Ending.{end_text}
 use Rattle.script_trace.specs.Wide.{nothing_wide, Does, kept_behind}
 use Rattle.script_trace.specs.Standing.{first, running, config_of as config_from}
-use Rattle.script_replay.specs.declared.running.Running.{Running}
 use Rattle.script_replay.specs.declared.script.Script.{Script}
 use Rattle.script_replay.specs.Boards.{IsLeftBy, IsReady}
 use Rattle.script_replay.specs.Acquiring.{AreAway}
@@ -25,7 +25,7 @@ use Rattle.script_replay.specs.Replays.{IsReplaying, DoneAt, Begins, RanBy, Stan
 -- what stands behind a header
 pub begun : (board : PlainState) (acq : Machine) (tree : Handles) (stream : Handle) (config : AcqConfig) → IsConfig config → IsLeftBy board opening.entries → IsReady board
     → Stands acq [] → config_of acq ≡ config → waiting_fills acq ≡ [] → waiting_requests acq ≡ [] → buffers acq ≡ [] → asked_block acq ≡ None → tree ≡ first_handles → stream.serial ≡ 4
-    → IsReplaying (record { board = board; acq = acq; tree = tree; stream = stream; counts = no_fills; taken = 0; idle = 0 })
+    → IsReplaying (record { board = board; acq = acq; tree = tree; stream = stream; counts = no_fills; taken = 0; idle = 0; mode = OldestFirst; told_mode = false })
 begun board acq tree stream config is_config left ready stands same fills requests none asked handles serial = record {
   rest = record {
     ready = ready;
@@ -41,7 +41,7 @@ begun board acq tree stream config is_config left ready stands same fills reques
   trace = opening;
   lines = [];
   leads = refl;
-  stands = record { behind = record { board = left; inputs = stands }; handles = handles; fills = refl; complete = refl; taken = refl; idle = refl };
+  stands = record { behind = record { board = left; inputs = stands }; handles = handles; fills = refl; complete = refl; dropped = refl; taken = refl; idle = refl; mode = refl; told_mode = refl };
 }
 
 -- a header was run

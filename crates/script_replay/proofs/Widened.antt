@@ -1,6 +1,6 @@
 -- Lines of both versions do what they mean.
-use Rattle.std.proofs.Common.{◌≡◌, ◌≢◌, ℕ, ◌+◌, ◌-◌, ◌^◌, ◌≤◌, Bool, true, false, List, [], ◌∷◌, ◌++◌, length, take, map, min, max, Result, Ok, Err, refl, sym, ap, subst, ◌∙◌, arith, nat_eq}
-use Rattle.std.specs.Prelude.{◌&&◌, if◌then◌else◌}
+use Rattle.std.proofs.Common.{◌≡◌, ◌≢◌, ℕ, ◌+◌, ◌-◌, ◌^◌, Bool, true, false, List, [], ◌∷◌, ◌++◌, length, take, map, min, max, Result, Ok, Err, refl, sym, ap, subst, ◌∙◌, arith, nat_eq}
+use Rattle.std.specs.Prelude.{if◌then◌else◌}
 use Rattle.std.proofs.lemmas.List.{take_at}
 use Rattle.std.proofs.lemmas.Bool.{cond-true, cond-false, and_parts, eqb-true, ne_eqb}
 use Rattle.hex.specs.declared.error.FromHexError.{FromHexError}
@@ -17,16 +17,14 @@ use Rattle.gev_script.specs.Lines.{ScriptLine}
 use Rattle.board_machine.specs.Machine.{Board}
 use Rattle.board_model.specs.Plain.{PlainState}
 use Rattle.acquisition_machine.specs.declared.config.AcqConfig.{AcqConfig}
-use Rattle.acquisition_machine.specs.Machine.{Request, request_bytes, datagram, tick}
+use Rattle.acquisition_machine.specs.Machine.{Request, request_bytes, tick}
 use Rattle.acquisition_machine.specs.Runs.{turn}
-use Rattle.acquisition_machine.specs.TurnLaws.{asked_by}
 use Rattle.acq_core.specs.declared.machine.Machine.{Machine}
 use Rattle.acq_core.specs.Receiver.{config_of, Takes, KeepsBlocks}
 use Rattle.acq_core.specs.Waiting.{waiting_fills, waiting_requests}
 use Rattle.script_trace.specs.Trace.{Trace, board, grown}
-use Rattle.script_trace.specs.StreamLines.{Hears}
 use Rattle.script_trace.specs.Ending.{as_count}
-use Rattle.script_trace.specs.Wide.{Wide, is_standard_at, is_standard, Meaning, itself, meaning_widened, standard_meaning, meaning_of_bytes, meaning_decoded, meaning, said_by, DoesAs, standard_form, standard_text, is_started_at, kept_behind, is_narrow, asked_in}
+use Rattle.script_trace.specs.Wide.{Wide, is_standard_at, is_standard, itself, meaning_widened, standard_meaning, meaning_of_bytes, meaning_decoded, meaning, said_by, DoesAs, standard_form, standard_text, is_started_at, kept_behind, is_narrow, asked_in}
 use Rattle.script_trace.proofs.Meanings.{said_plain}
 use Rattle.script_replay.specs.declared.fill_counts.FillCounts.{FillCounts}
 use Rattle.script_replay.specs.declared.running.Running.{Running}
@@ -35,6 +33,7 @@ use Rattle.script_replay.specs.declared.widening.Widening.{Widening}
 use Rattle.script_replay.specs.Acquiring.{IsAtRest, FillsAll, Drives, lines_of}
 use Rattle.script_replay.specs.Replays.{StandsAt, IsReplaying, AddsAt, Goes, IsOther, KeepsWide, DoesAt, DoesLine, DoneLine}
 use Rattle.script_replay.specs.Widely.{standard_lines_of, DoesBytesAt, DoesBytes}
+use Rattle.script_replay.proofs.Claiming.{HearsIn}
 use Rattle.script_replay.proofs.Decoding.{running_drives}
 use Rattle.script_replay.proofs.Driving.{tick_drives}
 use Rattle.script_replay.proofs.Replaying.{drive_goes}
@@ -204,11 +203,11 @@ refused_does l bytes old e n is counted replaying = record {
 -- ---- bytes that are heard
 
 pub heard_goes : (old : Running) (bytes : List ℕ) (new_board : PlainState) (acq : Machine) (counts : FillCounts) → IsReplaying old → old.board.board.run ≡ 1 → IsBytes bytes
-    → Drives (λ t. Hears (config_of old.acq) t bytes (asked_by (turn (config_of old.acq) t.inputs (datagram bytes)).need)) 0 old.board old.acq old.counts [] new_board acq counts
+    → Drives (HearsIn (config_of old.acq) old.mode bytes) 0 old.board old.acq old.counts [] new_board acq counts
     → IsAtRest new_board acq → config_of acq ≡ config_of old.acq → Goes (line.datagram (encode_lower bytes)) old [] (record old { board = new_board; acq = acq; counts = counts })
 heard_goes old bytes new_board acq counts keeps runs small drives rest config =
     drive_goes (line.datagram (encode_lower bytes)) old [] new_board acq counts keeps
-    (running_drives (config_of old.acq) old.board new_board old.acq acq old.counts counts (encode_lower bytes) bytes (decode_of-encode_lower bytes small) runs drives) rest config
+    (running_drives (config_of old.acq) old.mode old.board new_board old.acq acq old.counts counts (encode_lower bytes) bytes (decode_of-encode_lower bytes small) runs drives) rest config
 
 -- ---- a moment, with requests in the standard form
 
@@ -220,7 +219,7 @@ abbrev driven : Running → PlainState → Machine → FillCounts → Running
 driven old new_board acq counts = record old { board = new_board; acq = acq; counts = counts }
 
 pub standard_tick : (moment : ℕ) (old : Script) (new_board : PlainState) (mid fed acq : Machine) (counts : FillCounts) (before said : List ℕ) → IsReplaying old.running → old.widening.widened ≡ true
-    → Takes old.running.acq mid (tick moment) → FillsAll (waiting_fills mid) old.running.board old.running.counts new_board counts → KeepsBlocks mid fed → waiting_requests fed ≡ waiting_requests mid → KeepsBlocks fed acq
+    → Takes old.running.acq mid (tick moment) → FillsAll old.running.mode (waiting_fills mid) old.running.board old.running.counts new_board counts → KeepsBlocks mid fed → waiting_requests fed ≡ waiting_requests mid → KeepsBlocks fed acq
     → IsAtRest new_board acq → before ≡ [] → said ≡ before ++ standard_lines_of (waiting_requests fed)
     → DoesLine (line.tick moment) old said (record old { running = driven old.running new_board acq counts })
 unfolding meaning
@@ -255,7 +254,7 @@ standard_tick moment old new_board mid fed acq counts before said replaying wide
     goes : Goes (line.tick moment) old.running (lines_of (waiting_requests fed)) new
     goes =
         drive_goes (line.tick moment) old.running (lines_of (waiting_requests fed)) new_board acq counts replaying
-        (tick_drives old.running.board new_board old.running.acq mid fed acq old.running.counts counts moment [] (lines_of (waiting_requests fed)) replaying.rest takes all keeps same keeps_too refl refl)
+        (tick_drives old.running.mode old.running.board new_board old.running.acq mid fed acq old.running.counts counts moment [] (lines_of (waiting_requests fed)) replaying.rest takes all keeps same keeps_too refl refl)
         rest (keeps_too.config ∙ (keeps.config ∙ takes.config))
 
     told : (t : Trace) → StandsAt old.running t → said ≡ standard_text (turn c t.inputs (tick moment)).requests

@@ -4,11 +4,9 @@ use Rattle.std.specs.Prelude.{◌≡◌, ◌≢◌, ⊤, ℕ, ◌<◌, Bool, if�
 use Rattle.gev_report.specs.ReplayLines.{request_line}
 use Rattle.board_machine.specs.declared.events.Entry.{Entry}
 use Rattle.board_machine.specs.declared.events.Event.{Event}
-use Rattle.board_machine.specs.declared.events.Event.TheVariants.{Claim}
-use Rattle.board_machine.specs.Machine.{InHand, word_at}
-use Rattle.board_machine.specs.Adding.{entries_of, Adds, AddsEntry, KeepsActors}
+use Rattle.board_machine.specs.Machine.{Board, InHand, word_at}
+use Rattle.board_machine.specs.Adding.{entries_of, Adds, KeepsActors}
 use Rattle.board_machine.specs.Histories.{RunsFrom}
-use Rattle.board_machine.specs.Handout.{handed}
 use Rattle.board_calls.specs.Rounds.{filled_or_laid}
 use Rattle.board_model.specs.Plain.{PlainState, IsLifted}
 use Rattle.acquisition_machine.specs.declared.retired.Retired.{Retired}
@@ -19,12 +17,15 @@ use Rattle.acq_core.specs.declared.machine.Machine.{Machine}
 use Rattle.acq_core.specs.Standing.{IsConfig}
 use Rattle.acq_core.specs.Receiver.{config_of, asked_block, buffers, Stands, Takes}
 use Rattle.acq_core.specs.Waiting.{waiting_fills, waiting_requests}
+use Rattle.mode_calls.specs.declared.mode.Mode.{Mode}
+use Rattle.mode_calls.specs.Modes.{DropsFor, ClaimsFor}
 use Rattle.script_trace.specs.Trace.{Trace, Part, board, grown, acquirer}
 use Rattle.script_trace.specs.Contents.{contents_of, FillsFrom}
-use Rattle.script_trace.specs.StreamLines.{FillsRetired, outcome}
+use Rattle.script_trace.specs.StreamLines.{outcome}
+use Rattle.script_trace.specs.Modes.{FillsInMode, place_of, handed_out}
 use Rattle.script_replay.specs.declared.fill_counts.FillCounts.{FillCounts}
 use Rattle.script_replay.specs.Boards.{IsLeftBy, IsReady}
-use Rattle.script_replay.specs.Counting.{with_fill, counted_on, blocks_in}
+use Rattle.script_replay.specs.Counting.{with_fill, with_dropped, counted_in}
 
 -- ---- the buffers of open blocks
 
@@ -70,21 +71,29 @@ pub record FillsOne (x : Retired) (s new : PlainState) : Type 0 where
   pub adds : Adds s.board acquirer (filled_or_laid x.place x.buf filled) new.board
   pub contents : new.contents ≡ slice_set s.contents x.place (Some x.buf)
 
--- And it is counted, where it was filled.
-pub record CountsOne (x : Retired) (s : PlainState) (a : FillCounts) (new : PlainState) (b : FillCounts) : Type 0 where
-  pub one : FillsOne x s new
-  pub counted : b ≡ (if one.filled then with_fill a x.buf.rec.complete else a)
+-- the same with this board
+abbrev pub with_board : PlainState → Board → PlainState
+with_board s b = record s { board = b }
 
--- These are filled and counted, in order, or laid where the stream was closed.
-pub record FillsAll (xs : List Retired) (s : PlainState) (a : FillCounts) (new : PlainState) (b : FillCounts) : Type 0 where
+-- Before it, what the mode drops is dropped; and both are counted, the buffer where it was filled.
+pub record CountsOne (mode : Mode) (x : Retired) (s : PlainState) (a : FillCounts) (new : PlainState) (b : FillCounts) : Type 0 where
+  pub dropped : List ℕ
+  pub front : List Event
+  pub drops : DropsFor mode dropped front
+  pub mid : Board
+  pub adds : Adds s.board acquirer front mid
+  pub one : FillsOne x (with_board s mid) new
+  pub counted : b ≡ (if one.filled then with_fill (with_dropped a (length dropped)) x.buf.rec.complete else with_dropped a (length dropped))
+
+-- These are filled by the mode and counted, in order, or laid where the stream was closed.
+pub record FillsAll (mode : Mode) (xs : List Retired) (s : PlainState) (a : FillCounts) (new : PlainState) (b : FillCounts) : Type 0 where
   pub events : List Event
-  pub filled : FillsRetired xs events
+  pub filled : FillsInMode mode xs events
   pub adds : Adds s.board acquirer events new.board
   pub actors : KeepsActors s.board new.board
-  pub none_taken : handed (entries_of acquirer events) ≡ []
   pub sizes : (i : ℕ) → (word_at new.board i).size ≡ (word_at s.board i).size
   pub left : (h : List Entry) → IsLeftBy s h → IsLeftBy new (h ++ entries_of acquirer events)
-  pub counted : b ≡ counted_on a (blocks_in (entries_of acquirer events))
+  pub counted : b ≡ counted_in a (entries_of acquirer events)
 
 -- An input came to a receiver in which nothing waited, and these buffers were taken out.
 pub record Turned (m n : Machine) (i : Input) (xs : List Retired) : Type 0 where
@@ -93,19 +102,25 @@ pub record Turned (m n : Machine) (i : Input) (xs : List Retired) : Type 0 where
   pub config : config_of n ≡ config_of m
 
 -- An input came, and the buffers that came back were filled.
-pub record Settled (i : Input) (s : PlainState) (m : Machine) (a : FillCounts) (new : PlainState) (n : Machine) (b : FillCounts) : Type 0 where
+pub record Settled (mode : Mode) (i : Input) (s : PlainState) (m : Machine) (a : FillCounts) (new : PlainState) (n : Machine) (b : FillCounts) : Type 0 where
   pub retired : List Retired
   pub turned : Turned m n i retired
-  pub all : FillsAll retired s a new b
+  pub all : FillsAll mode retired s a new b
 
 -- ---- claims
 
--- A place was claimed and its buffer lifted out, or the pool was empty; and the receiver was told the outcome.
-pub record Claims (s : PlainState) (m : Machine) (new : PlainState) (n : Machine) : Type 0 where
-  pub claim : Option ℕ
-  pub step : AddsEntry s.board acquirer (Claim claim) new.board
-  pub takes : Takes m n (claimed (outcome s.board claim))
-  pub left : (h : List Entry) → IsLeftBy s h → IsLeftBy new (h ++ entries_of acquirer (Claim claim ∷ []))
+-- A place was claimed by the mode and its buffer lifted out, or there was none; and the receiver was told the
+-- outcome. A place that was dropped for this is counted.
+pub record Claims (mode : Mode) (s : PlainState) (m : Machine) (a : FillCounts) (new : PlainState) (n : Machine) (b : FillCounts) : Type 0 where
+  pub claim : Option (ℕ × Bool)
+  pub events : List Event
+  pub got : ClaimsFor mode claim events
+  pub adds : Adds s.board acquirer events new.board
+  pub actors : KeepsActors s.board new.board
+  pub words : new.board.words ≡ s.board.words
+  pub takes : Takes m n (claimed (outcome s.board (place_of claim)))
+  pub left : (h : List Entry) → IsLeftBy s h → IsLeftBy new (h ++ entries_of acquirer events)
+  pub counted : b ≡ counted_in a (entries_of acquirer events)
 
 -- ---- lines
 
@@ -120,7 +135,7 @@ pub record IsBehindTrace (t : Trace) (s : PlainState) (m : Machine) : Type 0 whe
   pub inputs : Stands m t.inputs
 
 -- The line adds a part with this report, which counts so many datagrams as idle and hands no buffer out,
--- the trace with it leaves the new board and receiver, and its fills are counted.
+-- the trace with it leaves the new board and receiver, and its fills and drops are counted.
 pub record DrivesAt (Line : Trace → Part → Type 0) (idle : ℕ) (a : FillCounts) (said : List ℕ) (new : PlainState) (n : Machine) (b : FillCounts) (t : Trace) : Type 0 where
   pub part : Part
   pub spells : Line t part
@@ -129,9 +144,11 @@ pub record DrivesAt (Line : Trace → Part → Type 0) (idle : ℕ) (a : FillCou
   pub handles : part.handles ≡ t.handles
   pub idles : part.idle ≡ idle
   pub text : part.text ≡ said
-  pub none_taken : handed part.entries ≡ []
+  pub mode : part.mode ≡ t.mode
+  pub told_mode : part.told_mode ≡ t.told_mode
+  pub none_taken : handed_out part.entries ≡ []
   pub behind : IsBehindTrace (grown t part) new n
-  pub counted : b ≡ counted_on a (blocks_in part.entries)
+  pub counted : b ≡ counted_in a part.entries
 
 -- So it is at every trace that left the old ones.
 abbrev pub Drives : (Trace → Part → Type 0) → ℕ → PlainState → Machine → FillCounts → List ℕ → PlainState → Machine → FillCounts → Type 0

@@ -17,7 +17,7 @@ use Rattle.script_replay.specs.Boards.{IsLeftBy}
 -- which hand out nothing, with this report, and the history with them leaves the new board.
 pub record ClosesAs (serial : ℕ) (said : List ℕ) (new : PlainState) (t : Trace) : Type 0 where
   pub events : List Event
-  pub spells : CloseLine t serial (handles_are events (left_open t serial) said)
+  pub spells : CloseLine t serial (handles_are t events (left_open t serial) said)
   pub runs : RunsFrom (board t) (entries_of caller events)
   pub fills : FillsFrom (contents_of t.entries) (entries_of caller events)
   pub taken : length (handed (entries_of caller events)) ≡ 0

@@ -9,10 +9,10 @@ use Rattle.gev_script.specs.Grammar.{line_of}
 use Rattle.gev_types.specs.Limits.{place_count}
 use Rattle.script_runs.specs.declared.ran.Ran.TheVariants.{GoesOn, Ended}
 use Rattle.script_runs.specs.declared.ran.Ran.{Ran}
-use Rattle.board_machine.specs.Handout.{handed}
 use Rattle.acquisition_machine.specs.declared.config.AcqConfig.{AcqConfig}
 use Rattle.acq_core.specs.Receiver.{config_of}
 use Rattle.script_trace.specs.Trace.{Trace, Part, grown}
+use Rattle.script_trace.specs.Modes.{handed_out, dropped}
 use Rattle.script_trace.specs.Adding.{AddsPart, Leads}
 use Rattle.script_trace.specs.Opening.{opening}
 use Rattle.script_trace.specs.Ending.{filled_blocks, as_count, end_text}
@@ -29,8 +29,11 @@ pub record StandsAt (r : Running) (t : Trace) : Type 0 where
   pub handles : r.tree ≡ t.handles
   pub fills : r.counts.fills ≡ as_count (length (filled_blocks t))
   pub complete : r.counts.complete ≡ as_count (count_by (λ x. x.filling.rec.complete) (filled_blocks t))
-  pub taken : r.taken ≡ as_count (length (handed t.entries))
+  pub dropped : r.counts.dropped ≡ as_count (length (dropped t.entries))
+  pub taken : r.taken ≡ as_count (length (handed_out t.entries))
   pub idle : r.idle ≡ as_count t.idle
+  pub mode : r.mode ≡ t.mode
+  pub told_mode : r.told_mode ≡ t.told_mode
 
 -- Between two lines the receiver is at rest, and lines of a script led to a trace that left all of it.
 pub record IsReplaying (r : Running) : Type 0 where

@@ -8,6 +8,7 @@ use Rattle.board_model.specs.Plain.{PlainState}
 use Rattle.acq_core.specs.declared.machine.Machine.{Machine}
 use Rattle.acq_core.specs.Receiver.{config_of, Takes, KeepsBlocks}
 use Rattle.acq_core.specs.Waiting.{waiting_fills, waiting_requests}
+use Rattle.mode_calls.specs.declared.mode.Mode.{Mode}
 use Rattle.script_trace.specs.Trace.{Trace}
 use Rattle.script_trace.specs.Wide.{Wide, standard_meaning, DoesAs, standard_form}
 use Rattle.script_replay.specs.declared.fill_counts.FillCounts.{FillCounts}
@@ -34,11 +35,11 @@ pub record DoesBytes (l : ScriptLine) (bytes : List ℕ) (old new : Script) : Ty
   pub keeps : IsReplaying new.running
 
 -- The moment was told, what retired was filled, and each request was written in the standard form.
-pub record TicksStandard (moment : ℕ) (s : PlainState) (m : Machine) (a : FillCounts) (before said : List ℕ) (new : PlainState) (n : Machine) (b : FillCounts) : Type 0 where
+pub record TicksStandard (mode : Mode) (moment : ℕ) (s : PlainState) (m : Machine) (a : FillCounts) (before said : List ℕ) (new : PlainState) (n : Machine) (b : FillCounts) : Type 0 where
   pub mid : Machine
   pub fed : Machine
   pub takes : Takes m mid (tick moment)
-  pub all : FillsAll (waiting_fills mid) s a new b
+  pub all : FillsAll mode (waiting_fills mid) s a new b
   pub keeps : KeepsBlocks mid fed
   pub requests : waiting_requests fed ≡ waiting_requests mid
   pub keeps_too : KeepsBlocks fed n

@@ -19,6 +19,7 @@ use crate::hex_digits::decode;
 use crate::retired::{fill_retired, give_claimed, write_requests};
 use acq_core::{Acq, Need};
 use board_model::PlainBoard;
+use buffer_modes::Mode;
 use gev_types::NoMemory;
 use std::alloc::Global;
 
@@ -52,19 +53,20 @@ pub fn stop(
     board: &mut PlainBoard,
     acq: &mut Acq,
     counts: &mut FillCounts,
+    mode: Mode,
     flags: u32,
     out: &mut Vec<u8>,
 ) -> Result<(), NoMemory>
     requires rest { IsAtRest board.old acq.old }
     requires empty { out.old.items ≡ [] }
-    ensures drives { OnOk result (Drives (λ t. StopLine (config_of acq.old) t flags) 0 board.old acq.old counts.old out.new.items board.new acq.new counts.new) }
+    ensures drives { OnOk result (Drives (λ t part. t.mode ≡ mode → StopLine (config_of acq.old) t flags part) 0 board.old acq.old counts.old out.new.items board.new acq.new counts.new) }
     ensures rest { IsAtRest board.new acq.new }
     ensures config { config_of acq.new ≡ config_of acq.old }
 {
     match board.ds_stop(CALLER, flags) {
         Ok(()) => {
             acq.stop();
-            fill_retired(board, acq, counts);
+            fill_retired(board, acq, counts, mode);
             line_done(alloc, "stop", out)
         }
         Err(error) => line_refused(alloc, "stop", error, out),
@@ -78,28 +80,35 @@ pub fn tick(
     board: &mut PlainBoard,
     acq: &mut Acq,
     counts: &mut FillCounts,
+    mode: Mode,
     moment: u64,
     out: &mut Vec<u8>,
 ) -> Result<(), NoMemory>
     requires rest { IsAtRest board.old acq.old }
     requires empty { out.old.items ≡ [] }
-    ensures drives { OnOk result (Drives (λ t. TickLine (config_of acq.old) t moment) 0 board.old acq.old counts.old out.new.items board.new acq.new counts.new) }
+    ensures drives { OnOk result (Drives (λ t part. t.mode ≡ mode → TickLine (config_of acq.old) t moment part) 0 board.old acq.old counts.old out.new.items board.new acq.new counts.new) }
     ensures rest { OnOk result (IsAtRest board.new acq.new) }
     ensures config { config_of acq.new ≡ config_of acq.old }
 {
     acq.tick(moment);
-    fill_retired(board, acq, counts);
+    fill_retired(board, acq, counts, mode);
     write_requests(alloc, acq, out)
 }
 
 /// Tells a datagram, and fills the buffers that come back. The answer is what the datagram needs.
-fn settle(board: &mut PlainBoard, acq: &mut Acq, counts: &mut FillCounts, bytes: &[u8]) -> Need
+fn settle(
+    board: &mut PlainBoard,
+    acq: &mut Acq,
+    counts: &mut FillCounts,
+    mode: Mode,
+    bytes: &[u8],
+) -> Need
     requires ready { IsReady board.old }
     requires no_fill { waiting_fills acq.old ≡ [] }
     requires no_request { waiting_requests acq.old ≡ [] }
     requires away { AreAway board.old (buffers acq.old) }
     ensures need { (q : List Input) → Stands acq.old q → (turn (config_of acq.old) q (came bytes.now)).need ≡ Some result }
-    ensures settled { Settled (came bytes.now) board.old acq.old counts.old board.new acq.new counts.new }
+    ensures settled { Settled mode (came bytes.now) board.old acq.old counts.old board.new acq.new counts.new }
     ensures ready { IsReady board.new }
     ensures no_fill { waiting_fills acq.new ≡ [] }
     ensures no_request { waiting_requests acq.new ≡ [] }
@@ -107,21 +116,27 @@ fn settle(board: &mut PlainBoard, acq: &mut Acq, counts: &mut FillCounts, bytes:
     ensures away { AreAway board.new (buffers acq.new) }
 {
     let need = acq.datagram(bytes);
-    fill_retired(board, acq, counts);
+    fill_retired(board, acq, counts, mode);
     need
 }
 
-/// Tells a datagram. Where it wants a buffer, one is claimed, and the datagram is told again.
-pub fn hear(board: &mut PlainBoard, acq: &mut Acq, counts: &mut FillCounts, bytes: &[u8])
+/// Tells a datagram. Where it wants a buffer, one is claimed by the mode, and the datagram is told again.
+pub fn hear(
+    board: &mut PlainBoard,
+    acq: &mut Acq,
+    counts: &mut FillCounts,
+    mode: Mode,
+    bytes: &[u8],
+)
     requires rest { IsAtRest board.old acq.old }
-    ensures drives { Drives (λ t. Hears (config_of acq.old) t bytes.now (asked_by (turn (config_of acq.old) t.inputs (came bytes.now)).need)) 0 board.old acq.old counts.old [] board.new acq.new counts.new }
+    ensures drives { Drives (λ t part. t.mode ≡ mode → Hears (config_of acq.old) t bytes.now (asked_by (turn (config_of acq.old) t.inputs (came bytes.now)).need) part) 0 board.old acq.old counts.old [] board.new acq.new counts.new }
     ensures rest { IsAtRest board.new acq.new }
     ensures config { config_of acq.new ≡ config_of acq.old }
 {
-    match settle(board, acq, counts, bytes) {
+    match settle(board, acq, counts, mode, bytes) {
         Need::Buffer(_block) => {
-            give_claimed(board, acq);
-            let _again = settle(board, acq, counts, bytes);
+            give_claimed(board, acq, counts, mode);
+            let _again = settle(board, acq, counts, mode, bytes);
         }
         Need::Done => {}
         Need::Ignored(_why) => {}
@@ -136,13 +151,14 @@ pub fn datagram(
     board: &mut PlainBoard,
     acq: &mut Acq,
     counts: &mut FillCounts,
+    mode: Mode,
     digits: &[u8],
     room: &mut [u8],
 ) -> u64
     requires rest { IsAtRest board.old acq.old }
     requires spelled { IsOk (decode_of digits.now) }
     requires room { length digits.now ≤ 2 * length room.old }
-    ensures drives { Drives (λ t. DatagramLine (config_of acq.old) t digits.now) result board.old acq.old counts.old [] board.new acq.new counts.new }
+    ensures drives { Drives (λ t part. t.mode ≡ mode → DatagramLine (config_of acq.old) t digits.now part) result board.old acq.old counts.old [] board.new acq.new counts.new }
     ensures rest { IsAtRest board.new acq.new }
     ensures config { config_of acq.new ≡ config_of acq.old }
 {
@@ -151,6 +167,6 @@ pub fn datagram(
     }
     let bytes = &mut room[..digits.len() / 2];
     decode(digits, bytes);
-    hear(board, acq, counts, bytes);
+    hear(board, acq, counts, mode, bytes);
     0
 }

@@ -5,19 +5,23 @@ ghost use Rattle.gev_script.specs.Lines as script_line;
 ghost use Rattle.gev_script.specs.Lines.{view};
 ghost use Rattle.acquisition_machine.specs.declared.config.AcqConfig.{AcqConfig};
 ghost use Rattle.script_trace.specs.Adding.{Spells};
+ghost use Rattle.script_trace.specs.Modes.{mode_of};
 ghost use Rattle.script_replay.specs.Boards.{IsReady, Acts};
 ghost use Rattle.script_replay.specs.Acquiring.{KeepsLifted};
 ghost use Rattle.script_replay.specs.Replays.{IsReplaying, IsCall, IsRunIn, Fits, StepsInRange, Goes};
 
 use crate::acquisition_lines::{datagram, start, stop, tick};
+use crate::answers::{line_done, line_refused};
 use crate::board_lines::{announce, event_flush, flush, info, kill, queue, revoke};
 use crate::buffer_lines::{buffer_info, take};
 use crate::closing_lines::close_all;
 use crate::handle_lines::open_child;
 use crate::running::Running;
 use crate::step_line::step;
+use board_calls::shown_run;
 use board_model::PlainBoard;
-use gentl_types::BufferId;
+use buffer_modes::Mode;
+use gentl_types::{BufferId, GcError};
 use gev_script::{Act, Line};
 use gev_types::NoMemory;
 use std::alloc::Global;
@@ -68,6 +72,7 @@ pub(crate) fn run_datagram(running: &mut Running, digits: &[u8], room: &mut Vec<
         &mut running.board,
         &mut running.acq,
         &mut running.counts,
+        running.mode,
         digits,
         room.as_mut_slice(),
     );
@@ -110,6 +115,39 @@ fn run_step(
     Ok(())
 }
 
+/// The mode with this number, 0 to 2.
+fn mode_of(number: u8) -> Mode
+    ensures { result ≡ mode_of number }
+{
+    if number == 0 {
+        return Mode::OldestFirst;
+    }
+    if number == 1 {
+        return Mode::OldestFirstOverwrite;
+    }
+    Mode::NewestOnly
+}
+
+/// Runs a `mode` line: the mode is set where the stream isn't running.
+fn run_mode(
+    alloc: Global,
+    running: &mut Running,
+    number: u8,
+    out: &mut Vec<u8>,
+) -> Result<(), NoMemory>
+    requires keeps { IsReplaying running.old }
+    requires empty { out.old.items ≡ [] }
+    ensures goes { OnOk result (Goes (script_line.mode number) running.old out.new.items running.new) }
+{
+    let run = running.board.run();
+    if run == 1 {
+        return line_refused(alloc, "mode", GcError::ResourceInUse(shown_run(run)), out);
+    }
+    running.mode = mode_of(number);
+    running.told_mode = true;
+    line_done(alloc, "mode", out)
+}
+
 /// Runs a line that adds to the trace, and adds its report to the empty `out`. The bytes of a datagram are
 /// decoded into the room.
 pub(crate) fn run_adding(
@@ -132,6 +170,7 @@ pub(crate) fn run_adding(
             &mut running.board,
             &mut running.acq,
             &mut running.counts,
+            running.mode,
             flags,
             out,
         ),
@@ -140,6 +179,7 @@ pub(crate) fn run_adding(
             &mut running.board,
             &mut running.acq,
             &mut running.counts,
+            running.mode,
             moment,
             out,
         ),
@@ -155,6 +195,7 @@ pub(crate) fn run_adding(
             close_all(alloc, &mut running.tree, &mut running.board, serial, out)
         }
         Line::Step { actor, act, place } => run_step(alloc, running, actor, act, place, out),
+        Line::Mode { mode } => run_mode(alloc, running, mode, out),
         call => run_call(alloc, &mut running.board, call, out),
     }
 }

@@ -14,6 +14,7 @@ use crate::script::Script;
 use crate::widening::Widening;
 use acq_core::Acq;
 use acquisition_machine::AcqConfig;
+use buffer_modes::Mode;
 use gev_script::{Line, ScriptKind, parse_line};
 use gev_types::NoMemory;
 use gvsp_std::Widener;
@@ -39,9 +40,12 @@ pub fn begin(alloc: Global, config: AcqConfig) -> Result<Running, NoMemory>
         counts: FillCounts {
             fills: 0,
             complete: 0,
+            dropped: 0,
         },
         taken: 0,
         idle: 0,
+        mode: Mode::OldestFirst,
+        told_mode: false,
     })
 }
 

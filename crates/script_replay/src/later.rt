@@ -1,18 +1,19 @@
 //! A line behind the first.
 
-ghost use Rattle.std.specs.Prelude.{◌≡◌, ◌≤◌, ◌+◌, [], length, OnOk, IfOk, MatchResult};
+ghost use Rattle.std.specs.Prelude.{◌≡◌, ◌≤◌, ◌+◌, ◌++◌, [], length, OnOk, IfOk, MatchResult};
 ghost use Rattle.gev_script.specs.Lines.{view};
 ghost use Rattle.script_runs.specs.Runs.{IfRefused};
 ghost use Rattle.acq_core.specs.Receiver.{config_of};
 ghost use Rattle.script_trace.specs.Trace.{Trace};
-ghost use Rattle.script_trace.specs.Ending.{end_text};
+ghost use Rattle.script_trace.specs.Ending.{dropped_text, end_text};
 ghost use Rattle.script_trace.specs.Wide.{Wide};
 ghost use Rattle.script_trace.specs.Standing.{is_out_of_place};
 ghost use Rattle.script_replay.specs.Replays.{StandsAt, IsReplaying, IsLaterIn, KeepsWide, RanAs, RanBy, RefusedBy};
 
+use crate::running::Running;
 use crate::script::Script;
 use crate::wide_lines::run_line;
-use gev_report::{EndCounts, line_end};
+use gev_report::{EndCounts, line_end, line_number};
 use gev_script::{Line, Name, ScriptKind, first_name, parse_line};
 use gev_types::NoMemory;
 use script_runs::{Ran, Stop};
@@ -31,7 +32,17 @@ fn is_out_of_place(name: Result<Name, ScriptKind>) -> bool
     }
 }
 
-/// Adds the last line of the report.
+/// Adds how many buffers were dropped, where a line set the mode.
+fn tell_dropped(alloc: Global, running: &Running, out: &mut Vec<u8>) -> Result<(), NoMemory>
+    ensures { OnOk result (out.new.items ≡ out.old.items ++ dropped_text running.now.told_mode running.now.counts.dropped) }
+{
+    if !running.told_mode {
+        return Ok(());
+    }
+    line_number(alloc, "dropped", running.counts.dropped, out)
+}
+
+/// Adds the last lines of the report.
 fn tell_end(alloc: Global, script: &Script, out: &mut Vec<u8>) -> Result<(), NoMemory>
     requires empty { out.old.items ≡ [] }
     ensures { OnOk result ((w : Wide) (t : Trace) → StandsAt script.now.running t → KeepsWide script.now.widening w
@@ -53,6 +64,7 @@ fn tell_end(alloc: Global, script: &Script, out: &mut Vec<u8>) -> Result<(), NoM
         notice: counts.notice,
         idle: running.idle,
     };
+    tell_dropped(alloc, running, out)?;
     line_end(alloc, &all, out)
 }
 

@@ -7,13 +7,14 @@ ghost use Rattle.acq_core.specs.Receiver.{asked_block, buffers, KeepsBlocks};
 ghost use Rattle.acq_core.specs.Waiting.{waiting_fills, waiting_requests};
 ghost use Rattle.script_trace.specs.Trace.{acquirer};
 ghost use Rattle.script_replay.specs.Boards.{IsReady};
-ghost use Rattle.script_replay.specs.Counting.{with_fill};
+ghost use Rattle.script_replay.specs.Counting.{with_fill, with_dropped, counted_claim};
 ghost use Rattle.script_replay.specs.Acquiring.{IsAway, AreAway, CountsOne, FillsAll, Claims, lines_of};
 
 use crate::fill_counts::FillCounts;
 use acq_core::{Acq, Retired};
 use board_calls::FillEnd;
 use board_model::PlainBoard;
+use buffer_modes::{Mode, plain_claim_for, plain_fill_for};
 use gev_report::line_request;
 use gev_types::NoMemory;
 use std::alloc::Global;
@@ -31,15 +32,35 @@ fn count_fill(counts: &mut FillCounts, complete: bool)
     }
 }
 
-/// Fills a buffer into the output and counts it, or lays it where the stream was closed.
-fn fill_one(board: &mut PlainBoard, counts: &mut FillCounts, fill: Retired)
+/// Counts buffers that were dropped.
+fn count_dropped(counts: &mut FillCounts, dropped: u8)
+    ensures { counts.new ≡ with_dropped counts.old dropped }
+{
+    if dropped != 0 {
+        counts.dropped = counts.dropped.saturating_add(u64::from(dropped));
+    }
+}
+
+/// Counts a claimed place, where it was dropped for the claim.
+fn count_claimed(counts: &mut FillCounts, was_dropped: bool)
+    ensures { counts.new ≡ counted_claim counts.old was_dropped }
+{
+    if was_dropped {
+        count_dropped(counts, 1);
+    }
+}
+
+/// Fills a buffer into the output by the mode and counts it, or lays it where the stream was closed.
+fn fill_one(board: &mut PlainBoard, counts: &mut FillCounts, mode: Mode, fill: Retired)
     requires actor { IsActor board.old.board acquirer }
     requires away { IsAway board.old (given_of fill) }
-    ensures { CountsOne fill board.old counts.old board.new counts.new }
+    ensures { CountsOne mode fill board.old counts.old board.new counts.new }
 {
     let place = fill.place;
     let complete = fill.buf.rec().complete;
-    match board.fill(ACQUIRER, place, fill.buf) {
+    let (end, dropped) = plain_fill_for(board, ACQUIRER, mode, place, fill.buf);
+    count_dropped(counts, dropped);
+    match end {
         FillEnd::Filled => count_fill(counts, complete),
         FillEnd::Closed(back) => {
             board.set_down(ACQUIRER, place, back);
@@ -48,18 +69,19 @@ fn fill_one(board: &mut PlainBoard, counts: &mut FillCounts, fill: Retired)
     }
 }
 
-/// Fills each buffer that waits in the receiver, first in first, and counts those that came into the output.
-pub fn fill_retired(board: &mut PlainBoard, acq: &mut Acq, counts: &mut FillCounts)
+/// Fills each buffer that waits in the receiver, first in first, and counts those that came into the output
+/// and those that were dropped before.
+pub fn fill_retired(board: &mut PlainBoard, acq: &mut Acq, counts: &mut FillCounts, mode: Mode)
     requires actor { IsActor board.old.board acquirer }
     requires away { AreAway board.old (map given_of (waiting_fills acq.old) ++ buffers acq.old) }
-    ensures fills { FillsAll (waiting_fills acq.old) board.old counts.old board.new counts.new }
+    ensures fills { FillsAll mode (waiting_fills acq.old) board.old counts.old board.new counts.new }
     ensures no_fill { waiting_fills acq.new ≡ [] }
     ensures requests { waiting_requests acq.new ≡ waiting_requests acq.old }
     ensures rest { KeepsBlocks acq.old acq.new }
     ensures away { AreAway board.new (buffers acq.new) }
 {
     while let Some(fill) = acq.next_fill() {
-        fill_one(board, counts, fill);
+        fill_one(board, counts, mode, fill);
     }
 }
 
@@ -80,20 +102,26 @@ pub(crate) fn write_requests(
     Ok(())
 }
 
-/// Claims a place of the input pool, lifts its buffer out, and gives it to the receiver; where the pool is
-/// empty, the receiver is told so.
-pub(crate) fn give_claimed(board: &mut PlainBoard, acq: &mut Acq)
+/// Claims a place by the mode, lifts its buffer out, and gives it to the receiver; where there is none, the
+/// receiver is told so. A place that was dropped for this is counted.
+pub(crate) fn give_claimed(
+    board: &mut PlainBoard,
+    acq: &mut Acq,
+    counts: &mut FillCounts,
+    mode: Mode,
+)
     requires ready { IsReady board.old }
     requires asked { IsSome (asked_block acq.old) }
     requires away { AreAway board.old (buffers acq.old) }
-    ensures claims { Claims board.old acq.old board.new acq.new }
+    ensures claims { Claims mode board.old acq.old counts.old board.new acq.new counts.new }
     ensures ready { IsReady board.new }
     ensures fills { waiting_fills acq.new ≡ waiting_fills acq.old }
     ensures requests { waiting_requests acq.new ≡ waiting_requests acq.old }
     ensures away { AreAway board.new (buffers acq.new) }
 {
-    match board.claim(ACQUIRER) {
-        Some(place) => {
+    match plain_claim_for(board, ACQUIRER, mode) {
+        Some((place, was_dropped)) => {
+            count_claimed(counts, was_dropped);
             let buf = board.lift(ACQUIRER, place);
             acq.give(Some((place, buf)));
         }

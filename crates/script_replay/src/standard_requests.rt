@@ -15,6 +15,7 @@ use crate::retired::fill_retired;
 use crate::script::Script;
 use acq_core::Acq;
 use board_model::PlainBoard;
+use buffer_modes::Mode;
 use gev_report::line_request;
 use gev_types::NoMemory;
 use gvcp_aux::Resend;
@@ -73,15 +74,16 @@ fn tick(
     board: &mut PlainBoard,
     acq: &mut Acq,
     counts: &mut FillCounts,
+    mode: Mode,
     moment: u64,
     out: &mut Vec<u8>,
 ) -> Result<(), NoMemory>
     requires { IsAtRest board.old acq.old }
-    ensures told { OnOk result (TicksStandard moment board.old acq.old counts.old out.old.items out.new.items board.new acq.new counts.new) }
+    ensures told { OnOk result (TicksStandard mode moment board.old acq.old counts.old out.old.items out.new.items board.new acq.new counts.new) }
     ensures rest { OnOk result (IsAtRest board.new acq.new) }
 {
     acq.tick(moment);
-    fill_retired(board, acq, counts);
+    fill_retired(board, acq, counts, mode);
     write_standard(alloc, acq, out)
 }
 
@@ -102,6 +104,7 @@ pub(crate) fn tick_standard(
         &mut script.running.board,
         &mut script.running.acq,
         &mut script.running.counts,
+        script.running.mode,
         moment,
         out,
     )

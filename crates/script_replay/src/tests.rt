@@ -40,11 +40,15 @@ const LINES: &[(&str, Told)] = &[
     ("announce 3", Told::On("announce 0.1\n")),
     ("announce 03", Told::Refused(ScriptKind::Number)),
     ("queue 0.1", Told::On("queue ok\n")),
+    ("mode", Told::Refused(ScriptKind::Word)),
+    ("mode 3", Told::Refused(ScriptKind::Number)),
+    ("mode 1", Told::On("mode ok\n")),
     ("c 0 00", Told::Refused(ScriptKind::Word)),
     ("c 0 zz", Told::Refused(ScriptKind::Word)),
     ("c 65536 00", Told::Refused(ScriptKind::Word)),
     ("d 00", Told::On("")),
     ("start", Told::On("start ok\n")),
+    ("mode 2", Told::On("mode -1004\n")),
     ("frame", Told::Refused(ScriptKind::Word)),
     ("frame 1", Told::Refused(ScriptKind::Word)),
     (
@@ -89,7 +93,7 @@ const LINES: &[(&str, Told)] = &[
 ];
 
 const END: &str =
-    "end taken=1 fills=1 complete=1 underrun=0 requests=1 foreign=0 late=0 repeat=0 misfit=0 starved=0 notice=0 idle=1\n";
+    "dropped 0\nend taken=1 fills=1 complete=1 underrun=0 requests=1 foreign=0 late=0 repeat=0 misfit=0 starved=0 notice=0 idle=1\n";
 
 impl Told {
     /// The machine's answer.

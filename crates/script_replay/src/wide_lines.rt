@@ -39,6 +39,7 @@ fn hear_bytes(running: &mut Running, bytes: &[u8])
         &mut running.board,
         &mut running.acq,
         &mut running.counts,
+        running.mode,
         bytes,
     );
 }

@@ -25,7 +25,8 @@ use Rattle.script_trace.proofs.Starting.{leads_clean, opening_clean}
 use Rattle.acquisition_machine.proofs.Joining.{after_from-append}
 use Rattle.script_trace.specs.Trace.{Trace, Part, grown, board, caller, acts, Calls}
 use Rattle.script_trace.specs.BoardLines.{TakeIfOpen, AsksBuffer, AsksLoan, open_event, is_of_loan, buffer}
-use Rattle.script_trace.specs.StreamLines.{Settles, Restarts, StopsAcquiring, HeardAgain, Hears, HearsIfRunning, outcome}
+use Rattle.script_trace.specs.StreamLines.{Settles, Restarts, StopsAcquiring, HeardAgain, Hears, HearsIfRunning, outcome, ModeIfRunning}
+use Rattle.script_trace.specs.Modes.{place_of}
 use Rattle.script_trace.specs.HandleLines.{ClosesHandle, ClosesStream}
 use Rattle.script_trace.specs.StepLines.{StepBy, StepInHand, FillStep, is_in_hand}
 use Rattle.script_trace.specs.Adding.{Spells, Leads}
@@ -60,7 +61,7 @@ wanted (Some (Ignored why)) b is = absurd cc
 
 again_asks : (c : AcqConfig) (t : Trace) (bytes : List ℕ) (block : ℕ) (part : Part) → 1 ≤ c.window → asked_by (turn c t.inputs (datagram bytes)).need ≡ Some block → HeardAgain c t bytes part → Unasked c t part
 again_asks c t bytes block part some asked h =
-    let told : Option Given = outcome (board t) h.claim in
+    let told : Option Given = outcome (board t) (place_of h.claim) in
     let s : State = After c t.inputs in
     let before : State = (step c (step c s (datagram bytes)).after (claimed told)).after in
     let at : After c (t.inputs ++ datagram bytes ∷ claimed told ∷ []) ≡ before = after_from-append c first_state t.inputs (datagram bytes ∷ claimed told ∷ []) in
@@ -124,6 +125,10 @@ step_asks c t k act.SweepPool i part (pooled, is) = acts_ask c t k (SweepPool po
 step_asks c t k act.SweepOut i part (output, is) = acts_ask c t k (SweepOut output ∷ []) _ part is
 step_asks c t k act.Close i part is = acts_ask c t k (Close ∷ []) _ part is
 
+mode_asks : (c : AcqConfig) (t : Trace) (n : ℕ) (running : Bool) (part : Part) → ModeIfRunning t n running part → Unasked c t part
+mode_asks c t n true part is = subst (Unasked c t) (sym is) (λ h. h)
+mode_asks c t n false part is = subst (Unasked c t) (sym is) (λ h. h)
+
 line_asks : (c : AcqConfig) (t : Trace) (l : ScriptLine) (part : Part) → 1 ≤ c.window → Spells c t l part → Unasked c t part
 line_asks c t (line.header config) part some s = absurd s
 line_asks c t (line.announce size) part some (answer, fit, calls) = calls_ask c t _ _ part calls
@@ -142,6 +147,7 @@ line_asks c t (line.buffer_info place generation which) part some asks = buffer_
 line_asks c t (line.open_child parent index) part some is = subst (Unasked c t) (sym is) (λ h. h)
 line_asks c t (line.close_all serial) part some closes = close_asks c t serial (closing t.handles serial) part closes
 line_asks c t (line.step actor a place) part some steps = step_asks c t actor a (unwrap_or place 0) part steps
+line_asks c t (line.mode n) part some is = mode_asks c t n ((board t).run == 1) part is
 line_asks c t line.end_of_script part some s = absurd s
 line_asks c t line.camera_header part some s = absurd s
 line_asks c t (line.command peer digits) part some s = absurd s

@@ -1,16 +1,14 @@
 -- The acquisition's fills are the retired blocks.
-use Rattle.std.proofs.Common.{◌≡◌, ◌≢◌, inl, inr, ℕ, ◌≤◌, ◌==◌, cond, Bool, true, false, List, [], ◌∷◌, ◌++◌, map, refl, sym, ap, subst, ◌∙◌, append_assoc, append-nil, arith}
+use Rattle.std.proofs.Common.{◌≡◌, ◌≢◌, inl, inr, ℕ, ◌≤◌, ◌==◌, cond, Bool, true, false, List, [], ◌∷◌, ◌++◌, map, refl, sym, ap, subst, ◌∙◌, append-nil, arith}
 use Rattle.std.specs.Prelude.{⊤, Option, Some, None, Result, Ok, Err, unwrap_or, codes}
 use Rattle.std.specs.List.{AllByRecursion}
 use Rattle.std.proofs.lemmas.Bool.{ne_eqb}
-use Rattle.board_machine.specs.declared.events.Entry.{Entry}
 use Rattle.board_machine.specs.declared.events.Event.{Event}
 use Rattle.board_machine.specs.declared.events.Event.TheVariants.{Lay, Pool, Claim, Fill, Grab, Take, SweepPool, SweepOut, Close}
-use Rattle.board_machine.specs.Machine.{Item, entry, word_at}
+use Rattle.board_machine.specs.Machine.{entry, word_at}
 use Rattle.board_machine.specs.Histories.{own_of}
 use Rattle.board_machine.specs.Adding.{entries_of}
 use Rattle.board_machine.proofs.Runs.{own_of-append}
-use Rattle.board_calls.specs.Rounds.{filled_or_laid}
 use Rattle.gentl_types.specs.declared.errors.GcError.{GcError}
 use Rattle.gentl_handles.specs.declared.opened.Opened.{Opened}
 use Rattle.gentl_handles.specs.Closing.{is_among, closing}
@@ -19,22 +17,23 @@ use Rattle.gev_script.specs.declared.act.Act.TheVariants as act
 use Rattle.gev_script.specs.Lines as line
 use Rattle.gev_script.specs.Lines.{ScriptLine}
 use Rattle.acquisition_machine.specs.declared.config.AcqConfig.{AcqConfig}
-use Rattle.acquisition_machine.specs.declared.retired.Retired.{Retired}
-use Rattle.acquisition_machine.specs.Blocks.{Retirement, fills, fill_of}
+use Rattle.acquisition_machine.specs.Blocks.{Retirement, fills}
 use Rattle.acquisition_machine.specs.Machine.{Input, State, step, datagram, claimed, tick, stop}
-use Rattle.acquisition_machine.specs.Runs.{first_state, After, after_from, turn, retired_from}
+use Rattle.acquisition_machine.specs.Runs.{first_state, After, turn}
 use Rattle.acquisition_machine.specs.TurnLaws.{asked_by}
-use Rattle.acquisition_machine.proofs.Joining.{after_from-append, retired_from-append}
+use Rattle.acquisition_machine.proofs.Joining.{after_from-append}
 use Rattle.script_trace.specs.Trace.{Trace, Part, grown, board, caller, acquirer, acts, Calls}
 use Rattle.script_trace.specs.BoardLines.{TakeIfOpen, AsksBuffer, AsksLoan, open_event, is_of_loan, buffer}
-use Rattle.script_trace.specs.StreamLines.{FillsRetired, retired_by, Settles, Restarts, StopsAcquiring, HeardAgain, Hears, HearsIfRunning, outcome}
+use Rattle.script_trace.specs.StreamLines.{retired_by, Settles, Restarts, StopsAcquiring, HeardAgain, Hears, HearsIfRunning, outcome, ModeIfRunning}
 use Rattle.script_trace.specs.HandleLines.{ClosesHandle, ClosesStream}
 use Rattle.script_trace.specs.StepLines.{StepBy, StepInHand, FillStep, is_in_hand}
 use Rattle.script_trace.specs.Adding.{Spells, Leads}
 use Rattle.script_trace.specs.Opening.{opening}
-use Rattle.block_fills.specs.Fills.{tried_by, tried, item_of, retired_items}
-use Rattle.block_fills.proofs.Tries.{tried-append, fills-append, items-append, items_from, items_from-append, entries-append, retired_tried}
+use Rattle.block_fills.specs.Fills.{tried, item_of, retired_items}
+use Rattle.block_fills.proofs.Tries.{tried-append, fills-append, items-append, items_from, items_from-append, entries-append}
 use Rattle.script_trace.specs.Fills.{tried_blocks}
+use Rattle.script_trace.specs.Modes.{place_of}
+use Rattle.script_trace.proofs.Quiet.{claims_quiet, quiet_tried, retired_tried}
 
 -- entries of one actor
 own_all : (k : ℕ) (es : List Event) → (k == acquirer) ≡ true → own_of acquirer (entries_of k es) ≡ entries_of k es
@@ -78,7 +77,7 @@ one_retired c s i = ap (λ l. map item_of (fills c.p l)) (sym (append-nil (step 
 settles_agree : (c : AcqConfig) (t : Trace) (calls : List Event) (i : Input) (said : List ℕ) (part : Part) → Settles c t calls i said part → FillsAgree c t part
 settles_agree c t calls i said part s =
     subst (FillsAgree c t) (sym s.is)
-    (both_tried calls s.events ∙ (retired_tried acquirer (retired_by c t.inputs i) s.events s.filled ∙ one_retired c (After c t.inputs) i))
+    (both_tried calls s.events ∙ (retired_tried acquirer t.mode (retired_by c t.inputs i) s.events s.filled ∙ one_retired c (After c t.inputs) i))
 
 -- a datagram that retires something, a claim's outcome, which doesn't, and the datagram again
 twice_retired : (c : AcqConfig) (s : State) (first second third : Input) → (step c (step c s first).after second).retired ≡ [] → map item_of (fills c.p (step c s first).retired) ++ map item_of (fills c.p (step c (step c (step c s first).after second).after third).retired) ≡ items_from c s (first ∷ second ∷ third ∷ [])
@@ -92,18 +91,23 @@ twice_retired c s first second third none =
 again_agrees : (c : AcqConfig) (t : Trace) (bytes : List ℕ) (part : Part) → HeardAgain c t bytes part → FillsAgree c t part
 again_agrees c t bytes part h =
     let s : State = After c t.inputs in
-    let told : Input = claimed (outcome (board t) h.claim) in
+    let told : Input = claimed (outcome (board t) (place_of h.claim)) in
     let later : List Input = t.inputs ++ datagram bytes ∷ told ∷ [] in
-    let events : List Event = h.first ++ Claim h.claim ∷ h.second in
+    let events : List Event = h.first ++ (h.claims ++ h.second) in
     let second_retired : map item_of (retired_by c later (datagram bytes)) ≡ map item_of (fills c.p (step c (step c (step c s (datagram bytes)).after told).after (datagram bytes)).retired)
     = ap (λ u. map item_of (fills c.p (step c u (datagram bytes)).retired)) (after_from-append c first_state t.inputs (datagram bytes ∷ told ∷ [])) in
+    let claims_tried : tried (entries_of acquirer (h.claims ++ h.second)) ≡ tried (entries_of acquirer h.second)
+    = ap tried (entries-append acquirer h.claims h.second)
+    ∙ (tried-append (entries_of acquirer h.claims) (entries_of acquirer h.second)
+    ∙ ap (λ l. l ++ tried (entries_of acquirer h.second)) (quiet_tried acquirer h.claims (claims_quiet t.mode h.claim h.claims h.got))) in
     let all_tried : tried (entries_of acquirer events) ≡ tried (entries_of acquirer h.first) ++ tried (entries_of acquirer h.second)
-    = ap tried (entries-append acquirer h.first (Claim h.claim ∷ h.second)) ∙ tried-append (entries_of acquirer h.first) (entries_of acquirer (Claim h.claim ∷ h.second)) in
+    = ap tried (entries-append acquirer h.first (h.claims ++ h.second))
+    ∙ (tried-append (entries_of acquirer h.first) (entries_of acquirer (h.claims ++ h.second)) ∙ ap (λ l. tried (entries_of acquirer h.first) ++ l) claims_tried) in
     subst (FillsAgree c t) (sym h.is)
     (ap tried (own_acquirer events)
     ∙ (all_tried
-    ∙ (ap (λ l. l ++ tried (entries_of acquirer h.second)) (retired_tried acquirer (retired_by c t.inputs (datagram bytes)) h.first h.displaced)
-    ∙ (ap (λ l. map item_of (retired_by c t.inputs (datagram bytes)) ++ l) (retired_tried acquirer (retired_by c later (datagram bytes)) h.second h.filled ∙ second_retired)
+    ∙ (ap (λ l. l ++ tried (entries_of acquirer h.second)) (retired_tried acquirer t.mode (retired_by c t.inputs (datagram bytes)) h.first h.displaced)
+    ∙ (ap (λ l. map item_of (retired_by c t.inputs (datagram bytes)) ++ l) (retired_tried acquirer t.mode (retired_by c later (datagram bytes)) h.second h.filled ∙ second_retired)
     ∙ twice_retired c s (datagram bytes) told (datagram bytes) refl))))
 
 -- ---- each line
@@ -164,6 +168,10 @@ step_agrees c t k act.SweepPool i part apart (pooled, is) = acts_agree c t k (Sw
 step_agrees c t k act.SweepOut i part apart (output, is) = acts_agree c t k (SweepOut output ∷ []) _ part apart is
 step_agrees c t k act.Close i part apart is = acts_agree c t k (Close ∷ []) _ part apart is
 
+mode_agrees : (c : AcqConfig) (t : Trace) (n : ℕ) (running : Bool) (part : Part) → ModeIfRunning t n running part → FillsAgree c t part
+mode_agrees c t n true part is = subst (FillsAgree c t) (sym is) refl
+mode_agrees c t n false part is = subst (FillsAgree c t) (sym is) refl
+
 not_acquirer : (k : ℕ) → k ≤ 4 → (k == acquirer) ≡ false
 not_acquirer k few = let apart : k ≢ 5 = λ e. omega (arith, e) in ne_eqb k 5 apart
 
@@ -190,6 +198,7 @@ line_agrees c t (line.buffer_info place generation which) part ok asks = buffer_
 line_agrees c t (line.open_child parent index) part ok is = subst (FillsAgree c t) (sym is) refl
 line_agrees c t (line.close_all serial) part ok closes = close_agrees c t serial (closing t.handles serial) part closes
 line_agrees c t (line.step actor a place) part ok steps = step_agrees c t actor a (unwrap_or place 0) part (not_acquirer actor ok) steps
+line_agrees c t (line.mode n) part ok is = mode_agrees c t n ((board t).run == 1) part is
 line_agrees c t line.end_of_script part ok s = absurd s
 line_agrees c t line.camera_header part ok s = absurd s
 line_agrees c t (line.command peer digits) part ok s = absurd s

@@ -1,4 +1,4 @@
--- What is handed out was filled with a retired block, or has the empty record.
+-- What leaves the output was filled with a retired block, or has the empty record.
 use Rattle.std.proofs.Common.{◌≡◌, ◌≢◌, ◌⊎◌, inl, inr, ℕ, ◌==◌, cond, Bool, true, false, List, [], ◌∷◌, length, take, drop, refl, sym, ap, subst}
 use Rattle.std.specs.Prelude.{⊤, Option, Some, None}
 use Rattle.std.specs.List.{AllByRecursion}
@@ -10,7 +10,7 @@ use Rattle.board_machine.specs.declared.events.Event.{Event}
 use Rattle.board_machine.specs.declared.events.Event.TheVariants.{Fill}
 use Rattle.board_machine.specs.Machine.{Item}
 use Rattle.board_machine.specs.Histories.{own_of}
-use Rattle.board_machine.specs.Handout.{filled_by, filled, removed, marks, marked, every_actor, removed_items, handed_items}
+use Rattle.board_machine.specs.Handout.{filled_by, filled, removed, marks, marked, removed_items, items_handed_to}
 use Rattle.board_model.specs.Plain.{lying}
 use Rattle.board_model.specs.Holdings.{emptied}
 use Rattle.acquisition_machine.proofs.Order.{all_append, all_front, all_back}
@@ -90,7 +90,7 @@ filled_all P (e ∷ h) empty a =
     let s : Split P e (own_of acquirer h) = split_by P e (own_of acquirer h) (e.by == acquirer) refl empty.0 a in
     all_append (OrEmpty P) (filled_by e.event) (filled h) s.here (filled_all P h empty.1 s.later)
 
--- ---- what was handed out
+-- ---- what takes took
 
 all_taken : {X : Type 0} (P : X → Type 0) (n : ℕ) (xs : List X) → AllByRecursion P xs → AllByRecursion P (take n xs)
 all_taken P n xs a = all_front P (take n xs) (drop n xs) (subst (λ l. AllByRecursion P l) (sym (take-append-drop n xs)) a)
@@ -101,5 +101,6 @@ all_marked P (m ∷ ms) [] a = tt
 all_marked P (true ∷ ms) (x ∷ xs) a = (a.0, all_marked P ms xs a.1)
 all_marked P (false ∷ ms) (x ∷ xs) a = all_marked P ms xs a.1
 
-pub handed_all : (P : Item → Type 0) (h : List Entry) → AllByRecursion P (filled h) → AllByRecursion P (handed_items h)
-handed_all P h a = all_marked P (marks every_actor h) (removed_items h) (all_taken P (length (removed h)) (filled h) a)
+-- whoever they are
+pub taken_all : (P : Item → Type 0) (who : ℕ → Bool) (h : List Entry) → AllByRecursion P (filled h) → AllByRecursion P (items_handed_to who h)
+taken_all P who h a = all_marked P (marks who h) (removed_items h) (all_taken P (length (removed h)) (filled h) a)

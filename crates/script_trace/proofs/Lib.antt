@@ -1,8 +1,10 @@
 pub mod Histories
 pub mod BlockFills
 pub mod RunWord
+pub mod Quiet
 pub mod Starting
 pub mod Handing
+pub mod Counting
 pub mod Between
 pub mod Promises
 pub mod Meanings

@@ -37,12 +37,13 @@ use Rattle.script_trace.specs.Trace.{Trace, Part, board, caller, acquirer, acts,
 use Rattle.script_trace.specs.Contents.{contents_of, FillsFrom}
 use Rattle.script_trace.specs.Answers.{refused_text, done_text, value_text}
 use Rattle.script_trace.specs.BoardLines.{buffer, TakeIfOpen, open_event, is_of_loan, AsksLoan, AsksBuffer}
-use Rattle.script_trace.specs.StreamLines.{FillsRetired, retired_by, Settles, Restarts, StopsAcquiring, requests_text, idles, outcome, told_twice, HeardAgain, Hears, HearsIfRunning}
+use Rattle.script_trace.specs.StreamLines.{retired_by, Settles, Restarts, StopsAcquiring, requests_text, idles, outcome, told_twice, HeardAgain, Hears, HearsIfRunning, sets_mode, ModeIfRunning}
+use Rattle.script_trace.specs.Modes.{mode_of, FillsInMode, place_of}
 use Rattle.script_trace.specs.HandleLines.{opened_text, left_open, ClosesStream, ClosesHandle}
 use Rattle.script_trace.specs.StepLines.{is_in_hand, grab_text, StepInHand, fill_text, FillStep, claim_text, take_text, StepBy}
 use Rattle.script_trace.specs.Adding.{Spells, AddsPart}
 use Rattle.script_trace.proofs.BlockFills.{IsByOther}
-use Rattle.script_trace.proofs.Trees.{Tree, ends, asks, Follows, nowhere, follows_along, follows_parts, follows_all, look_tree, looks_closed, opens_with, retired_tree, retired_follow}
+use Rattle.script_trace.proofs.Trees.{Tree, ends, asks, Follows, nowhere, follows_along, follows_parts, follows_all, look_tree, looks_closed, opens_with, retired_tree, retired_follow, claim_tree, claims_follow}
 use Rattle.script_trace.proofs.CallTrees.{leaf, announce_tree, announce_follows, queue_tree, queue_follows, loan_tree, loan_follows, no_loan_follows, revoke_tree, revoke_follows}
 use Rattle.script_trace.proofs.FlushTrees.{discard_tree, discards_follow, flush_tree, flush_follows, kill_tree, kill_follows, closes_tree, closes_follow}
 use Rattle.script_trace.proofs.InfoTrees.{info_tree, info_follows, binfo_tree, binfo_follows, take_tree, takes_follow, takes_none}
@@ -67,7 +68,7 @@ entries_fulfil P t k es text part is h = subst (λ p. P p.entries) is h
 -- ---- start, stop, t and d
 
 abbrev told_leaf : Trace → Input → List ℕ → Tree
-told_leaf t i text = ends (record { entries = []; inputs = i ∷ []; handles = t.handles; idle = 0; text = text })
+told_leaf t i text = ends (record { entries = []; inputs = i ∷ []; handles = t.handles; idle = 0; text = text; mode = t.mode; told_mode = t.told_mode })
 
 abbrev started : Trace → Event → Tree
 started t (Start (Ok done)) = told_leaf t restart (done_text (codes "start"))
@@ -85,14 +86,14 @@ start_refused t _ es h = absurd h
 
 start_part : (t : Trace) (calls : List Event) (answer : Result (Unit {0}) GcError) (part : Part) → Starts answer calls → Restarts t calls answer part → FollowsPart (start_tree t) part
 start_part t calls (Ok done) part starts is =
-    let q : Part = record { entries = []; inputs = restart ∷ []; handles = t.handles; idle = 0; text = done_text (codes "start") } in
+    let q : Part = record { entries = []; inputs = restart ∷ []; handles = t.handles; idle = 0; text = done_text (codes "start"); mode = t.mode; told_mode = t.told_mode } in
     let h : Follows (start_tree t) (entries_of caller calls) q
     = opens_with caller _ (asks caller to_start (started t)) (Start (Ok tt) ∷ []) calls q starts (Start (Ok tt), [], refl, refl, (refl, refl)) in
     subst (FollowsPart (start_tree t)) (sym is) (subst (λ l. Follows (start_tree t) l q) (sym (append-nil (entries_of caller calls))) h)
 start_part t calls (Err error) part starts is = acts_part t caller calls _ (start_tree t) part is (start_refused t error calls starts)
 
 abbrev stopped : AcqConfig → Trace → Event → Tree
-stopped c t (Stop kill (Ok done)) = retired_tree (retired_by c t.inputs stop) (told_leaf t stop (done_text (codes "stop")))
+stopped c t (Stop kill (Ok done)) = retired_tree t.mode (retired_by c t.inputs stop) (told_leaf t stop (done_text (codes "stop")))
 stopped c t (Stop kill (Err r)) = leaf t (refused_text (codes "stop") (ResourceInUse shown.Closed))
 stopped c t _ = nowhere
 
@@ -118,14 +119,14 @@ stop_refused c t flags (ResourceInUse (shown.Word w)) es (low, (r, same, is)) =
 stop_refused c t flags _ es h = absurd h
 
 -- the acquisition's fills, last
-retired_last : (c : AcqConfig) (t : Trace) (i : Input) (text : List ℕ) (events : List Event) → FillsRetired (retired_by c t.inputs i) events → Follows (retired_tree (retired_by c t.inputs i) (told_leaf t i text)) (entries_of acquirer events) (record { entries = []; inputs = i ∷ []; handles = t.handles; idle = 0; text = text })
+retired_last : (c : AcqConfig) (t : Trace) (i : Input) (text : List ℕ) (events : List Event) → FillsInMode t.mode (retired_by c t.inputs i) events → Follows (retired_tree t.mode (retired_by c t.inputs i) (told_leaf t i text)) (entries_of acquirer events) (record { entries = []; inputs = i ∷ []; handles = t.handles; idle = 0; text = text; mode = t.mode; told_mode = t.told_mode })
 retired_last c t i text events filled =
-    follows_all (retired_tree (retired_by c t.inputs i) (told_leaf t i text)) (entries_of acquirer events) _
-    (retired_follow (retired_by c t.inputs i) events (told_leaf t i text) [] _ filled (refl, refl))
+    follows_all (retired_tree t.mode (retired_by c t.inputs i) (told_leaf t i text)) (entries_of acquirer events) _
+    (retired_follow t.mode (retired_by c t.inputs i) events (told_leaf t i text) [] _ filled (refl, refl))
 
 stop_part : (c : AcqConfig) (t : Trace) (flags : ℕ) (calls : List Event) (answer : Result (Unit {0}) GcError) (part : Part) → Stops flags answer calls → StopsAcquiring c t calls answer part → FollowsPart (stop_tree c t flags) part
 stop_part c t flags calls (Ok done) part (low, is) s =
-    let q : Part = record { entries = []; inputs = stop ∷ []; handles = t.handles; idle = 0; text = done_text (codes "stop") } in
+    let q : Part = record { entries = []; inputs = stop ∷ []; handles = t.handles; idle = 0; text = done_text (codes "stop"); mode = t.mode; told_mode = t.told_mode } in
     let h : Follows (stop_tree c t flags) (entry caller (Stop (flags == 1) (Ok tt)) ∷ entries_of acquirer s.events) q
     = stop_low c t flags (dec_le flags 1) (Ok tt) (entries_of acquirer s.events) q low (retired_last c t stop (done_text (codes "stop")) s.events s.filled) in
     subst (FollowsPart (stop_tree c t flags)) (sym s.is)
@@ -133,37 +134,35 @@ stop_part c t flags calls (Ok done) part (low, is) s =
 stop_part c t flags calls (Err error) part stops is = acts_part t caller calls _ (stop_tree c t flags) part is (stop_refused c t flags error calls stops)
 
 abbrev settles_tree : AcqConfig → Trace → Input → List ℕ → Tree
-settles_tree c t i text = retired_tree (retired_by c t.inputs i) (told_leaf t i text)
+settles_tree c t i text = retired_tree t.mode (retired_by c t.inputs i) (told_leaf t i text)
 
 settles_part : (c : AcqConfig) (t : Trace) (i : Input) (text : List ℕ) (part : Part) → Settles c t [] i text part → FollowsPart (settles_tree c t i text) part
 settles_part c t i text part s = subst (FollowsPart (settles_tree c t i text)) (sym s.is) (retired_last c t i text s.events s.filled)
 
 abbrev twice_leaf : Trace → List ℕ → Option ℕ → Tree
-twice_leaf t bytes claim = ends (record { entries = []; inputs = told_twice t bytes claim; handles = t.handles; idle = 0; text = [] })
+twice_leaf t bytes claim = ends (record { entries = []; inputs = told_twice t bytes claim; handles = t.handles; idle = 0; text = []; mode = t.mode; told_mode = t.told_mode })
 
 abbrev after_claim : AcqConfig → Trace → List ℕ → Option ℕ → Tree
 after_claim c t bytes claim =
-    retired_tree (retired_by c (t.inputs ++ datagram bytes ∷ claimed (outcome (board t) claim) ∷ []) (datagram bytes)) (twice_leaf t bytes claim)
-
-abbrev claim_seen : AcqConfig → Trace → List ℕ → Event → Tree
-claim_seen c t bytes (Claim claim) = after_claim c t bytes claim
-claim_seen c t bytes _ = nowhere
+    retired_tree t.mode (retired_by c (t.inputs ++ datagram bytes ∷ claimed (outcome (board t) claim) ∷ []) (datagram bytes)) (twice_leaf t bytes claim)
 
 abbrev again_tree : AcqConfig → Trace → List ℕ → Tree
-again_tree c t bytes = retired_tree (retired_by c t.inputs (datagram bytes)) (asks acquirer to_claim (claim_seen c t bytes))
+again_tree c t bytes = retired_tree t.mode (retired_by c t.inputs (datagram bytes)) (claim_tree t.mode (after_claim c t bytes))
 
 again_part : (c : AcqConfig) (t : Trace) (bytes : List ℕ) (part : Part) → HeardAgain c t bytes part → FollowsPart (again_tree c t bytes) part
 again_part c t bytes part h =
-    let q : Part = record { entries = []; inputs = told_twice t bytes h.claim; handles = t.handles; idle = 0; text = [] } in
-    let later : List Input = t.inputs ++ datagram bytes ∷ claimed (outcome (board t) h.claim) ∷ [] in
-    let second : Follows (after_claim c t bytes h.claim) (entries_of acquirer h.second) q
-    = follows_all (after_claim c t bytes h.claim) (entries_of acquirer h.second) q
-    (retired_follow (retired_by c later (datagram bytes)) h.second (twice_leaf t bytes h.claim) [] q h.filled (refl, refl)) in
-    let claims : Follows (asks acquirer to_claim (claim_seen c t bytes)) (entry acquirer (Claim h.claim) ∷ entries_of acquirer h.second) q
-    = (Claim h.claim, entries_of acquirer h.second, refl, refl, second) in
+    let got : Option ℕ = place_of h.claim in
+    let q : Part = record { entries = []; inputs = told_twice t bytes got; handles = t.handles; idle = 0; text = []; mode = t.mode; told_mode = t.told_mode } in
+    let later : List Input = t.inputs ++ datagram bytes ∷ claimed (outcome (board t) got) ∷ [] in
+    let second : Follows (after_claim c t bytes got) (entries_of acquirer h.second) q
+    = follows_all (after_claim c t bytes got) (entries_of acquirer h.second) q
+    (retired_follow t.mode (retired_by c later (datagram bytes)) h.second (twice_leaf t bytes got) [] q h.filled (refl, refl)) in
+    let claims : Follows (claim_tree t.mode (after_claim c t bytes)) (entries_of acquirer (h.claims ++ h.second)) q
+    = follows_parts (claim_tree t.mode (after_claim c t bytes)) acquirer h.claims h.second q
+    (claims_follow t.mode h.claim h.claims (after_claim c t bytes) (entries_of acquirer h.second) q h.got second) in
     subst (FollowsPart (again_tree c t bytes)) (sym h.is)
-    (follows_parts (again_tree c t bytes) acquirer h.first (Claim h.claim ∷ h.second) q
-    (retired_follow (retired_by c t.inputs (datagram bytes)) h.first (asks acquirer to_claim (claim_seen c t bytes)) (entry acquirer (Claim h.claim) ∷ entries_of acquirer h.second) q h.displaced claims))
+    (follows_parts (again_tree c t bytes) acquirer h.first (h.claims ++ h.second) q
+    (retired_follow t.mode (retired_by c t.inputs (datagram bytes)) h.first (claim_tree t.mode (after_claim c t bytes)) (entries_of acquirer (h.claims ++ h.second)) q h.displaced claims))
 
 abbrev hears_tree : AcqConfig → Trace → List ℕ → Option ℕ → Tree
 hears_tree c t bytes None = settles_tree c t (datagram bytes) []
@@ -216,21 +215,21 @@ asks_part t place generation which true part (answer, asked) = loan_part t place
 asks_part t place generation which false part (answer, calls) =
     calls_part t _ _ (binfo_tree t (buffer place generation) which) part calls (binfo_follows t (buffer place generation) which answer calls.events calls.kind)
 
-abbrev handles_leaf : Handles → List ℕ → Tree
-handles_leaf handles text = ends (record { entries = []; inputs = []; handles = handles; idle = 0; text = text })
+abbrev handles_leaf : Trace → Handles → List ℕ → Tree
+handles_leaf t handles text = ends (record { entries = []; inputs = []; handles = handles; idle = 0; text = text; mode = t.mode; told_mode = t.told_mode })
 
 abbrev stream_tree : Trace → ℕ → Bool → Tree
-stream_tree t serial false = handles_leaf (left_open t serial) (done_text (codes "close"))
-stream_tree t serial true = closes_tree (handles_leaf (left_open t serial) (done_text (codes "close")))
+stream_tree t serial false = handles_leaf t (left_open t serial) (done_text (codes "close"))
+stream_tree t serial true = closes_tree (handles_leaf t (left_open t serial) (done_text (codes "close")))
 
 stream_part : (t : Trace) (serial : ℕ) (closes : Bool) (part : Part) → ClosesStream t serial closes part → FollowsPart (stream_tree t serial closes) part
 stream_part t serial false part is = subst (FollowsPart (stream_tree t serial false)) (sym is) (refl, refl)
 stream_part t serial true part (events, closes, is) =
-    subst (FollowsPart (stream_tree t serial true)) (sym is) (closes_follow (handles_leaf (left_open t serial) (done_text (codes "close"))) events _ closes (refl, refl))
+    subst (FollowsPart (stream_tree t serial true)) (sym is) (closes_follow (handles_leaf t (left_open t serial) (done_text (codes "close"))) events _ closes (refl, refl))
 
 abbrev close_tree : Trace → ℕ → Result (List ℕ) GcError → Tree
 close_tree t serial (Ok closed) = stream_tree t serial (is_among closed (Some 4))
-close_tree t serial (Err error) = handles_leaf t.handles (refused_text (codes "close") error)
+close_tree t serial (Err error) = handles_leaf t t.handles (refused_text (codes "close") error)
 
 close_part : (t : Trace) (serial : ℕ) (answer : Result (List ℕ) GcError) (part : Part) → ClosesHandle t serial answer part → FollowsPart (close_tree t serial answer) part
 close_part t serial (Ok closed) part h = stream_part t serial (is_among closed (Some 4)) part h
@@ -307,6 +306,16 @@ step_part t k act.SweepPool i part apart from (pooled, is) = one_part t k (Sweep
 step_part t k act.SweepOut i part apart from (output, is) = one_part t k (SweepOut output) _ part is refl
 step_part t k act.Close i part apart from is = one_part t k Close _ part is refl
 
+-- ---- mode
+
+abbrev mode_line_tree : Trace → ℕ → Bool → Tree
+mode_line_tree t n true = leaf t (refused_text (codes "mode") (ResourceInUse shown.Closed))
+mode_line_tree t n false = ends (sets_mode t (mode_of n))
+
+mode_part : (t : Trace) (n : ℕ) (running : Bool) (part : Part) → ModeIfRunning t n running part → FollowsPart (mode_line_tree t n running) part
+mode_part t n true part is = subst (FollowsPart (mode_line_tree t n true)) (sym is) (refl, refl)
+mode_part t n false part is = subst (FollowsPart (mode_line_tree t n false)) (sym is) (refl, refl)
+
 -- ---- all lines
 
 abbrev pub line_tree : AcqConfig → Trace → ScriptLine → Tree
@@ -324,9 +333,10 @@ line_tree c t line.kill = kill_tree t
 line_tree c t line.event_flush = discard_tree (leaf t (done_text (codes "event-flush")))
 line_tree c t (line.info which) = info_tree t which
 line_tree c t (line.buffer_info place generation which) = asks_tree t place generation which (is_of_loan which)
-line_tree c t (line.open_child parent index) = handles_leaf (with_opened t.handles (opening_handle t.handles parent index)) (opened_text (opening_handle t.handles parent index))
+line_tree c t (line.open_child parent index) = handles_leaf t (with_opened t.handles (opening_handle t.handles parent index)) (opened_text (opening_handle t.handles parent index))
 line_tree c t (line.close_all serial) = close_tree t serial (closing t.handles serial)
 line_tree c t (line.step actor a place) = step_tree t actor a (unwrap_or place 0)
+line_tree c t (line.mode n) = mode_line_tree t n ((board t).run == 1)
 line_tree c t line.end_of_script = nowhere
 line_tree c t line.camera_header = nowhere
 line_tree c t (line.command peer digits) = nowhere
@@ -361,6 +371,7 @@ part_follows c t (line.step actor a place) part ok runs from steps =
     let few : actor ≤ 4 = ok in
     let apart : actor ≢ acquirer = λ e. omega (arith, e, few) in
     step_part t actor a (unwrap_or place 0) part apart from steps
+part_follows c t (line.mode n) part ok runs from is = mode_part t n ((board t).run == 1) part is
 part_follows c t line.end_of_script part ok runs from s = absurd s
 part_follows c t line.camera_header part ok runs from s = absurd s
 part_follows c t (line.command peer digits) part ok runs from s = absurd s

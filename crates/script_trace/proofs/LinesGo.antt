@@ -21,13 +21,13 @@ use Rattle.board_machine.specs.declared.events.Event.{Event}
 use Rattle.board_machine.specs.declared.events.Event.TheVariants.{Grab, Lay, Pool, Claim, SweepPool, Fill, Take, SweepOut, Close}
 use Rattle.board_machine.specs.declared.events.TakeEnd.TheVariants as end
 use Rattle.board_machine.specs.Places.{times}
-use Rattle.board_machine.specs.Machine.{Board, Item, word_at, hand, places, IsActor, InHand, after_event}
+use Rattle.board_machine.specs.Machine.{Board, Item, word_at, hand, places, IsActor, InHand}
 use Rattle.board_machine.specs.Histories.{RunsFrom, Run, after_from}
 use Rattle.board_machine.specs.Ids.{buffer_at}
 use Rattle.board_machine.specs.Adding.{entries_of, KeepsActors}
 use Rattle.board_machine.proofs.Answers.{is_held_as, held_as_true, held_as_false}
 use Rattle.board_machine.proofs.Runs.{after-append, runs-append, run_owned}
-use Rattle.board_calls.specs.Calls.{Borrows, Closes}
+use Rattle.board_calls.specs.Calls.{Borrows, Closes, run_word}
 use Rattle.board_calls.specs.Loans.{loan_value}
 use Rattle.board_model.specs.Plain.{lying, filling_of}
 use Rattle.board_model.specs.Holdings.{emptied}
@@ -45,7 +45,8 @@ use Rattle.script_trace.specs.Trace.{Trace, Part, grown, board, caller, acquirer
 use Rattle.script_trace.specs.Answers.{refused_text, done_text, answer_text, id_text, value_text}
 use Rattle.script_trace.specs.Contents.{contents_of, FillsFrom}
 use Rattle.script_trace.specs.BoardLines.{buffer, AnnounceLine, QueueLine, RevokeLine, FlushLine, TakeIfOpen, KillLine, EventFlushLine, InfoLine, AsksBuffer, is_of_loan, open_event}
-use Rattle.script_trace.specs.StreamLines.{FillsRetired, retired_by, tells, Settles, Restarts, StartLine, StopsAcquiring, StopLine, requests_text, idles, outcome, told_twice, HeardAgain, Hears, HearsIfRunning, DatagramLine}
+use Rattle.script_trace.specs.StreamLines.{retired_by, tells, Settles, Restarts, StartLine, StopsAcquiring, StopLine, requests_text, idles, outcome, told_twice, HeardAgain, Hears, HearsIfRunning, DatagramLine, sets_mode, ModeIfRunning}
+use Rattle.script_trace.specs.Modes.{mode_of, FillsInMode, place_of}
 use Rattle.script_trace.specs.HandleLines.{handles_are, OpenLine, left_open, ClosesStream, ClosesHandle}
 use Rattle.script_trace.specs.StepLines.{is_in_hand, grab_text, GrabStep, StepInHand, FillStep, ClaimStep, TakeStep, SweepPoolStep, SweepOutStep, StepLine, fill_text}
 use Rattle.script_trace.specs.Adding.{Spells, Leads}
@@ -141,8 +142,8 @@ settles_on c t calls i said ready goes back =
     let kept : Holds mid (held s.opens) =
     others_hold (board t) (entries_of caller calls) (held s.opens) (run_owned t.entries ready.run) goes.runs (own_none caller calls refl) ready.holds in
     let actor : IsActor mid acquirer = goes.actors acquirer (ready.actors 5 (omega arith)) in
-    let filled : FillsAll (contents_of t.entries) mid (retired_by c t.inputs i) (held (step c s i).after.opens) =
-    fills_all (contents_of t.entries) (retired_by c t.inputs i) mid (held (step c s i).after.opens) actor (subst (Holds mid) (sym back) kept) in
+    let filled : FillsAll (contents_of t.entries) t.mode mid (retired_by c t.inputs i) (held (step c s i).after.opens) =
+    fills_all (contents_of t.entries) t.mode (retired_by c t.inputs i) mid (held (step c s i).after.opens) actor (subst (Holds mid) (sym back) kept) in
     let part : Part = tells t calls i filled.events said in
     let joined : after_from (board t) part.entries ≡ after_events mid acquirer filled.events =
     after-append (board t) (entries_of caller calls) (entries_of acquirer filled.events) in
@@ -171,13 +172,13 @@ again_on c t bytes some ready =
     let s1 : State = (step c s d).after in
     let actor : IsActor b acquirer = ready.actors 5 (omega arith) in
     let back : GivesBack c.p s.opens (step c s d) = no_buffer_is_lost c t.inputs d some in
-    let first : FillsAll contents b (retired_by c t.inputs d) (held s1.opens) =
-    fills_all contents (retired_by c t.inputs d) b (held s1.opens) actor (subst (Holds b) (sym back) ready.holds) in
+    let first : FillsAll contents t.mode b (retired_by c t.inputs d) (held s1.opens) =
+    fills_all contents t.mode (retired_by c t.inputs d) b (held s1.opens) actor (subst (Holds b) (sym back) ready.holds) in
     let b1 : Board = after_events b acquirer first.events in
-    let claim : Claims contents b1 = claim_can contents b1 first.actor in
-    let told : Input = claimed (outcome b claim.claim) in
+    let claim : Claims contents t.mode b1 = claim_can contents t.mode b1 first.actor in
+    let told : Input = claimed (outcome b (place_of claim.claim)) in
     let s2 : State = (step c s1 told).after in
-    let b2 : Board = after_event b1 acquirer (Claim claim.claim) in
+    let b2 : Board = after_events b1 acquirer claim.events in
     let once : After c (t.inputs ++ d ∷ []) ≡ s1 = after_from-append c first_state t.inputs (d ∷ []) in
     let twice : After c (t.inputs ++ d ∷ told ∷ []) ≡ s2 = after_from-append c first_state t.inputs (d ∷ told ∷ []) in
     let took : KeepsBuffers c s1 told (step c s1 told) =
@@ -185,28 +186,33 @@ again_on c t bytes some ready =
     let holds2 : Holds b2 (held s2.opens) = claim.holds b s1.asked (held s1.opens) (held s2.opens) first.sizes took.1 first.holds in
     let back2 : GivesBack c.p s2.opens (step c s2 d) =
     subst (λ u. GivesBack c.p u.opens (step c u d)) twice (no_buffer_is_lost c (t.inputs ++ d ∷ told ∷ []) d some) in
-    let last : FillsAll contents b2 (fills c.p (step c s2 d).retired) (held (step c s2 d).after.opens) =
-    fills_all contents (fills c.p (step c s2 d).retired) b2 (held (step c s2 d).after.opens) claim.actor (subst (Holds b2) (sym back2) holds2) in
-    let events : List Event = first.events ++ Claim claim.claim ∷ last.events in
-    let middle : Goes contents b1 acquirer (Claim claim.claim ∷ last.events) =
-    goes_both contents b1 acquirer (Claim claim.claim ∷ []) last.events claim.goes last.goes in
-    let goes : Goes contents b acquirer events = goes_both contents b acquirer first.events (Claim claim.claim ∷ last.events) first.goes middle in
-    let joined : after_events b acquirer events ≡ after_events b2 acquirer last.events = after_both b acquirer first.events (Claim claim.claim ∷ last.events) in
+    let last : FillsAll contents t.mode b2 (fills c.p (step c s2 d).retired) (held (step c s2 d).after.opens) =
+    fills_all contents t.mode (fills c.p (step c s2 d).retired) b2 (held (step c s2 d).after.opens) claim.actor (subst (Holds b2) (sym back2) holds2) in
+    let events : List Event = first.events ++ (claim.events ++ last.events) in
+    let middle : Goes contents b1 acquirer (claim.events ++ last.events) =
+    goes_both contents b1 acquirer claim.events last.events claim.goes last.goes in
+    let goes : Goes contents b acquirer events = goes_both contents b acquirer first.events (claim.events ++ last.events) first.goes middle in
+    let joined : after_events b acquirer events ≡ after_events b2 acquirer last.events =
+    after_both b acquirer first.events (claim.events ++ last.events) ∙ after_both b1 acquirer claim.events last.events in
     let part : Part = record {
       entries = entries_of acquirer events;
-      inputs = told_twice t bytes claim.claim;
+      inputs = told_twice t bytes (place_of claim.claim);
       handles = t.handles;
       idle = 0;
       text = [];
+      mode = t.mode;
+      told_mode = t.told_mode;
     } in
     record {
       part = part;
       line = record {
         first = first.events;
         claim = claim.claim;
+        claims = claim.events;
         second = last.events;
         displaced = first.filled;
-        filled = subst (λ u. FillsRetired (fills c.p (step c u d).retired) last.events) (sym twice) last.filled;
+        got = claim.got;
+        filled = subst (λ u. FillsInMode t.mode (fills c.p (step c u d).retired) last.events) (sym twice) last.filled;
         is = refl;
       };
       runs = goes.runs;
@@ -322,10 +328,10 @@ buffer_on c t id which false ready =
 
 closes_on : (c : AcqConfig) (t : Trace) (serial : ℕ) (closes : Bool) → Ready c t → GoesOn c t (ClosesStream t serial closes)
 closes_on c t serial false ready =
-    silent_on c t (handles_are [] (left_open t serial) (done_text (codes "close"))) (ClosesStream t serial false) ready refl refl refl
+    silent_on c t (handles_are t [] (left_open t serial) (done_text (codes "close"))) (ClosesStream t serial false) ready refl refl refl
 closes_on c t serial true ready =
     let can : Can (contents_of t.entries) (board t) caller Closes = close_can (contents_of t.entries) (board t) caller (caller_ready c t ready) in
-    let part : Part = handles_are can.events (left_open t serial) (done_text (codes "close")) in
+    let part : Part = handles_are t can.events (left_open t serial) (done_text (codes "close")) in
     record {
       part = part;
       line = (can.events, can.kind, refl);
@@ -337,7 +343,14 @@ closes_on c t serial true ready =
 close_on : (c : AcqConfig) (t : Trace) (serial : ℕ) (answer : Result (List ℕ) GcError) → Ready c t → GoesOn c t (ClosesHandle t serial answer)
 close_on c t serial (Ok closed) ready = closes_on c t serial (is_among closed (Some 4)) ready
 close_on c t serial (Err error) ready =
-    silent_on c t (handles_are [] t.handles (refused_text (codes "close") error)) (ClosesHandle t serial (Err error)) ready refl refl refl
+    silent_on c t (handles_are t [] t.handles (refused_text (codes "close") error)) (ClosesHandle t serial (Err error)) ready refl refl refl
+
+-- ---- mode
+
+mode_on : (c : AcqConfig) (t : Trace) (n : ℕ) (running : Bool) → Ready c t → GoesOn c t (ModeIfRunning t n running)
+mode_on c t n true ready =
+    silent_on c t (only_says t (refused_text (codes "mode") (ResourceInUse (shown.Word (run_word (board t).run))))) (ModeIfRunning t n true) ready refl refl refl
+mode_on c t n false ready = silent_on c t (sets_mode t (mode_of n)) (ModeIfRunning t n false) ready refl refl refl
 
 -- ---- steps
 
@@ -476,6 +489,7 @@ line_on c t (line.close_all serial) some at ready = close_on c t serial (closing
 line_on c t (line.step actor a place) some at ready =
     let few : actor ≤ 4 = at.actor_to in
     step_on c t actor a place at.takes ready (let apart : actor ≢ 5 = λ e. omega (arith, e, few) in ne_eqb actor 5 apart) (ready.actors actor (omega (arith, few)))
+line_on c t (line.mode n) some at ready = mode_on c t n ((board t).run == 1) ready
 line_on c t line.end_of_script some at ready = absurd at
 line_on c t line.camera_header some at ready = absurd at
 line_on c t (line.command peer digits) some at ready = absurd at

@@ -1,15 +1,13 @@
 -- What lines mean.
-use Rattle.std.proofs.Common.{◌≡◌, ℕ, Bool, true, false, List, length, slice_index, refl, sym, ap, ◌∙◌, Result, Ok, Err, nat_eq, nat_lt, nat_le, not, inl, inr}
-use Rattle.std.specs.Prelude.{◌&&◌, ◌^◌, if◌then◌else◌}
-use Rattle.std.proofs.lemmas.Bool.{cond-true, cond-false, cases_Bool, and_parts, eqb-true}
+use Rattle.std.proofs.Common.{◌≡◌, ℕ, true, false, List, refl, sym, ◌∙◌, Result, Ok, Err, inl, inr}
+use Rattle.std.proofs.lemmas.Bool.{cond-false, cases_Bool, and_parts, eqb-true}
 use Rattle.hex.specs.declared.error.FromHexError.{FromHexError}
 use Rattle.hex.specs.Hex.{decode_of}
-use Rattle.gvsp_wire.specs.Reading.{is_extended}
 use Rattle.gev_script.specs.Lines as line
 use Rattle.gev_script.specs.Lines.{ScriptLine}
 use Rattle.acquisition_machine.specs.declared.config.AcqConfig.{AcqConfig}
-use Rattle.script_trace.specs.Trace.{Trace, board}
-use Rattle.script_trace.specs.Wide.{Wide, nothing_wide, is_standard, Meaning, itself, wider, none, standard_meaning, meaning_of_bytes, meaning_decoded, meaning, said_by}
+use Rattle.script_trace.specs.Trace.{Trace}
+use Rattle.script_trace.specs.Wide.{Wide, nothing_wide, is_standard, itself, wider, standard_meaning, meaning_of_bytes, meaning_decoded, meaning, said_by}
 
 -- before a datagram was widened the report is the trace's
 pub said_plain : (c : AcqConfig) (t : Trace) (l : ScriptLine) (text : List ℕ) → said_by c t l false text ≡ text

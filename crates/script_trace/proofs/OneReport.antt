@@ -4,7 +4,6 @@ use Rattle.std.specs.Prelude.{Ok}
 use Rattle.hex.specs.Hex.{encode_lower}
 use Rattle.gev_script.specs.Lines as line
 use Rattle.gev_script.specs.Lines.{ScriptLine, Config}
-use Rattle.gev_script.specs.Spelling.{IsScriptLine}
 use Rattle.gev_script.proofs.Unspelled.{unspelled}
 use Rattle.script_runs.specs.declared.ran.Ran.{Ran}
 use Rattle.script_runs.specs.declared.ran.Ran.TheVariants.{GoesOn, Ended}
@@ -12,7 +11,7 @@ use Rattle.script_runs.specs.Runs.{RunsLines, AreLines}
 use Rattle.board_machine.specs.declared.events.Entry.{Entry}
 use Rattle.acquisition_machine.specs.declared.config.AcqConfig.{AcqConfig}
 use Rattle.script_trace.specs.Trace.{Trace, Part, grown, board}
-use Rattle.script_trace.specs.Adding.{Spells, AddsPart, Leads}
+use Rattle.script_trace.specs.Adding.{AddsPart, Leads}
 use Rattle.script_trace.specs.Opening.{opening}
 use Rattle.script_trace.specs.Wide.{Wide, nothing_wide, Meaning, itself, wider, none, meaning, said_by, Tells, DoesAs, Does, kept_behind}
 use Rattle.script_trace.specs.Standing.{Standing, first, running, config_of, RunsLater, RunsFirst, RunsEnd, ReplayRuns}

@@ -9,7 +9,9 @@ use Rattle.board_machine.specs.Machine.{Item}
 use Rattle.board_machine.specs.Histories.{Run}
 use Rattle.board_machine.proofs.Forms.{prefix_cases}
 use Rattle.board_machine.proofs.Handouts.{run_legal}
+use Rattle.mode_calls.specs.Dropped.{others}
 use Rattle.script_trace.specs.Trace.{Trace}
+use Rattle.script_trace.specs.Modes.{acquires}
 use Rattle.script_trace.specs.Adding.{Leads}
 use Rattle.script_trace.specs.Opening.{opening}
 use Rattle.script_trace.specs.Fills.{tried_blocks, retired_items, IsRetired, IsHandedSo}
@@ -18,7 +20,7 @@ use Rattle.script_trace.proofs.Histories.{opening_runs, leads_run}
 use Rattle.script_trace.proofs.BlockFills.{IsByOther, leads_agree, opening_agrees}
 use Rattle.block_fills.proofs.Acquisitions.{retired_blocks}
 use Rattle.script_trace.proofs.Starting.{leads_clean, opening_clean}
-use Rattle.script_trace.proofs.Handing.{leads_empty, opening_empty, filled_all, handed_all}
+use Rattle.script_trace.proofs.Handing.{leads_empty, opening_empty, filled_all, taken_all}
 
 -- of lines of which no step is the acquisition's
 pub traces_keep_by : (c : AcqConfig) (lines : List ScriptLine) (t : Trace) → 1 ≤ c.window → AllByRecursion IsByOther lines → Leads c opening lines t → KeepsPromises c t
@@ -35,7 +37,8 @@ traces_keep_by c lines t some are leads =
       legal = run_legal t.entries run;
       retired = agree;
       blocks = blocks;
-      handed = handed_all (IsHandedSo c t.inputs) t.entries (filled_all P t.entries empty blocks);
+      handed = taken_all (IsHandedSo c t.inputs) (others acquires) t.entries (filled_all P t.entries empty blocks);
+      dropped = taken_all (IsHandedSo c t.inputs) acquires t.entries (filled_all P t.entries empty blocks);
     }
 
 pub by_other : (l : ScriptLine) → IsScriptLine l → IsByOther l

@@ -17,9 +17,7 @@ use Rattle.board_machine.specs.Adding.{entries_of}
 use Rattle.board_calls.specs.Calls.{FlushesBy, FlushesToOutput, FlushesToInput, DiscardsAll, Announces, Queues, Revokes, Borrows, Flushes, DiscardsOutput, Gets, Kills, Closes, RefusesGrab, itself, Starts, Stops}
 use Rattle.board_calls.specs.Infos.{InfosBy, BufferInfosBy, Infos, BufferInfos, IsStreamInfo}
 use Rattle.board_calls.specs.Rounds.{refused_from, lays, pools, looks_from, filled_or_laid, FillsEach, Seen, pools_seen, pools_from, PoolsHeld}
-use Rattle.acquisition_machine.specs.declared.retired.Retired.{Retired}
 use Rattle.acquisition_machine.proofs.Order.{all_append}
-use Rattle.script_trace.specs.StreamLines.{FillsRetired}
 
 -- not a start or a stop that was done
 abbrev pub KeepsRun : Event → Type 0
@@ -109,11 +107,6 @@ fills_keep : (is : List ℕ) (es : List Event) → FillsEach is es → KeepRun e
 fills_keep [] es is = along es [] is tt
 fills_keep (i ∷ is) es (f, filled, rest, empty, parts, more) =
     along es (filled_or_laid i f filled ++ rest) parts (both (filled_or_laid i f filled) rest (filled_keep i f filled) (fills_keep is rest more))
-
-pub retired_keep : (xs : List Retired) (es : List Event) → FillsRetired xs es → KeepRun es
-retired_keep [] es is = along es [] is tt
-retired_keep (x ∷ xs) es (filled, rest, parts, more) =
-    along es (filled_or_laid x.place x.buf filled ++ rest) parts (both (filled_or_laid x.place x.buf filled) rest (filled_keep x.place x.buf filled) (retired_keep xs rest more))
 
 -- ---- calls
 

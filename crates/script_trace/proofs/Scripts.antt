@@ -8,7 +8,7 @@ use Rattle.gev_script.specs.declared.kind.ScriptKind.{ScriptKind}
 use Rattle.gev_script.specs.declared.kind.ScriptKind.TheVariants as kinds
 use Rattle.gev_script.specs.Lines as line
 use Rattle.gev_script.specs.Lines.{ScriptLine, Config}
-use Rattle.gev_script.specs.Spelling.{IsScriptLine, IsConfig}
+use Rattle.gev_script.specs.Spelling.{IsConfig}
 use Rattle.gev_script.specs.Words.{Read}
 use Rattle.gev_script.specs.Grammar.{line_of}
 use Rattle.gev_script.proofs.Unspelled.{unspelled}
@@ -17,7 +17,7 @@ use Rattle.script_runs.specs.declared.ran.Ran.TheVariants.{GoesOn, Ended}
 use Rattle.script_runs.specs.Runs.{RunsLines, AreLines}
 use Rattle.script_runs.specs.Verdicts.{goes_on, ends, bad}
 use Rattle.acquisition_machine.specs.declared.config.AcqConfig.{AcqConfig}
-use Rattle.script_trace.specs.Trace.{Trace, Part, grown}
+use Rattle.script_trace.specs.Trace.{Trace, grown}
 use Rattle.script_trace.specs.Adding.{Leads}
 use Rattle.script_trace.specs.Opening.{opening}
 use Rattle.script_trace.specs.Wide.{Wide, nothing_wide, Meaning, itself, wider, none, meaning, said_by, DoesAs, Does, kept_behind}

@@ -24,14 +24,16 @@ use Rattle.acquisition_machine.specs.TurnLaws.{asked_by}
 use Rattle.acquisition_machine.proofs.Joining.{after_from-append}
 use Rattle.script_trace.specs.Trace.{Trace, Part, grown, board, caller, acquirer, acts, Calls}
 use Rattle.script_trace.specs.BoardLines.{TakeIfOpen, AsksBuffer, AsksLoan, open_event, is_of_loan, buffer}
-use Rattle.script_trace.specs.StreamLines.{retired_by, Settles, Restarts, StopsAcquiring, HeardAgain, Hears, HearsIfRunning, outcome}
+use Rattle.script_trace.specs.StreamLines.{retired_by, Settles, Restarts, StopsAcquiring, HeardAgain, Hears, HearsIfRunning, outcome, ModeIfRunning}
 use Rattle.script_trace.specs.HandleLines.{ClosesHandle, ClosesStream}
 use Rattle.script_trace.specs.StepLines.{StepBy, StepInHand, FillStep, is_in_hand}
 use Rattle.script_trace.specs.Adding.{Spells, Leads}
 use Rattle.script_trace.specs.Opening.{opening}
-use Rattle.script_trace.proofs.RunWord.{KeepRun, run_kept, along, retired_keep, announces_keep, queues_keep, borrows_keep, revokes_keep, discards_keep, kills_keep, closes_keep, gets_keep, starts_keep, stops_keep, flushes_keep, infos_keep, buffer_infos_keep}
+use Rattle.script_trace.proofs.RunWord.{KeepRun, run_kept, along, announces_keep, queues_keep, borrows_keep, revokes_keep, discards_keep, kills_keep, closes_keep, gets_keep, starts_keep, stops_keep, flushes_keep, infos_keep, buffer_infos_keep}
 use Rattle.acquisition_machine.proofs.Order.{all_append}
 use Rattle.script_trace.proofs.RunWord.{KeepsRun}
+use Rattle.script_trace.proofs.Quiet.{claims_quiet, quiet_keep, retired_keep}
+use Rattle.script_trace.specs.Modes.{place_of}
 use Rattle.block_fills.specs.Laws.{StartsClean}
 use Rattle.block_fills.proofs.Acquisitions.{starts-append}
 
@@ -75,22 +77,23 @@ tick_clean c t moment said part rests s =
       starts = tt;
       rests = λ off.
           tick_none c (After c t.inputs) moment
-          (rests (λ on. off (run_of_fills (board t) s.events (retired_keep (retired_by c t.inputs (tick moment)) s.events s.filled) ∙ on)));
+          (rests (λ on. off (run_of_fills (board t) s.events (retired_keep t.mode (retired_by c t.inputs (tick moment)) s.events s.filled) ∙ on)));
     })
 
 running_clean : (c : AcqConfig) (t : Trace) (bytes : List ℕ) (part : Part) → (board t).run ≡ 1 → Settles c t [] (datagram bytes) [] part → PartClean c t part
 running_clean c t bytes part on s =
     subst (PartClean c t) (sym s.is)
-    (record { starts = tt; rests = λ off. absurd (off (run_of_fills (board t) s.events (retired_keep (retired_by c t.inputs (datagram bytes)) s.events s.filled) ∙ on)) })
+    (record { starts = tt; rests = λ off. absurd (off (run_of_fills (board t) s.events (retired_keep t.mode (retired_by c t.inputs (datagram bytes)) s.events s.filled) ∙ on)) })
 
 again_clean : (c : AcqConfig) (t : Trace) (bytes : List ℕ) (part : Part) → (board t).run ≡ 1 → HeardAgain c t bytes part → PartClean c t part
 again_clean c t bytes part on h =
-    let later : List Input = t.inputs ++ datagram bytes ∷ claimed (outcome (board t) h.claim) ∷ [] in
-    let keep : KeepRun (h.first ++ Claim h.claim ∷ h.second)
-    = all_append KeepsRun h.first (Claim h.claim ∷ h.second) (retired_keep (retired_by c t.inputs (datagram bytes)) h.first h.displaced)
-    (tt, retired_keep (retired_by c later (datagram bytes)) h.second h.filled) in
+    let later : List Input = t.inputs ++ datagram bytes ∷ claimed (outcome (board t) (place_of h.claim)) ∷ [] in
+    let keep : KeepRun (h.first ++ (h.claims ++ h.second))
+    = all_append KeepsRun h.first (h.claims ++ h.second) (retired_keep t.mode (retired_by c t.inputs (datagram bytes)) h.first h.displaced)
+    (all_append KeepsRun h.claims h.second (quiet_keep h.claims (claims_quiet t.mode h.claim h.claims h.got))
+    (retired_keep t.mode (retired_by c later (datagram bytes)) h.second h.filled)) in
     subst (PartClean c t) (sym h.is)
-    (record { starts = tt; rests = λ off. absurd (off (run_kept (board t) acquirer (h.first ++ Claim h.claim ∷ h.second) keep ∙ on)) })
+    (record { starts = tt; rests = λ off. absurd (off (run_kept (board t) acquirer (h.first ++ (h.claims ++ h.second)) keep ∙ on)) })
 
 -- ---- start and stop
 
@@ -164,6 +167,10 @@ step_clean c t k act.SweepPool i part rests (pooled, is) = still_clean c t k (Sw
 step_clean c t k act.SweepOut i part rests (output, is) = still_clean c t k (SweepOut output ∷ []) _ part rests (tt, tt) is
 step_clean c t k act.Close i part rests is = still_clean c t k (Close ∷ []) _ part rests (tt, tt) is
 
+mode_clean : (c : AcqConfig) (t : Trace) (n : ℕ) (running : Bool) (part : Part) → Rests (board t) (After c t.inputs) → ModeIfRunning t n running part → PartClean c t part
+mode_clean c t n true part rests is = subst (PartClean c t) (sym is) (record { starts = tt; rests = rests })
+mode_clean c t n false part rests is = subst (PartClean c t) (sym is) (record { starts = tt; rests = rests })
+
 line_clean : (c : AcqConfig) (t : Trace) (l : ScriptLine) (part : Part) → Rests (board t) (After c t.inputs) → RunsFrom (board t) part.entries → Spells c t l part → PartClean c t part
 line_clean c t (line.header config) part rests runs s = absurd s
 line_clean c t (line.announce size) part rests runs (answer, some, calls) = calls_clean c t _ _ part rests (announces_keep size answer) calls
@@ -182,6 +189,7 @@ line_clean c t (line.buffer_info place generation which) part rests runs asks = 
 line_clean c t (line.open_child parent index) part rests runs is = subst (PartClean c t) (sym is) (record { starts = tt; rests = rests })
 line_clean c t (line.close_all serial) part rests runs closes = close_clean c t serial (closing t.handles serial) part rests closes
 line_clean c t (line.step actor a place) part rests runs steps = step_clean c t actor a (unwrap_or place 0) part rests steps
+line_clean c t (line.mode n) part rests runs is = mode_clean c t n ((board t).run == 1) part rests is
 line_clean c t line.end_of_script part rests runs s = absurd s
 line_clean c t line.camera_header part rests runs s = absurd s
 line_clean c t (line.command peer digits) part rests runs s = absurd s

@@ -1,20 +1,23 @@
 -- What a line asks for, as a tree: each act follows from the answers before it. Two lists of entries that
 -- follow one tree and run from one board are the same.
-use Rattle.std.proofs.Common.{◌≡◌, ◌≢◌, ◌⊎◌, inl, inr, ℕ, zero, suc, ◌+◌, Bool, true, false, List, [], ◌∷◌, ◌++◌, length, refl, sym, ap, subst, ◌∙◌, append_assoc, append-nil, arith}
+use Rattle.std.proofs.Common.{◌≡◌, ◌≢◌, ◌⊎◌, inl, inr, ℕ, zero, suc, ◌+◌, ◌<◌, Bool, true, false, List, [], ◌∷◌, ◌++◌, length, refl, sym, ap, subst, ◌∙◌, append_assoc, append-nil, arith}
 use Rattle.std.specs.Prelude.{◌==◌, Option, Some, None, Result, Ok, Err}
 use Rattle.std.proofs.lemmas.Bool.{eq-eqb, ne_eqb}
 use Rattle.gentl_types.specs.declared.word.Word.{Word}
 use Rattle.gentl_types.specs.declared.word.State.{State}
 use Rattle.gentl_types.specs.declared.word.State.TheVariants.{Vacant, Held, Away}
 use Rattle.gev_types.specs.Filling.{Filling}
+use Rattle.gev_types.specs.Limits.{place_count}
 use Rattle.gentl_handles.specs.Handles.{no_handles}
 use Rattle.board_machine.specs.declared.events.Entry.{Entry}
 use Rattle.board_machine.specs.declared.events.Event.{Event}
-use Rattle.board_machine.specs.declared.events.Event.TheVariants.{Look, LookOut, Grab, Lay, Pool, Fill}
+use Rattle.board_machine.specs.declared.events.Event.TheVariants.{Look, LookOut, Grab, Lay, Pool, Fill, Claim, Take}
+use Rattle.board_machine.specs.declared.events.TakeEnd.{TakeEnd}
+use Rattle.board_machine.specs.declared.events.TakeEnd.TheVariants as taken
 use Rattle.board_machine.specs.Machine.{Board, entry, next}
 use Rattle.board_machine.specs.Histories.{RunsFrom}
 use Rattle.board_machine.specs.Adding.{entries_of}
-use Rattle.board_machine.specs.Acts.{Act, act_of, to_look, to_look_out, to_grab, to_lay, to_pool, to_fill}
+use Rattle.board_machine.specs.Acts.{Act, act_of, to_look, to_look_out, to_grab, to_lay, to_pool, to_fill, to_claim, to_take}
 use Rattle.board_machine.proofs.Answers.{answer_to, only_answer}
 use Rattle.board_calls.specs.Calls.{LooksOut, OpensWith}
 use Rattle.board_calls.specs.Rounds.{lays, pools, looks_from, filled_or_laid, FillsEach, Seen, pools_seen, pools_from, IsGrabOf, AreGrabbedIfHeld}
@@ -24,7 +27,11 @@ use Rattle.board_model.specs.Holdings.{emptied}
 use Rattle.acquisition_machine.specs.declared.retired.Retired.{Retired}
 use Rattle.script_trace.specs.Trace.{Part, acquirer}
 use Rattle.script_trace.specs.Contents.{FillsFrom}
-use Rattle.script_trace.specs.StreamLines.{FillsRetired}
+use Rattle.mode_calls.specs.declared.mode.Mode.{Mode}
+use Rattle.mode_calls.specs.declared.mode.Mode.TheVariants.{OldestFirst, OldestFirstOverwrite, NewestOnly}
+use Rattle.mode_calls.specs.Modes.{GotNothing, ClaimsOnly, ClaimsOrTakes, ClaimsFor, takes_and_pools, DropsFor}
+use Rattle.script_trace.specs.Modes.{FillsInMode, place_of}
+use Rattle.script_trace.proofs.Quiet.{BlockParts, block_parts}
 
 pub data Tree : Type 0 where
   -- nothing more is asked, and this is the rest of the part
@@ -56,7 +63,7 @@ one_way b (asks k a later) es fs p q (e, rest, is, act, more) (f, others, is_als
 
 -- an answer that no act has
 abbrev pub nowhere : Tree
-nowhere = ends (record { entries = []; inputs = []; handles = no_handles; idle = 0; text = [] })
+nowhere = ends (record { entries = []; inputs = []; handles = no_handles; idle = 0; text = []; mode = OldestFirst; told_mode = false })
 
 pub ask : (k : ℕ) (a : Act) (later : Event → Tree) (e : Event) (rest : List Entry) (q : Part) → act_of e ≡ a → Follows (later e) rest q → Follows (asks k a later) (entry k e ∷ rest) q
 ask k a later e rest q act more = (e, rest, refl, act, more)
@@ -127,19 +134,136 @@ pub fill_follow : (k i : ℕ) (f : Filling) (filled : Bool) (later : Tree) (rest
 fill_follow k i f true later rest q h = (Fill i f true, rest, refl, refl, h)
 fill_follow k i f false later rest q h = (Fill i f false, entry k (Lay i) ∷ rest, refl, refl, (Lay i, rest, refl, refl, h))
 
--- the acquisition's
-abbrev pub retired_tree : List Retired → Tree → Tree
-retired_tree [] later = later
-retired_tree (x ∷ xs) later = fill_tree acquirer x.place x.buf (retired_tree xs later)
+-- places that are taken and pooled, at most so many, until a take gets nothing
+abbrev pub dropped_then : ℕ → Tree → Tree → Event → Tree
+dropped_then k more later (Take (taken.Taken i)) = asks k (to_pool i) (λ e. more)
+dropped_then k more later (Take taken.Empty) = later
+dropped_then k more later (Take taken.Closed) = later
+dropped_then k more later _ = nowhere
 
-pub retired_follow : (xs : List Retired) (es : List Event) (later : Tree) (rest : List Entry) (q : Part) → FillsRetired xs es → Follows later rest q → Follows (retired_tree xs later) (entries_of acquirer es ++ rest) q
-retired_follow [] es later rest q is h = subst (λ l. Follows later (entries_of acquirer l ++ rest) q) (sym is) h
-retired_follow (x ∷ xs) es later rest q (filled, others, parts, more) h =
-    let fill : List Event = filled_or_laid x.place x.buf filled in
-    let along : entries_of acquirer es ++ rest ≡ entries_of acquirer fill ++ (entries_of acquirer others ++ rest)
-    = ap (λ l. entries_of acquirer l ++ rest) parts ∙ (ap (λ l. l ++ rest) (entries-append acquirer fill others) ∙ append_assoc (entries_of acquirer fill) (entries_of acquirer others) rest) in
-    subst (λ l. Follows (retired_tree (x ∷ xs) later) l q) (sym along)
-    (fill_follow acquirer x.place x.buf filled (retired_tree xs later) (entries_of acquirer others ++ rest) q (retired_follow xs others later rest q more h))
+abbrev pub drops_tree : ℕ → ℕ → Tree → Tree
+drops_tree k zero later = later
+drops_tree k (suc n) later = asks k to_take (dropped_then k (drops_tree k n later) later)
+
+-- how takes end after at most so many
+abbrev pub EndsDrops : ℕ → List ℕ → List Event → Type 0
+EndsDrops n dropped tail =
+    ((end : TakeEnd) × GotNothing end × (length dropped < n) × (tail ≡ Take end ∷ [])) ⊎ ((length dropped ≡ n) × (tail ≡ []))
+
+pub one_fewer : (n i : ℕ) (is : List ℕ) (tail : List Event) → EndsDrops (suc n) (i ∷ is) tail → EndsDrops n is tail
+one_fewer n i is tail (inl (end, nothing, few, is_tail)) = inl (end, nothing, omega (arith, few), is_tail)
+one_fewer n i is tail (inr (all, is_tail)) = inr (omega (arith, all), is_tail)
+
+nothing_follows : (k : ℕ) (end : TakeEnd) (more later : Tree) (rest : List Entry) (q : Part) → GotNothing end → Follows later rest q → Follows (asks k to_take (dropped_then k more later)) (entry k (Take end) ∷ rest) q
+nothing_follows k (taken.Taken i) more later rest q nothing h = absurd nothing
+nothing_follows k taken.Empty more later rest q nothing h = (Take taken.Empty, rest, refl, refl, h)
+nothing_follows k taken.Closed more later rest q nothing h = (Take taken.Closed, rest, refl, refl, h)
+
+drops_follow : (k n : ℕ) (dropped : List ℕ) (tail : List Event) (later : Tree) (rest : List Entry) (q : Part) → EndsDrops n dropped tail → Follows later rest q → Follows (drops_tree k n later) (entries_of k (takes_and_pools dropped ++ tail) ++ rest) q
+drops_follow k zero [] tail later rest q (inl (end, nothing, few, is)) h = absurd (omega (arith, few))
+drops_follow k zero [] tail later rest q (inr (all, is)) h = subst (λ l. Follows later (entries_of k l ++ rest) q) (sym is) h
+drops_follow k zero (i ∷ is) tail later rest q (inl (end, nothing, few, is_tail)) h = absurd (omega (arith, few))
+drops_follow k zero (i ∷ is) tail later rest q (inr (all, is_tail)) h = absurd (omega (arith, all))
+drops_follow k (suc n) [] tail later rest q (inl (end, nothing, few, is)) h =
+    subst (λ l. Follows (drops_tree k (suc n) later) (entries_of k l ++ rest) q) (sym is) (nothing_follows k end (drops_tree k n later) later rest q nothing h)
+drops_follow k (suc n) [] tail later rest q (inr (all, is)) h = absurd (omega (arith, all))
+drops_follow k (suc n) (i ∷ is) tail later rest q drops h =
+    let others : List Entry = entries_of k (takes_and_pools is ++ tail) ++ rest in (
+      Take (taken.Taken i),
+      entry k (Pool i) ∷ others,
+      refl,
+      refl,
+      (Pool i, others, refl, refl, drops_follow k n is tail later rest q (one_fewer n i is tail drops) h),
+    )
+
+-- what the mode drops before a fill
+abbrev pub mode_tree : Mode → Tree → Tree
+mode_tree OldestFirst later = later
+mode_tree OldestFirstOverwrite later = later
+mode_tree NewestOnly later = drops_tree acquirer place_count later
+
+mode_follow : (mode : Mode) (dropped : List ℕ) (front : List Event) (later : Tree) (rest : List Entry) (q : Part) → DropsFor mode dropped front → Follows later rest q → Follows (mode_tree mode later) (entries_of acquirer front ++ rest) q
+mode_follow OldestFirst dropped front later rest q (none, is) h = subst (λ l. Follows later (entries_of acquirer l ++ rest) q) (sym is) h
+mode_follow OldestFirstOverwrite dropped front later rest q (none, is) h = subst (λ l. Follows later (entries_of acquirer l ++ rest) q) (sym is) h
+mode_follow NewestOnly dropped front later rest q (inl d) h =
+    subst (λ l. Follows (drops_tree acquirer place_count later) (entries_of acquirer l ++ rest) q) (sym d.is)
+    (drops_follow acquirer place_count dropped (Take d.end ∷ []) later rest q (inl (d.end, d.nothing, d.few, refl)) h)
+mode_follow NewestOnly dropped front later rest q (inr d) h =
+    subst (λ l. Follows (drops_tree acquirer place_count later) (entries_of acquirer l ++ rest) q) (sym (d.is ∙ sym (append-nil (takes_and_pools dropped))))
+    (drops_follow acquirer place_count dropped [] later rest q (inr (d.all, refl)) h)
+
+-- the acquisition's
+abbrev pub retired_tree : Mode → List Retired → Tree → Tree
+retired_tree mode [] later = later
+retired_tree mode (x ∷ xs) later = mode_tree mode (fill_tree acquirer x.place x.buf (retired_tree mode xs later))
+
+pub retired_follow : (mode : Mode) (xs : List Retired) (es : List Event) (later : Tree) (rest : List Entry) (q : Part) → FillsInMode mode xs es → Follows later rest q → Follows (retired_tree mode xs later) (entries_of acquirer es ++ rest) q
+retired_follow mode [] es later rest q is h = subst (λ l. Follows later (entries_of acquirer l ++ rest) q) (sym is) h
+retired_follow mode (x ∷ xs) es later rest q (first, others, parts, block, more) h =
+    let p : BlockParts mode x first = block_parts mode x first block in
+    let fill : List Event = filled_or_laid x.place x.buf p.filled in
+    let behind : List Entry = entries_of acquirer others ++ rest in
+    let along : entries_of acquirer es ++ rest ≡ entries_of acquirer p.front ++ (entries_of acquirer fill ++ behind)
+    = ap (λ l. entries_of acquirer l ++ rest) parts
+    ∙ (ap (λ l. l ++ rest) (entries-append acquirer first others)
+    ∙ (append_assoc (entries_of acquirer first) (entries_of acquirer others) rest
+    ∙ (ap (λ l. entries_of acquirer l ++ behind) p.is
+    ∙ (ap (λ l. l ++ behind) (entries-append acquirer p.front fill) ∙ append_assoc (entries_of acquirer p.front) (entries_of acquirer fill) behind)))) in
+    subst (λ l. Follows (retired_tree mode (x ∷ xs) later) l q) (sym along)
+    (mode_follow mode p.dropped p.front (fill_tree acquirer x.place x.buf (retired_tree mode xs later)) (entries_of acquirer fill ++ behind) q p.drops
+    (fill_follow acquirer x.place x.buf p.filled (retired_tree mode xs later) behind q (retired_follow mode xs others later rest q more h)))
+
+-- ---- claims
+
+abbrev pub took_then : (Option ℕ → Tree) → Event → Tree
+took_then later (Take (taken.Taken i)) = later (Some i)
+took_then later (Take taken.Empty) = later None
+took_then later (Take taken.Closed) = later None
+took_then later _ = nowhere
+
+abbrev pub nothing_then : Mode → (Option ℕ → Tree) → Tree
+nothing_then OldestFirst later = later None
+nothing_then OldestFirstOverwrite later = asks acquirer to_take (took_then later)
+nothing_then NewestOnly later = asks acquirer to_take (took_then later)
+
+abbrev pub claimed_then : Tree → (Option ℕ → Tree) → Event → Tree
+claimed_then nothing later (Claim (Some i)) = later (Some i)
+claimed_then nothing later (Claim None) = nothing
+claimed_then nothing later _ = nowhere
+
+abbrev pub claim_tree : Mode → (Option ℕ → Tree) → Tree
+claim_tree mode later = asks acquirer to_claim (claimed_then (nothing_then mode later) later)
+
+none_follows : (end : TakeEnd) (later : Option ℕ → Tree) (rest : List Entry) (q : Part) → GotNothing end → Follows (later None) rest q → Follows (asks acquirer to_take (took_then later)) (entry acquirer (Take end) ∷ rest) q
+none_follows (taken.Taken i) later rest q nothing h = absurd nothing
+none_follows taken.Empty later rest q nothing h = (Take taken.Empty, rest, refl, refl, h)
+none_follows taken.Closed later rest q nothing h = (Take taken.Closed, rest, refl, refl, h)
+
+only_follows : (claim : Option (ℕ × Bool)) (es : List Event) (later : Option ℕ → Tree) (rest : List Entry) (q : Part) → ClaimsOnly claim es → Follows (later (place_of claim)) rest q → Follows (claim_tree OldestFirst later) (entries_of acquirer es ++ rest) q
+only_follows None es later rest q is h =
+    subst (λ l. Follows (claim_tree OldestFirst later) (entries_of acquirer l ++ rest) q) (sym is) (Claim None, rest, refl, refl, h)
+only_follows (Some (i, false)) es later rest q is h =
+    subst (λ l. Follows (claim_tree OldestFirst later) (entries_of acquirer l ++ rest) q) (sym is) (Claim (Some i), rest, refl, refl, h)
+only_follows (Some (i, true)) es later rest q is h = absurd is
+
+-- a claim, and a take behind one that got nothing
+abbrev takes_tree : (Option ℕ → Tree) → Tree
+takes_tree later = claim_tree OldestFirstOverwrite later
+
+takes_follow : (claim : Option (ℕ × Bool)) (es : List Event) (later : Option ℕ → Tree) (rest : List Entry) (q : Part) → ClaimsOrTakes claim es → Follows (later (place_of claim)) rest q → Follows (takes_tree later) (entries_of acquirer es ++ rest) q
+takes_follow None es later rest q (end, nothing, is) h =
+    subst (λ l. Follows (takes_tree later) (entries_of acquirer l ++ rest) q) (sym is)
+    (Claim None, entry acquirer (Take end) ∷ rest, refl, refl, none_follows end later rest q nothing h)
+takes_follow (Some (i, false)) es later rest q is h =
+    subst (λ l. Follows (takes_tree later) (entries_of acquirer l ++ rest) q) (sym is) (Claim (Some i), rest, refl, refl, h)
+takes_follow (Some (i, true)) es later rest q is h =
+    subst (λ l. Follows (takes_tree later) (entries_of acquirer l ++ rest) q) (sym is)
+    (Claim None, entry acquirer (Take (taken.Taken i)) ∷ rest, refl, refl, (Take (taken.Taken i), rest, refl, refl, h))
+
+pub claims_follow : (mode : Mode) (claim : Option (ℕ × Bool)) (es : List Event) (later : Option ℕ → Tree) (rest : List Entry) (q : Part) → ClaimsFor mode claim es → Follows (later (place_of claim)) rest q → Follows (claim_tree mode later) (entries_of acquirer es ++ rest) q
+claims_follow OldestFirst claim es later rest q claims h = only_follows claim es later rest q claims h
+claims_follow OldestFirstOverwrite claim es later rest q claims h = takes_follow claim es later rest q claims h
+claims_follow NewestOnly claim es later rest q claims h = takes_follow claim es later rest q claims h
 
 -- those of a flush
 abbrev pub fill_if : ℕ → ℕ → Option Filling → Tree → Tree

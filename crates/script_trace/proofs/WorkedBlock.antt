@@ -22,6 +22,8 @@ use Rattle.board_calls.specs.Calls.{run_word}
 use Rattle.board_calls.specs.Infos.{InfosBy}
 use Rattle.acquisition_machine.specs.Machine.{stop, restart}
 use Rattle.script_trace.specs.StreamLines.{tells, idles, told_twice}
+use Rattle.mode_calls.specs.declared.mode.Mode.TheVariants.{OldestFirst}
+use Rattle.script_trace.specs.Modes.{FillsBlock}
 use Rattle.hex.specs.Hex.{decode_pairs}
 use Rattle.wire_fields.specs.Fields.{number_at}
 use Rattle.gvsp_wire.specs.Reading.{reading, header_of, leader_of, sized_info}
@@ -117,7 +119,7 @@ adds4 = record {
 }
 
 abbrev part5 : Part
-part5 = record { entries = entries_of acquirer (Claim (Some 0) ∷ []); inputs = told_twice s4 bytes (Some 0); handles = s4.handles; idle = 0; text = [] }
+part5 = record { entries = entries_of acquirer (Claim (Some 0) ∷ []); inputs = told_twice s4 bytes (Some 0); handles = s4.handles; idle = 0; text = []; mode = s4.mode; told_mode = s4.told_mode }
 
 abbrev s5 : Trace
 s5 = grown s4 part5
@@ -125,7 +127,7 @@ s5 = grown s4 part5
 adds5 : AddsPart config s4 (line.datagram (codes "0000000081000000000000000000000100000000000000010000000000000000010800010000000300000001000000000000000000000000")) part5
 unfolding decode_pairs reading header_of number_at leader_of sized_info
 adds5 = record {
-  spells = (bytes, refl, record { first = []; claim = Some 0; second = []; displaced = refl; filled = refl; is = refl });
+  spells = (bytes, refl, record { first = []; claim = Some (0, false); claims = Claim (Some 0) ∷ []; second = []; displaced = refl; got = refl; filled = refl; is = refl });
   runs = (record { actor = λ e. cc; meets = ([], refl) }, tt);
   fills = (tt, tt);
 }
@@ -139,10 +141,20 @@ part6 = tells s5 events6 stop (Fill 0 leader_only true ∷ []) (done_text (codes
 abbrev s6 : Trace
 s6 = grown s5 part6
 
+-- the one block that is open
+fills_leader : FillsBlock OldestFirst (record { place = 0; buf = leader_only }) (Fill 0 leader_only true ∷ [])
+fills_leader = record {
+  dropped = [];
+  filled = true;
+  call = Fill 0 leader_only true ∷ [];
+  fills = record { front = []; drops = (refl, refl); is = refl };
+  is = refl;
+}
+
 adds6 : AddsPart config s5 (line.stop 1) part6
 unfolding decode_pairs reading header_of number_at leader_of sized_info
 adds6 = record {
-  spells = (Ok tt, events6, (lit≤ tt, refl), record { events = Fill 0 leader_only true ∷ []; filled = (true, [], refl, refl); is = refl });
+  spells = (Ok tt, events6, (lit≤ tt, refl), record { events = Fill 0 leader_only true ∷ []; filled = (Fill 0 leader_only true ∷ [], [], refl, fills_leader, refl); is = refl });
   runs = (record { actor = λ e. cc; meets = refl }, (record { actor = λ e. cc; meets = (lit≤ tt, refl, refl) }, tt));
   fills = (tt, (inl refl, tt));
 }

@@ -41,7 +41,7 @@ with_nothing = record {
 -- ---- handles
 
 abbrev opens : Trace → Option ℕ → ℕ → Part
-opens t parent index = handles_are [] (with_opened t.handles (opening_handle t.handles parent index)) (opened_text (opening_handle t.handles parent index))
+opens t parent index = handles_are t [] (with_opened t.handles (opening_handle t.handles parent index)) (opened_text (opening_handle t.handles parent index))
 
 open_adds : (t : Trace) (parent : Option ℕ) (index : ℕ) → AddsPart config t (line.open_child parent index) (opens t parent index)
 open_adds t parent index = record { spells = refl; runs = tt; fills = tt }
@@ -62,13 +62,13 @@ abbrev h4 : Trace
 h4 = grown h3 (opens h3 (Some 9) 0)
 
 abbrev closes_device : Part
-closes_device = handles_are closing_events (left_open h4 3) (done_text (codes "close"))
+closes_device = handles_are h4 closing_events (left_open h4 3) (done_text (codes "close"))
 
 abbrev h5 : Trace
 h5 = grown h4 closes_device
 
 abbrev not_open : Part
-not_open = handles_are [] h5.handles (refused_text (codes "close") (InvalidHandle (shown.NoHandle 4)))
+not_open = handles_are h5 [] h5.handles (refused_text (codes "close") (InvalidHandle (shown.NoHandle 4)))
 
 abbrev h6 : Trace
 h6 = grown h5 not_open

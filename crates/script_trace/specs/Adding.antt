@@ -7,7 +7,7 @@ use Rattle.acquisition_machine.specs.declared.config.AcqConfig.{AcqConfig}
 use Rattle.script_trace.specs.Trace.{Trace, Part, grown, board}
 use Rattle.script_trace.specs.Contents.{contents_of, FillsFrom}
 use Rattle.script_trace.specs.BoardLines.{buffer, AnnounceLine, QueueLine, RevokeLine, FlushLine, TakeLine, KillLine, EventFlushLine, InfoLine, BufferInfoLine}
-use Rattle.script_trace.specs.StreamLines.{StartLine, StopLine, TickLine, DatagramLine}
+use Rattle.script_trace.specs.StreamLines.{StartLine, StopLine, TickLine, DatagramLine, ModeLine}
 use Rattle.script_trace.specs.HandleLines.{OpenLine, CloseLine}
 use Rattle.script_trace.specs.StepLines.{StepLine}
 
@@ -31,6 +31,7 @@ Spells c t (line.buffer_info place generation which) part = BufferInfoLine t (bu
 Spells c t (line.open_child parent index) part = OpenLine t parent index part
 Spells c t (line.close_all serial) part = CloseLine t serial part
 Spells c t (line.step actor act place) part = StepLine t actor act place part
+Spells c t (line.mode n) part = ModeLine t n part
 Spells c t line.end_of_script part = ⊥
 Spells c t line.camera_header part = ⊥
 Spells c t (line.command peer digits) part = ⊥

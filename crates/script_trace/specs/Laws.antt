@@ -10,11 +10,13 @@ use Rattle.script_runs.specs.Runs.{RunsLines, AreLines}
 use Rattle.script_runs.specs.Verdicts.{Judges}
 use Rattle.board_machine.specs.declared.events.Entry.{Entry}
 use Rattle.board_machine.specs.Histories.{After, Run}
-use Rattle.board_machine.specs.Handout.{IsLegal, handed_items}
+use Rattle.board_machine.specs.Handout.{IsLegal}
 use Rattle.board_machine.specs.Owners.{IsOwned}
 use Rattle.acquisition_machine.specs.declared.config.AcqConfig.{AcqConfig}
 use Rattle.acquisition_machine.specs.Runs.{After as AcqAfter}
+use Rattle.mode_calls.specs.Dropped.{dropped_items, handed_out_items}
 use Rattle.script_trace.specs.Trace.{Trace, board}
+use Rattle.script_trace.specs.Modes.{acquires}
 use Rattle.script_trace.specs.Adding.{Leads}
 use Rattle.script_trace.specs.Opening.{opening}
 use Rattle.script_trace.specs.Wide.{Wide}
@@ -22,17 +24,19 @@ use Rattle.script_trace.specs.Standing.{Standing, first, running, ReplayRuns, Re
 use Rattle.script_trace.specs.Fills.{tried_blocks, retired_items, IsRetired, IsHandedSo}
 
 -- The history is one that the board machine makes; at each step of it each buffer has one owner; filled
--- buffers are handed out once, in the order of their fills, and none after a close. What the acquisition
--- filled, or tried to fill where the stream was closed, are the blocks that the acquisition machine
--- retires with a buffer, all of them and in order. Each of them holds its block's frame, or what came of
--- it; and so does each buffer that was handed out, but for those with the empty record.
+-- buffers are handed out or dropped once, in the order of their fills, and none after a close. What the
+-- acquisition filled, or tried to fill where the stream was closed, are the blocks that the acquisition
+-- machine retires with a buffer, all of them and in order. Each of them holds its block's frame, or what
+-- came of it; and so does each buffer that was handed out, which is one that an actor other than the
+-- acquisition's took, and each that the acquisition took and so dropped, but for those with the empty record.
 pub record KeepsPromises (c : AcqConfig) (t : Trace) : Type 0 where
   pub run : Run t.entries
   pub owned : (front rest : List Entry) → t.entries ≡ front ++ rest → IsOwned (After front)
   pub legal : IsLegal t.entries
   pub retired : tried_blocks t ≡ retired_items c t.inputs
   pub blocks : AllByRecursion (IsRetired c t.inputs) (tried_blocks t)
-  pub handed : AllByRecursion (IsHandedSo c t.inputs) (handed_items t.entries)
+  pub handed : AllByRecursion (IsHandedSo c t.inputs) (handed_out_items acquires t.entries)
+  pub dropped : AllByRecursion (IsHandedSo c t.inputs) (dropped_items acquires t.entries)
 
 -- so it is of every trace that lines lead to
 abbrev pub TracesKeepPromises : Type 0
@@ -101,6 +105,7 @@ IsInPlace (line.buffer_info place generation which) = ⊤
 IsInPlace (line.open_child parent index) = ⊤
 IsInPlace (line.close_all serial) = ⊤
 IsInPlace (line.step actor act place) = IsStep actor act place
+IsInPlace (line.mode n) = ⊤
 IsInPlace line.end_of_script = ⊥
 IsInPlace line.camera_header = ⊥
 IsInPlace (line.command peer digits) = ⊥

@@ -1,5 +1,6 @@
 pub mod Trace
 pub mod Contents
+pub mod Modes
 pub mod Answers
 pub mod BoardLines
 pub mod StreamLines
@@ -11,5 +12,6 @@ pub mod Ending
 pub mod Wide
 pub mod Standing
 pub mod Fills
+pub mod Takes
 pub mod Laws
 pub mod Worked

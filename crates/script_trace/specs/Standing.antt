@@ -86,7 +86,7 @@ pub record RunsFirst (text report : List ℕ) (new : Standing) : Type 0 where
   pub silent : report ≡ []
   pub after : new ≡ running (config_of config) (nothing_wide config.version) opening
 
--- The last line is run, with the last line of the report.
+-- The last line is run, with the last lines of the report.
 pub record RunsEnd (c : AcqConfig) (w : Wide) (t : Trace) (text report : List ℕ) (new : Standing) : Type 0 where
   pub in_place : later_kind text ≡ None
   pub read : line_of text ≡ Ok line.end_of_script

@@ -1,5 +1,5 @@
 -- The trace of a replay script: what its lines have done so far, and what one more line adds.
-use Rattle.std.specs.Prelude.{◌≡◌, ℕ, ◌+◌, List, [], ◌++◌}
+use Rattle.std.specs.Prelude.{◌≡◌, ℕ, ◌+◌, Bool, List, [], ◌++◌}
 use Rattle.acquisition_machine.specs.Machine.{Input}
 use Rattle.board_machine.specs.declared.events.Entry.{Entry}
 use Rattle.board_machine.specs.declared.events.Event.{Event}
@@ -7,6 +7,7 @@ use Rattle.board_machine.specs.Machine.{Board}
 use Rattle.board_machine.specs.Histories.{After}
 use Rattle.board_machine.specs.Adding.{entries_of}
 use Rattle.gentl_handles.specs.Handles.{Handles}
+use Rattle.mode_calls.specs.declared.mode.Mode.{Mode}
 
 pub record Trace : Type 0 where
   -- the history of the board of the stream with serial 4
@@ -19,14 +20,20 @@ pub record Trace : Type 0 where
   pub idle : ℕ
   -- the report so far
   pub text : List ℕ
+  -- the buffer handling mode
+  pub mode : Mode
+  -- whether a line that sets it was answered ok
+  pub told_mode : Bool
 
--- what one line adds, with the handles that are open after it
+-- what one line adds, with the handles that are open after it, and the mode
 pub record Part : Type 0 where
   pub entries : List Entry
   pub inputs : List Input
   pub handles : Handles
   pub idle : ℕ
   pub text : List ℕ
+  pub mode : Mode
+  pub told_mode : Bool
 
 -- the trace with this part added
 abbrev pub grown : Trace → Part → Trace
@@ -36,6 +43,8 @@ grown t part = record {
   handles = part.handles;
   idle = t.idle + part.idle;
   text = t.text ++ part.text;
+  mode = part.mode;
+  told_mode = part.told_mode;
 }
 
 -- the board after the trace
@@ -52,11 +61,19 @@ acquirer = 5
 
 -- a line that touches neither board nor acquisition nor handles, with its report
 abbrev pub only_says : Trace → List ℕ → Part
-only_says t said = record { entries = []; inputs = []; handles = t.handles; idle = 0; text = said }
+only_says t said = record { entries = []; inputs = []; handles = t.handles; idle = 0; text = said; mode = t.mode; told_mode = t.told_mode }
 
 -- these acts of one actor, and the line's report
 abbrev pub acts : Trace → ℕ → List Event → List ℕ → Part
-acts t k events said = record { entries = entries_of k events; inputs = []; handles = t.handles; idle = 0; text = said }
+acts t k events said = record {
+  entries = entries_of k events;
+  inputs = [];
+  handles = t.handles;
+  idle = 0;
+  text = said;
+  mode = t.mode;
+  told_mode = t.told_mode;
+}
 
 -- The line is a call of this actor, with events of this kind, and with this report.
 pub record Calls (t : Trace) (k : ℕ) (Kind : List Event → Type 0) (said : List ℕ) (part : Part) : Type 0 where

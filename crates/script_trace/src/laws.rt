@@ -1,13 +1,14 @@
 //! What the definitions promise: each function here does nothing, and its contract is a law.
 
 ghost use Rattle.script_trace.specs.Worked.{ScriptsAreWorked};
+ghost use Rattle.script_trace.specs.Takes.{TakesAreCounted};
 ghost use Rattle.script_trace.specs.Laws.{TracesKeepPromises, RunsKeepPromises, LinesAreJudged, TraceIsOne, ReportIsOne, TracesRest, LinesHaveATrace};
 
 /// Of every trace: its history is the board machine's, each buffer has one owner at each step of it,
-/// and filled buffers are handed out once, in the order of their fills, none after a close. The
+/// and filled buffers are handed out or dropped once, in the order of their fills, none after a close. The
 /// acquisition's fills are the blocks that retire with a buffer, all and in order; each of them, and so
-/// each buffer that is handed out with a block in it, is its block's frame, or has each received byte in
-/// place and isn't marked complete.
+/// each buffer that is handed out or dropped with a block in it, is its block's frame, or has each received
+/// byte in place and isn't marked complete.
 pub fn traces_keep_promises()
     ensures { TracesKeepPromises }
 {}
@@ -16,6 +17,13 @@ pub fn traces_keep_promises()
 /// datagram was widened, as in every script of version 1.
 pub fn runs_keep_promises()
     ensures { RunsKeepPromises }
+{}
+
+/// What the takes of some actors took in a history, as the end of a report counts it, are the buffers that
+/// they removed from the output: so what is counted as handed out was handed out, and what is counted as
+/// dropped was dropped.
+pub fn takes_are_counted()
+    ensures { TakesAreCounted }
 {}
 
 /// Between two lines the acquisition awaits no claim, and where the stream isn't running no block is

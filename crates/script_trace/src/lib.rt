@@ -12,5 +12,5 @@ mod laws;
 
 pub use laws::{
     lines_are_judged, lines_have_a_trace, report_is_one, runs_keep_promises, scripts_are_worked,
-    trace_is_one, traces_keep_promises, traces_rest,
+    takes_are_counted, trace_is_one, traces_keep_promises, traces_rest,
 };

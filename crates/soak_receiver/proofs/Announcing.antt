@@ -45,6 +45,7 @@ begun r stands keeps config = record {
   keeps = keeps;
   config = config;
   handles = stands.handles;
+  oldest_first = stands.mode;
   board = stands.behind.board.board.state;
   trace = opening;
   leads = refl;
@@ -57,12 +58,13 @@ record TellsNothing (after : Board) (t : Trace) (part : Part) : Type 0 where
   untold : part.inputs ≡ []
   leaves : after_from (board t) part.entries ≡ after
 
-begun_on : (l : ScriptLine) (lines : List ScriptLine) (b after : Board) (old new : Running) (said : List ℕ) → IsBeginning lines b old → Goes l old said new → new.tree ≡ old.tree
+begun_on : (l : ScriptLine) (lines : List ScriptLine) (b after : Board) (old new : Running) (said : List ℕ) → IsBeginning lines b old → Goes l old said new → new.tree ≡ old.tree → new.mode ≡ old.mode
     → ((t : Trace) (part : Part) → board t ≡ b → AddsPart soak_config t l part → TellsNothing after t part) → IsBeginning (lines ++ l ∷ []) after new
-begun_on l lines b after old new said was goes same tells_none = record {
+begun_on l lines b after old new said was goes same same_mode tells_none = record {
   keeps = goes.keeps;
   config = goes.config ∙ was.config;
   handles = same ∙ was.handles;
+  oldest_first = same_mode ∙ was.oldest_first;
   board = one.stands.behind.board.board.state ∙ (after-append empty_board was.trace.entries one.part.entries ∙ none.leaves);
   trace = grown was.trace one.part;
   leads = leads_on soak_config opening lines was.trace l one.part was.leads adds;
@@ -181,9 +183,9 @@ announce_leaves n (Err ResourceExhausted) es few some (sized, (words, wide, open
     absurd (refused.none n within (subst (λ k. CanEnrol (word_at (stocked n) k)) (sym (zero-add n)) (can_enrol_next n few)))
 announce_leaves n (Err error) es few some kind runs = absurd kind
 
-pub announced_one : (n : ℕ) (old new : Running) (said : List ℕ) → n < 4 → IsStocked n old → Goes (line.announce 3072) old said new → new.tree ≡ old.tree → IsAnnounced n new
-announced_one n old new said few was goes same =
-    begun_on (line.announce 3072) (stock_lines n) (stocked n) (announced n) old new said was goes same adds_one
+pub announced_one : (n : ℕ) (old new : Running) (said : List ℕ) → n < 4 → IsStocked n old → Goes (line.announce 3072) old said new → new.tree ≡ old.tree → new.mode ≡ old.mode → IsAnnounced n new
+announced_one n old new said few was goes same same_mode =
+    begun_on (line.announce 3072) (stock_lines n) (stocked n) (announced n) old new said was goes same same_mode adds_one
   where
     adds_one : (t : Trace) (part : Part) → board t ≡ stocked n → AddsPart soak_config t (line.announce 3072) part → TellsNothing (announced n) t part
     adds_one t part is adds =
@@ -217,10 +219,10 @@ lines_next (suc (suc zero)) few = refl
 lines_next (suc (suc (suc zero))) few = refl
 lines_next (suc (suc (suc (suc n)))) few = absurd (omega (arith, few))
 
-pub queued_one : (n : ℕ) (old new : Running) (said : List ℕ) → n < 4 → IsAnnounced n old → Goes (line.queue n 1) old said new → new.tree ≡ old.tree → IsStocked (n + 1) new
-queued_one n old new said few was goes same =
+pub queued_one : (n : ℕ) (old new : Running) (said : List ℕ) → n < 4 → IsAnnounced n old → Goes (line.queue n 1) old said new → new.tree ≡ old.tree → new.mode ≡ old.mode → IsStocked (n + 1) new
+queued_one n old new said few was goes same same_mode =
     subst (λ (lines : List ScriptLine). IsBeginning lines (stocked (n + 1)) new) (lines_next n few)
-    (begun_on (line.queue n 1) (stock_lines n ++ line.announce 3072 ∷ []) (announced n) (stocked (n + 1)) old new said was goes same adds_one)
+    (begun_on (line.queue n 1) (stock_lines n ++ line.announce 3072 ∷ []) (announced n) (stocked (n + 1)) old new said was goes same same_mode adds_one)
   where
     adds_one : (t : Trace) (part : Part) → board t ≡ announced n → AddsPart soak_config t (line.queue n 1) part → TellsNothing (stocked (n + 1)) t part
     adds_one t part is adds =
@@ -261,9 +263,9 @@ start_left t part (Err (ResourceInUse (shown.Word w))) calls is untold (r, word,
     absurd (omega (arith, run_is, one, none))
 start_left t part (Err error) calls is untold starts restarts runs = absurd starts
 
-pub started : (old new : Running) (said : List ℕ) → IsStocked 4 old → Goes line.start old said new → new.tree ≡ old.tree → HasBegun new
-started old new said was goes same = record {
-  hosting = record { keeps = goes.keeps; config = goes.config ∙ was.config; handles = same ∙ was.handles; opened = opened };
+pub started : (old new : Running) (said : List ℕ) → IsStocked 4 old → Goes line.start old said new → new.tree ≡ old.tree → new.mode ≡ old.mode → HasBegun new
+started old new said was goes same same_mode = record {
+  hosting = record { keeps = goes.keeps; config = goes.config ∙ was.config; handles = same ∙ was.handles; oldest_first = same_mode ∙ was.oldest_first; opened = opened };
   trace = grown was.trace one.part;
   leads = leads_on soak_config opening (stock_lines 4) was.trace line.start one.part was.leads adds;
   stands = one.stands;

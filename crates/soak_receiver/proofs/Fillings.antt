@@ -11,7 +11,7 @@ use Rattle.board_machine.proofs.Runs.{after-append, runs_rest}
 use Rattle.board_calls.specs.Rounds.{filled_or_laid}
 use Rattle.acquisition_machine.specs.declared.retired.Retired.{Retired}
 use Rattle.script_trace.specs.Trace.{acquirer}
-use Rattle.script_trace.specs.StreamLines.{FillsRetired}
+use Rattle.block_fills.specs.Fills.{FillsRetired}
 use Rattle.soak_host.specs.Receiver.{acts_on, fills_all}
 
 -- a fill is answered by the close mark

@@ -139,7 +139,7 @@ returned_open place r opened = record { unclosed = opened.unclosed; unkilled = o
 
 pub took_hosting : (place generation : ℕ) (old : Running) (mid new_board : PlainState) (count : ℕ) → IsHosting old → IsReturned place generation old mid new_board count → IsHosting (taken_from old new_board count)
 took_hosting place generation old mid new_board count hosting is =
-    hosting_by line.take (line.take ∷ []) (on_board (returned place)) old (taken_from old new_board count) _ hosting (took_goes place generation old mid new_board count hosting is) refl
+    hosting_by line.take (line.take ∷ []) (on_board (returned place)) old (taken_from old new_board count) _ hosting (took_goes place generation old mid new_board count hosting is) refl refl
     (took_moves place generation old mid new_board count hosting is) (returned_open place)
 
 pub took_first : (place generation : ℕ) (old : Running) (mid new_board : PlainState) (count : ℕ) → IsHosting old → IsReturned place generation old mid new_board count → TookFirst (buffer place generation) old (taken_from old new_board count)
@@ -212,7 +212,7 @@ no_take_moves old new_board refusal hosting called same =
 pub no_take_hosting : (old : Running) (new_board : PlainState) (refusal : GcError) → IsHosting old → AddsOf old.board.board 0 (Gets {T = ℕ} 0 itself (Err refusal)) new_board.board → new_board.contents ≡ old.board.contents
     → IsHosting (taken_from old new_board old.taken)
 no_take_hosting old new_board refusal hosting called same =
-    hosting_by line.take (line.take ∷ []) unchanged old (taken_from old new_board old.taken) _ hosting (no_take_goes old new_board refusal hosting called same) refl
+    hosting_by line.take (line.take ∷ []) unchanged old (taken_from old new_board old.taken) _ hosting (no_take_goes old new_board refusal hosting called same) refl refl
     (no_take_moves old new_board refusal hosting called same) (λ r opened. opened)
 
 pub took_nothing : (old : Running) (new_board : PlainState) (refusal : GcError) → IsHosting old → AddsOf old.board.board 0 (Gets {T = ℕ} 0 itself (Err refusal)) new_board.board → new_board.contents ≡ old.board.contents
@@ -265,7 +265,7 @@ queued_open id r opened = record { unclosed = opened.unclosed; unkilled = opened
 pub queue_hosting : (old : Running) (id : BufferId) (answer : Result (Unit {0}) GcError) (new_board : PlainState) → IsHosting old → id.place < place_count → IsHeldAs (word_at old.board.board id.place) id.generation
     → AddsOf old.board.board 0 (Queues id answer) new_board.board → new_board.contents ≡ old.board.contents → IsHosting (record old { board = new_board })
 queue_hosting old id answer new_board hosting within held called same =
-    hosting_by (line.queue id.place id.generation) (line.queue id.place id.generation ∷ []) (on_board (queued id)) old (record old { board = new_board }) _ hosting (queue_goes old id answer new_board hosting called same) refl
+    hosting_by (line.queue id.place id.generation) (line.queue id.place id.generation ∷ []) (on_board (queued id)) old (record old { board = new_board }) _ hosting (queue_goes old id answer new_board hosting called same) refl refl
     (queue_moves old id answer new_board hosting within held called same) (queued_open id)
 
 -- ---- both

@@ -5,6 +5,7 @@ use Rattle.hex.specs.declared.error.FromHexError.{FromHexError}
 use Rattle.hex.specs.Hex.{decode_of, encode_lower, IsBytes}
 use Rattle.hex.proofs.HexLemmas.{decode_of-encode_lower}
 use Rattle.gev_script.specs.Lines as line
+use Rattle.gev_script.specs.Lines.{ScriptLine}
 use Rattle.board_machine.specs.declared.events.Event.TheVariants.{Claim}
 use Rattle.board_machine.specs.Machine.{Board}
 use Rattle.board_machine.specs.Histories.{RunsFrom}
@@ -18,12 +19,16 @@ use Rattle.acquisition_machine.specs.TurnLaws.{asked_by}
 use Rattle.acq_core.specs.declared.machine.Machine.{Machine}
 use Rattle.acq_core.specs.Receiver.{config_of, asked_block, Takes, KeepsBlocks, buffers}
 use Rattle.acq_core.specs.Waiting.{waiting_fills, waiting_requests}
+use Rattle.mode_calls.specs.declared.mode.Mode.{Mode}
+use Rattle.mode_calls.specs.declared.mode.Mode.TheVariants.{OldestFirst}
 use Rattle.script_trace.specs.Trace.{Trace, Part, board, grown, acquirer}
+use Rattle.script_trace.specs.Adding.{Spells}
 use Rattle.script_trace.specs.StreamLines.{Hears, HearsIfRunning, DatagramLine}
 use Rattle.script_replay.specs.declared.fill_counts.FillCounts.{FillCounts}
 use Rattle.script_replay.specs.declared.running.Running.{Running}
 use Rattle.script_replay.specs.Acquiring.{IsAtRest, Drives, FillsAll, AreAway, lines_of}
 use Rattle.script_replay.specs.Replays.{StandsAt, Goes}
+use Rattle.script_replay.proofs.Claiming.{HearsIn}
 use Rattle.script_replay.proofs.Decoding.{running_drives}
 use Rattle.script_replay.proofs.Driving.{tick_drives, rests}
 use Rattle.script_replay.proofs.Replaying.{drive_goes}
@@ -67,11 +72,11 @@ hears_open bytes r opened = go (r.board.run == 1)
 ok_same : (bytes found : List ℕ) (r : Result (List ℕ) FromHexError) → r ≡ Ok bytes → r ≡ Ok found → found ≡ bytes
 ok_same bytes found r e d = cc
 
-datagram_left : (t : Trace) (digits bytes : List ℕ) (part : Part) (r : Receiver) → IsOpen (board t) → decode_of digits ≡ Ok bytes → DatagramLine soak_config t digits part → RunsFrom (board t) part.entries
+datagram_left : (t : Trace) (digits bytes : List ℕ) (part : Part) (r : Receiver) → t.mode ≡ OldestFirst → IsOpen (board t) → decode_of digits ≡ Ok bytes → DatagramLine soak_config t digits part → RunsFrom (board t) part.entries
     → IsLeft (grown t part) (hears (left_at t r) bytes)
-datagram_left t digits bytes part r opened is (found, decoded, heard) runs =
+datagram_left t digits bytes part r oldest opened is (found, decoded, heard) runs =
     subst (λ (on : Bool). IsLeft (grown t part) (if on then told_again asked bytes (told (datagram bytes) (left_at t r)) else left_at t r)) (sym running)
-    (hears_left t bytes asked part r opened.unclosed heard_so runs)
+    (hears_left t bytes asked part r oldest opened.unclosed heard_so runs)
   where
     asked : Option ℕ
     asked = asked_by (turn soak_config t.inputs (datagram bytes)).need
@@ -92,25 +97,36 @@ open_at old t hosting stands = subst IsOpen stands.behind.board.board.state host
 abbrev pub driven : Running → PlainState → Machine → FillCounts → Running
 driven old new_board acq counts = record old { board = new_board; acq = acq; counts = counts }
 
+-- a line that is driven where waiting buffers stay is driven in the mode of a host
+drives_in : (l : ScriptLine) (old : Running) (said : List ℕ) (new_board : PlainState) (acq : Machine) (counts : FillCounts) → IsHosting old
+    → Drives (λ t part. t.mode ≡ OldestFirst → Spells (config_of old.acq) t l part) 0 old.board old.acq old.counts said new_board acq counts
+    → Drives (λ t part. t.mode ≡ old.mode → Spells (config_of old.acq) t l part) 0 old.board old.acq old.counts said new_board acq counts
+drives_in l old said new_board acq counts hosting drives =
+    subst (λ (mode : Mode). Drives (λ t part. t.mode ≡ mode → Spells (config_of old.acq) t l part) 0 old.board old.acq old.counts said new_board acq counts) (sym hosting.oldest_first) drives
+
+-- the mode of a trace that a host stands behind
+mode_at : (old : Running) (t : Trace) → IsHosting old → StandsAt old t → t.mode ≡ OldestFirst
+mode_at old t hosting stands = sym stands.mode ∙ hosting.oldest_first
+
 heard_goes : (old : Running) (bytes : List ℕ) (new_board : PlainState) (acq : Machine) (counts : FillCounts) → IsHosting old → IsBytes bytes
-    → Drives (λ t. Hears (config_of old.acq) t bytes (asked_by (turn (config_of old.acq) t.inputs (datagram bytes)).need)) 0 old.board old.acq old.counts [] new_board acq counts
+    → Drives (HearsIn (config_of old.acq) OldestFirst bytes) 0 old.board old.acq old.counts [] new_board acq counts
     → IsAtRest new_board acq → config_of acq ≡ config_of old.acq → Goes (heard_line bytes) old [] (driven old new_board acq counts)
 heard_goes old bytes new_board acq counts hosting small drives rest config =
     drive_goes (heard_line bytes) old [] new_board acq counts hosting.keeps
-    (running_drives (config_of old.acq) old.board new_board old.acq acq old.counts counts (encode_lower bytes) bytes (decode_of-encode_lower bytes small) hosting.opened.running drives) rest config
+    (drives_in (heard_line bytes) old [] new_board acq counts hosting (running_drives (config_of old.acq) OldestFirst old.board new_board old.acq acq old.counts counts (encode_lower bytes) bytes (decode_of-encode_lower bytes small) hosting.opened.running drives)) rest config
 
 pub heard_moves : (old : Running) (bytes : List ℕ) (new_board : PlainState) (acq : Machine) (counts : FillCounts) → IsHosting old → IsBytes bytes
-    → Drives (λ t. Hears (config_of old.acq) t bytes (asked_by (turn (config_of old.acq) t.inputs (datagram bytes)).need)) 0 old.board old.acq old.counts [] new_board acq counts
+    → Drives (HearsIn (config_of old.acq) OldestFirst bytes) 0 old.board old.acq old.counts [] new_board acq counts
     → IsAtRest new_board acq → config_of acq ≡ config_of old.acq → Moves (heard_line bytes ∷ []) (λ r. hears r bytes) old (driven old new_board acq counts)
 heard_moves old bytes new_board acq counts hosting small drives rest config =
     moves_by (heard_line bytes) (λ r. hears r bytes) old (driven old new_board acq counts) [] hosting (heard_goes old bytes new_board acq counts hosting small drives rest config)
-    (λ t part r stands adds new_stands. datagram_left t (encode_lower bytes) bytes part r (open_at old t hosting stands) (decode_of-encode_lower bytes small) adds.spells adds.runs)
+    (λ t part r stands adds new_stands. datagram_left t (encode_lower bytes) bytes part r (mode_at old t hosting stands) (open_at old t hosting stands) (decode_of-encode_lower bytes small) adds.spells adds.runs)
 
 pub heard_hosting : (old : Running) (bytes : List ℕ) (new_board : PlainState) (acq : Machine) (counts : FillCounts) → IsHosting old → IsBytes bytes
-    → Drives (λ t. Hears (config_of old.acq) t bytes (asked_by (turn (config_of old.acq) t.inputs (datagram bytes)).need)) 0 old.board old.acq old.counts [] new_board acq counts
+    → Drives (HearsIn (config_of old.acq) OldestFirst bytes) 0 old.board old.acq old.counts [] new_board acq counts
     → IsAtRest new_board acq → config_of acq ≡ config_of old.acq → IsHosting (driven old new_board acq counts)
 heard_hosting old bytes new_board acq counts hosting small drives rest config =
-    hosting_by (heard_line bytes) (heard_line bytes ∷ []) (λ r. hears r bytes) old (driven old new_board acq counts) [] hosting (heard_goes old bytes new_board acq counts hosting small drives rest config) refl
+    hosting_by (heard_line bytes) (heard_line bytes ∷ []) (λ r. hears r bytes) old (driven old new_board acq counts) [] hosting (heard_goes old bytes new_board acq counts hosting small drives rest config) refl refl
     (heard_moves old bytes new_board acq counts hosting small drives rest config) (hears_open bytes)
 
 -- ---- a moment
@@ -118,7 +134,7 @@ heard_hosting old bytes new_board acq counts hosting small drives rest config =
 -- The receiver was told the moment, what retired was filled, and no request waits any more.
 pub record IsTold (moment : ℕ) (old : Running) (new_board : PlainState) (mid fed acq : Machine) (counts : FillCounts) : Type 0 where
   pub takes : Takes old.acq mid (tick moment)
-  pub all : FillsAll (waiting_fills mid) old.board old.counts new_board counts
+  pub all : FillsAll OldestFirst (waiting_fills mid) old.board old.counts new_board counts
   pub keeps : KeepsBlocks mid fed
   pub requests : waiting_requests fed ≡ waiting_requests mid
   pub keeps_too : KeepsBlocks fed acq
@@ -128,19 +144,20 @@ moment_goes : (moment : ℕ) (old : Running) (new_board : PlainState) (mid fed a
     → Goes (line.tick moment) old (lines_of (waiting_requests fed)) (driven old new_board acq counts)
 moment_goes moment old new_board mid fed acq counts hosting is =
     drive_goes (line.tick moment) old (lines_of (waiting_requests fed)) new_board acq counts hosting.keeps
-    (tick_drives old.board new_board old.acq mid fed acq old.counts counts moment [] (lines_of (waiting_requests fed)) hosting.keeps.rest is.takes is.all is.keeps is.requests is.keeps_too refl refl)
+    (drives_in (line.tick moment) old (lines_of (waiting_requests fed)) new_board acq counts hosting
+    (tick_drives OldestFirst old.board new_board old.acq mid fed acq old.counts counts moment [] (lines_of (waiting_requests fed)) hosting.keeps.rest is.takes is.all is.keeps is.requests is.keeps_too refl refl))
     is.rest (is.keeps_too.config ∙ (is.keeps.config ∙ is.takes.config))
 
 pub moment_moves : (moment : ℕ) (old : Running) (new_board : PlainState) (mid fed acq : Machine) (counts : FillCounts) → IsHosting old → IsTold moment old new_board mid fed acq counts
     → Moves (line.tick moment ∷ []) (λ r. told (tick moment) r) old (driven old new_board acq counts)
 moment_moves moment old new_board mid fed acq counts hosting is =
     moves_by (line.tick moment) (λ r. told (tick moment) r) old (driven old new_board acq counts) (lines_of (waiting_requests fed)) hosting (moment_goes moment old new_board mid fed acq counts hosting is)
-    (λ t part r stands adds new_stands. settles_left t (tick moment) _ part r adds.spells adds.runs)
+    (λ t part r stands adds new_stands. settles_left t (tick moment) _ part r (mode_at old t hosting stands) adds.spells adds.runs)
 
 pub moment_hosting : (moment : ℕ) (old : Running) (new_board : PlainState) (mid fed acq : Machine) (counts : FillCounts) → IsHosting old → IsTold moment old new_board mid fed acq counts
     → IsHosting (driven old new_board acq counts)
 moment_hosting moment old new_board mid fed acq counts hosting is =
-    hosting_by (line.tick moment) (line.tick moment ∷ []) (λ r. told (tick moment) r) old (driven old new_board acq counts) (lines_of (waiting_requests fed)) hosting (moment_goes moment old new_board mid fed acq counts hosting is) refl
+    hosting_by (line.tick moment) (line.tick moment ∷ []) (λ r. told (tick moment) r) old (driven old new_board acq counts) (lines_of (waiting_requests fed)) hosting (moment_goes moment old new_board mid fed acq counts hosting is) refl refl
     (moment_moves moment old new_board mid fed acq counts hosting is) (told_open (tick moment))
 
 -- the requests of the moment are those that waited
@@ -152,7 +169,7 @@ moment_asks moment old mid fed before after hosting takes same added t stands =
     ∙ ap (λ (c : AcqConfig). map request_bytes (turn c t.inputs (tick moment)).requests) hosting.config)))
 
 pub is_told : (moment : ℕ) (old : Running) (new_board : PlainState) (mid fed acq : Machine) (counts : FillCounts) → IsHosting old → Takes old.acq mid (tick moment) → asked_block mid ≡ None
-    → FillsAll (waiting_fills mid) old.board old.counts new_board counts → KeepsBlocks mid fed → waiting_requests fed ≡ waiting_requests mid → waiting_fills fed ≡ [] → AreAway new_board (buffers fed)
+    → FillsAll OldestFirst (waiting_fills mid) old.board old.counts new_board counts → KeepsBlocks mid fed → waiting_requests fed ≡ waiting_requests mid → waiting_fills fed ≡ [] → AreAway new_board (buffers fed)
     → KeepsBlocks fed acq → waiting_fills acq ≡ waiting_fills fed → waiting_requests acq ≡ [] → IsTold moment old new_board mid fed acq counts
 is_told moment old new_board mid fed acq counts hosting takes asked all keeps same no_fill away keeps_too fills_same no_request = record {
   takes = takes;

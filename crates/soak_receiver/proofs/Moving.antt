@@ -49,12 +49,13 @@ open_after lines change old new hosting moves stays =
     let was : IsOpen (board t) = subst IsOpen hosting.keeps.stands.behind.board.board.state hosting.opened in
     subst IsOpen (left.board ∙ sym moved.stands.behind.board.board.state) (stays (left_at t start) was)
 
-pub hosting_by : (l : ScriptLine) (lines : List ScriptLine) (change : Receiver → Receiver) (old new : Running) (said : List ℕ) → IsHosting old → Goes l old said new → new.tree ≡ old.tree
+pub hosting_by : (l : ScriptLine) (lines : List ScriptLine) (change : Receiver → Receiver) (old new : Running) (said : List ℕ) → IsHosting old → Goes l old said new → new.tree ≡ old.tree → new.mode ≡ old.mode
     → Moves lines change old new → StaysOpen change → IsHosting new
-hosting_by l lines change old new said hosting goes same moves stays = record {
+hosting_by l lines change old new said hosting goes same same_mode moves stays = record {
   keeps = goes.keeps;
   config = goes.config ∙ hosting.config;
   handles = same ∙ hosting.handles;
+  oldest_first = same_mode ∙ hosting.oldest_first;
   opened = open_after lines change old new hosting moves stays;
 }
 

@@ -1,5 +1,5 @@
 -- What lines that drive the acquisition add is what the definitions compute.
-use Rattle.std.proofs.Common.{◌≡◌, ℕ, false, List, [], ◌∷◌, ◌++◌, refl, sym, ap, subst, ◌∙◌}
+use Rattle.std.proofs.Common.{◌≡◌, ℕ, Bool, true, false, List, [], ◌∷◌, ◌++◌, refl, sym, ap, subst, ◌∙◌}
 use Rattle.std.specs.Prelude.{Option, None, Some, slice_get, slice_index_or}
 use Rattle.gentl_types.specs.declared.word.Word.{Word}
 use Rattle.board_machine.specs.declared.events.Entry.{Entry}
@@ -10,12 +10,20 @@ use Rattle.board_machine.specs.Adding.{entries_of}
 use Rattle.board_machine.specs.Histories.{after_from, RunsFrom, After}
 use Rattle.board_machine.proofs.Adding.{entries_of-append}
 use Rattle.board_machine.proofs.Runs.{after-append, runs_rest, runs_front}
+use Rattle.board_calls.specs.Rounds.{filled_or_laid}
+use Rattle.acquisition_machine.specs.declared.retired.Retired.{Retired}
 use Rattle.acquisition_machine.specs.Blocks.{fills}
 use Rattle.acquisition_machine.specs.Machine.{State, Input, step, datagram, claimed}
 use Rattle.acquisition_machine.specs.Runs.{first_state, After as AcqAfter}
 use Rattle.acquisition_machine.proofs.Joining.{after_from-append}
 use Rattle.script_trace.specs.Trace.{Trace, Part, board, grown, acquirer}
-use Rattle.script_trace.specs.StreamLines.{FillsRetired, Settles, Hears, retired_by, tells, told_twice, outcome}
+use Rattle.block_fills.specs.Fills.{FillsRetired}
+use Rattle.mode_calls.specs.declared.mode.Mode.{Mode}
+use Rattle.mode_calls.specs.declared.mode.Mode.TheVariants.{OldestFirst}
+use Rattle.mode_calls.specs.Modes.{ClaimsOnly, ClaimsFor}
+use Rattle.script_trace.specs.Modes.{FillsBlock, FillsInMode, place_of}
+use Rattle.script_trace.proofs.Quiet.{BlockParts, block_parts}
+use Rattle.script_trace.specs.StreamLines.{Settles, Hears, retired_by, tells, told_twice, outcome}
 use Rattle.soak_host.specs.Receiver.{Receiver, soak_config, told, told_again, claims, claim_of, acts_on, fills_all}
 use Rattle.soak_receiver.specs.Moves.{IsLeft}
 use Rattle.soak_receiver.proofs.Fillings.{LeavesOpen, fills_compute, fills_leave}
@@ -38,10 +46,36 @@ told_left t i events said r filled runs = record {
   board = sym (more_entries t (entries_of acquirer events) ∙ fills_compute (retired_by soak_config t.inputs i) events (board t) filled runs);
 }
 
-pub settles_left : (t : Trace) (i : Input) (said : List ℕ) (part : Part) (r : Receiver) → Settles soak_config t [] i said part → RunsFrom (board t) part.entries → IsLeft (grown t part) (told i (left_at t r))
-settles_left t i said part r settles runs =
+-- ---- where waiting buffers stay, nothing is dropped
+
+-- the fills are those of the retired blocks alone
+plain_block : (x : Retired) (es : List Event) → FillsBlock OldestFirst x es → (filled : Bool) × (es ≡ filled_or_laid x.place x.buf filled)
+plain_block x es block =
+    let p : BlockParts OldestFirst x es = block_parts OldestFirst x es block in
+    (p.filled, p.is ∙ ap (λ l. l ++ filled_or_laid x.place x.buf p.filled) p.drops.1)
+
+plain_fills : (xs : List Retired) (es : List Event) → FillsInMode OldestFirst xs es → FillsRetired xs es
+plain_fills [] es is = is
+plain_fills (x ∷ xs) es (first, rest, parts, block, more) =
+    let one : (filled : Bool) × (first ≡ filled_or_laid x.place x.buf filled) = plain_block x first block in
+    (one.0, rest, parts ∙ ap (λ l. l ++ rest) one.1, plain_fills xs rest more)
+
+fills_of : (mode : Mode) (xs : List Retired) (es : List Event) → mode ≡ OldestFirst → FillsInMode mode xs es → FillsRetired xs es
+fills_of mode xs es oldest filled = plain_fills xs es (subst (λ (m : Mode). FillsInMode m xs es) oldest filled)
+
+-- a claim is one alone
+only_claim : (claim : Option (ℕ × Bool)) (es : List Event) → ClaimsOnly claim es → es ≡ Claim (place_of claim) ∷ []
+only_claim None es is = is
+only_claim (Some (i, false)) es is = is
+only_claim (Some (i, true)) es is = absurd is
+
+claims_of : (mode : Mode) (claim : Option (ℕ × Bool)) (es : List Event) → mode ≡ OldestFirst → ClaimsFor mode claim es → es ≡ Claim (place_of claim) ∷ []
+claims_of mode claim es oldest claims = only_claim claim es (subst (λ (m : Mode). ClaimsFor m claim es) oldest claims)
+
+pub settles_left : (t : Trace) (i : Input) (said : List ℕ) (part : Part) (r : Receiver) → t.mode ≡ OldestFirst → Settles soak_config t [] i said part → RunsFrom (board t) part.entries → IsLeft (grown t part) (told i (left_at t r))
+settles_left t i said part r oldest settles runs =
     let now : RunsFrom (board t) (entries_of acquirer settles.events) = subst (λ (p : Part). RunsFrom (board t) p.entries) settles.is runs in
-    subst (λ (p : Part). IsLeft (grown t p) (told i (left_at t r))) (sym settles.is) (told_left t i settles.events said r settles.filled now)
+    subst (λ (p : Part). IsLeft (grown t p) (told i (left_at t r))) (sym settles.is) (told_left t i settles.events said r (fills_of t.mode (retired_by soak_config t.inputs i) settles.events oldest settles.filled) now)
 
 -- ---- a claim between
 
@@ -110,9 +144,14 @@ again_left t bytes first claim second part r opened displaced filled runs entrie
 
 -- ---- a datagram
 
-pub hears_left : (t : Trace) (bytes : List ℕ) (asked : Option ℕ) (part : Part) (r : Receiver) → (board t).closed ≡ false → Hears soak_config t bytes asked part → RunsFrom (board t) part.entries
+pub hears_left : (t : Trace) (bytes : List ℕ) (asked : Option ℕ) (part : Part) (r : Receiver) → t.mode ≡ OldestFirst → (board t).closed ≡ false → Hears soak_config t bytes asked part → RunsFrom (board t) part.entries
     → IsLeft (grown t part) (told_again asked bytes (told (datagram bytes) (left_at t r)))
-hears_left t bytes None part r opened heard runs = settles_left t (datagram bytes) [] part r heard runs
-hears_left t bytes (Some block) part r opened heard runs =
-    again_left t bytes heard.first heard.claim heard.second part r opened heard.displaced heard.filled
-    (subst (λ (p : Part). RunsFrom (board t) p.entries) heard.is runs) (ap (λ (p : Part). p.entries) heard.is) (ap (λ (p : Part). p.inputs) heard.is)
+hears_left t bytes None part r oldest opened heard runs = settles_left t (datagram bytes) [] part r oldest heard runs
+hears_left t bytes (Some block) part r oldest opened heard runs =
+    again_left t bytes heard.first (place_of heard.claim) heard.second part r opened (fills_of t.mode _ heard.first oldest heard.displaced) (fills_of t.mode _ heard.second oldest heard.filled)
+    (subst (λ (es : List Entry). RunsFrom (board t) es) entries runs) entries (ap (λ (p : Part). p.inputs) heard.is)
+  where
+    entries : part.entries ≡ entries_of acquirer (heard.first ++ Claim (place_of heard.claim) ∷ heard.second)
+    entries =
+        ap (λ (p : Part). p.entries) heard.is
+        ∙ ap (λ es. entries_of acquirer (heard.first ++ (es ++ heard.second))) (claims_of t.mode heard.claim heard.claims oldest heard.got)

@@ -8,6 +8,7 @@ use Rattle.board_machine.specs.Machine.{Board}
 use Rattle.acquisition_machine.specs.Machine.{tick, request_bytes}
 use Rattle.acquisition_machine.specs.Runs.{After, turn}
 use Rattle.acq_core.specs.Receiver.{config_of}
+use Rattle.mode_calls.specs.declared.mode.Mode.TheVariants.{OldestFirst}
 use Rattle.script_trace.specs.Trace.{Trace, board}
 use Rattle.script_trace.specs.Adding.{Leads}
 use Rattle.script_trace.specs.Opening.{first_handles}
@@ -23,11 +24,13 @@ pub record IsOpen (b : Board) : Type 0 where
   pub unkilled : b.kill ≡ false
   pub running : b.run ≡ 1
 
--- Lines of a script led here under the configuration of soak runs, the first handles are open, and so is the stream.
+-- Lines of a script led here under the configuration of soak runs, the first handles are open, and so is the
+-- stream. No line set the buffer handling mode.
 pub record IsHosting (r : Running) : Type 0 where
   pub keeps : IsReplaying r
   pub config : config_of r.acq ≡ soak_config
   pub handles : r.tree ≡ first_handles
+  pub oldest_first : r.mode ≡ OldestFirst
   pub opened : IsOpen r.board.board
 
 -- ---- from one trace to another

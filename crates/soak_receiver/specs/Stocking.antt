@@ -7,6 +7,7 @@ use Rattle.gev_script.specs.Lines as line
 use Rattle.gev_script.specs.Lines.{ScriptLine}
 use Rattle.board_machine.specs.Machine.{Board, vacant, empty_hands}
 use Rattle.acq_core.specs.Receiver.{config_of}
+use Rattle.mode_calls.specs.declared.mode.Mode.TheVariants.{OldestFirst}
 use Rattle.script_trace.specs.Trace.{Trace}
 use Rattle.script_trace.specs.Opening.{opening, first_handles}
 use Rattle.script_trace.specs.Adding.{Leads}
@@ -59,6 +60,7 @@ pub record IsBeginning (lines : List ScriptLine) (b : Board) (r : Running) : Typ
   pub keeps : IsReplaying r
   pub config : config_of r.acq ≡ soak_config
   pub handles : r.tree ≡ first_handles
+  pub oldest_first : r.mode ≡ OldestFirst
   pub board : r.board.board ≡ b
   pub trace : Trace
   pub leads : Leads soak_config opening lines trace

@@ -4,6 +4,7 @@ ghost use Rattle.std.specs.Prelude.{◌∷◌, []};
 ghost use Rattle.soak_host.specs.Receiver.{hears};
 ghost use Rattle.soak_receiver.specs.Moves.{IsHosting, Moves, heard_line};
 
+use mode_calls::Mode;
 use script_replay::{Running, hear};
 
 /// Tells a datagram. Where it wants a buffer, one is claimed and the datagram is told again; buffers that
@@ -17,6 +18,7 @@ pub fn hear_datagram(running: &mut Running, bytes: &[u8])
         &mut running.board,
         &mut running.acq,
         &mut running.counts,
+        Mode::OldestFirst,
         bytes,
     );
 }

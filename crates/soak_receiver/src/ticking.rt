@@ -10,6 +10,7 @@ ghost use Rattle.soak_receiver.specs.Moves.{IsHosting, Moves, Asks};
 
 use acq_core::Acq;
 use gev_types::NoMemory;
+use mode_calls::Mode;
 use script_replay::{Running, fill_retired};
 
 /// Drops the requests that wait in the receiver.
@@ -51,6 +52,11 @@ pub fn tell_moment(
     ensures hosting { IsHosting running.new }
 {
     running.acq.tick(moment);
-    fill_retired(&mut running.board, &mut running.acq, &mut running.counts);
+    fill_retired(
+        &mut running.board,
+        &mut running.acq,
+        &mut running.counts,
+        Mode::OldestFirst,
+    );
     give_requests(&mut running.acq, requests)
 }

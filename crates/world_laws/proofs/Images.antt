@@ -11,7 +11,7 @@ use Rattle.stream_packets.specs.Packets.{StreamPacket}
 use Rattle.stream_packets.specs.Sent.{IsSent}
 use Rattle.block_image.specs.OneBlock.{AreSent}
 use Rattle.board_machine.specs.Machine.{Item}
-use Rattle.board_machine.specs.Handout.{filled, removed, handed_items}
+use Rattle.board_machine.specs.Handout.{filled, removed, every_actor, handed_items}
 use Rattle.board_machine.proofs.Handouts.{run_out}
 use Rattle.acquisition_machine.specs.declared.config.AcqConfig.{AcqConfig}
 use Rattle.acquisition_machine.specs.Machine.{Input}
@@ -22,7 +22,7 @@ use Rattle.script_trace.specs.Opening.{opening}
 use Rattle.script_trace.specs.Trace.{Trace, board}
 use Rattle.script_trace.specs.Fills.{tried_blocks, IsRetired}
 use Rattle.script_trace.specs.Laws.{KeepsPromises}
-use Rattle.script_trace.proofs.Handing.{leads_empty, opening_empty, filled_all, handed_all}
+use Rattle.script_trace.proofs.Handing.{leads_empty, opening_empty, filled_all, taken_all}
 use Rattle.camera_machine.specs.Sending.{AreGenerated}
 use Rattle.control_session.specs.Schedule.{new_line}
 use Rattle.world_machine.specs.HostActs.{given_in}
@@ -89,7 +89,7 @@ heard_images seed shape room peer es frames c t w hear is =
     = filled_all (HoldsBlock frames c t.inputs) t.entries (leads_empty c opening (host_lines es) t is.leads opening_empty) blocks in
     record {
       blocks = blocks;
-      handed = handed_all P t.entries all;
+      handed = taken_all P every_actor t.entries all;
       waiting = subst (AllByRecursion P) (sym (run_out t.entries keeps.run)) (all_left P (length (removed t.entries)) (filled t.entries) all);
     }
 

@@ -22,7 +22,7 @@ use Rattle.acquisition_machine.proofs.Order.{all_append}
 use Rattle.acquisition_machine.proofs.Joining.{packets_in-append}
 use Rattle.script_trace.specs.Trace.{Trace, Part, grown, board, caller, acts, Calls}
 use Rattle.script_trace.specs.BoardLines.{TakeIfOpen, AsksBuffer, AsksLoan, open_event, is_of_loan, buffer}
-use Rattle.script_trace.specs.StreamLines.{Restarts, StopsAcquiring, Hears, HearsIfRunning}
+use Rattle.script_trace.specs.StreamLines.{Restarts, StopsAcquiring, Hears, HearsIfRunning, ModeIfRunning}
 use Rattle.script_trace.specs.HandleLines.{ClosesHandle, ClosesStream}
 use Rattle.script_trace.specs.StepLines.{StepBy, StepInHand, FillStep, is_in_hand}
 use Rattle.script_trace.specs.Adding.{Spells, Leads}
@@ -118,6 +118,10 @@ datagram_tells P c t bytes true part one hears = hears_tells P c t bytes (asked_
 
 -- ---- all lines
 
+mode_tells : (P : Kind) (t : Trace) (n : ℕ) (running : Bool) (part : Part) → ModeIfRunning t n running part → PartTells P part
+mode_tells P t n true part is = subst (PartTells P) (sym is) tt
+mode_tells P t n false part is = subst (PartTells P) (sym is) tt
+
 line_tells : (P : Kind) (c : AcqConfig) (t : Trace) (l : ScriptLine) (part : Part) → Tells P l → Spells c t l part → PartTells P part
 line_tells P c t (line.header config) part ok s = absurd s
 line_tells P c t (line.announce size) part ok (answer, some, calls) = calls_tell P t _ _ part calls
@@ -137,6 +141,7 @@ line_tells P c t (line.buffer_info place generation which) part ok asks = buffer
 line_tells P c t (line.open_child parent index) part ok is = subst (PartTells P) (sym is) tt
 line_tells P c t (line.close_all serial) part ok closes = close_tells P t serial (closing t.handles serial) part closes
 line_tells P c t (line.step actor a place) part ok steps = step_tells P t actor a (unwrap_or place 0) part steps
+line_tells P c t (line.mode n) part ok is = mode_tells P t n ((board t).run == 1) part is
 line_tells P c t line.end_of_script part ok s = absurd s
 line_tells P c t line.camera_header part ok s = absurd s
 line_tells P c t (line.command peer digits) part ok s = absurd s

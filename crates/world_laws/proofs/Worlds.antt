@@ -126,6 +126,7 @@ applied_in_place (line.header config) is = absurd is
 applied_in_place (line.tick moment) is = tt
 applied_in_place (line.datagram digits) is = absurd is
 applied_in_place (line.step actor act place) is = is
+applied_in_place (line.mode n) is = absurd is
 applied_in_place line.end_of_script is = absurd is
 applied_in_place line.camera_header is = absurd is
 applied_in_place (line.command peer digits) is = absurd is

@@ -43,7 +43,8 @@ host_lines (e ∷ es) = host_lines es ++ lines_of e
 
 -- ---- which events may come
 
--- The line is one of the application, and a step is of an actor that scripts have. Other numbers are any.
+-- The line is one of the application, and a step is of an actor that scripts have. Other numbers are any. No
+-- line sets the buffer handling mode: in a world each buffer that is taken is handed out.
 abbrev pub IsApplied : ScriptLine → Type 0
 IsApplied (line.header config) = ⊥
 IsApplied (line.announce size) = ⊤
@@ -62,6 +63,7 @@ IsApplied (line.buffer_info place generation which) = ⊤
 IsApplied (line.open_child parent index) = ⊤
 IsApplied (line.close_all serial) = ⊤
 IsApplied (line.step actor act place) = IsStep actor act place
+IsApplied (line.mode n) = ⊥
 IsApplied line.end_of_script = ⊥
 IsApplied line.camera_header = ⊥
 IsApplied (line.command peer digits) = ⊥

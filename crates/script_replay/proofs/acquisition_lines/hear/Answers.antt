@@ -5,7 +5,7 @@ use Rattle.script_replay.proofs.acquisition_lines.hear.Goals as goal
 
 pub returns-in-Buffer-clause-drives : goal.returns-in-Buffer-clause-drives
 returns-in-Buffer-clause-drives c =
-    hears_twice c.args.board.now c.settle.new.board c.give_claimed.new.board c.settle-again.new.board c.args.acq.now c.settle.new.acq c.give_claimed.new.acq c.settle-again.new.acq c.args.counts.now c.settle.new.counts c.settle-again.new.counts c.args.bytes.now c.in-Buffer._block
+    hears_twice c.args.mode c.args.board.now c.settle.new.board c.give_claimed.new.board c.settle-again.new.board c.args.acq.now c.settle.new.acq c.give_claimed.new.acq c.settle-again.new.acq c.args.counts.now c.settle.new.counts c.give_claimed.new.counts c.settle-again.new.counts c.args.bytes.now c.in-Buffer._block
     c.in-Buffer.ensures.settled c.give_claimed.ensures.claims c.settle-again.ensures.settled c.in-Buffer.ensures.need
 
 pub returns-in-Buffer-clause-rest : goal.returns-in-Buffer-clause-rest
@@ -19,7 +19,7 @@ returns-in-Buffer-clause-rest c =
 
 pub returns-in-Done-clause-drives : goal.returns-in-Done-clause-drives
 returns-in-Done-clause-drives c =
-    hears_at c.args.board.now c.settle.new.board c.args.acq.now c.settle.new.acq c.args.counts.now c.settle.new.counts c.args.bytes.now Done c.in-Done.ensures.settled c.in-Done.ensures.need refl
+    hears_at c.args.mode c.args.board.now c.settle.new.board c.args.acq.now c.settle.new.acq c.args.counts.now c.settle.new.counts c.args.bytes.now Done c.in-Done.ensures.settled c.in-Done.ensures.need refl
 
 pub returns-in-Done-clause-rest : goal.returns-in-Done-clause-rest
 returns-in-Done-clause-rest c =
@@ -27,7 +27,7 @@ returns-in-Done-clause-rest c =
 
 pub returns-in-Ignored-clause-drives : goal.returns-in-Ignored-clause-drives
 returns-in-Ignored-clause-drives c =
-    hears_at c.args.board.now c.settle.new.board c.args.acq.now c.settle.new.acq c.args.counts.now c.settle.new.counts c.args.bytes.now (Ignored c.in-Ignored._why) c.in-Ignored.ensures.settled c.in-Ignored.ensures.need refl
+    hears_at c.args.mode c.args.board.now c.settle.new.board c.args.acq.now c.settle.new.acq c.args.counts.now c.settle.new.counts c.args.bytes.now (Ignored c.in-Ignored._why) c.in-Ignored.ensures.settled c.in-Ignored.ensures.need refl
 
 pub returns-in-Ignored-clause-rest : goal.returns-in-Ignored-clause-rest
 returns-in-Ignored-clause-rest c =

@@ -8,4 +8,4 @@ fill_retired-requires-clause-away c =
 
 pub returns-clause-settled : goal.returns-clause-settled
 returns-clause-settled c =
-    settled_by c.args.board.now c.fill_retired.new.board c.args.acq.now c.datagram-need.new.self c.fill_retired.new.acq _ _ _ c.datagram-need.ensures.takes c.fill_retired.ensures.rest c.requires.no_fill c.fill_retired.ensures.fills
+    settled_by c.args.mode c.args.board.now c.fill_retired.new.board c.args.acq.now c.datagram-need.new.self c.fill_retired.new.acq _ _ _ c.datagram-need.ensures.takes c.fill_retired.ensures.rest c.requires.no_fill c.fill_retired.ensures.fills

@@ -8,7 +8,7 @@ use Rattle.script_replay.proofs.acquisition_lines.stop.Goals as goal
 pub returns-in-Ok-clause-drives : goal.returns-in-Ok-clause-drives
 returns-in-Ok-clause-drives c =
     on_ok_weaker c.line_done.result
-    (λ said. stop_drives _ _ _ _ _ _ _ _ c.args.flags _ c.requires.rest c.in-Ok.ensures.entries c.in-Ok.ensures.contents c.stop.ensures.takes c.fill_retired.ensures.fills c.fill_retired.ensures.rest said)
+    (λ said. stop_drives c.args.mode _ _ _ _ _ _ _ _ c.args.flags _ c.requires.rest c.in-Ok.ensures.entries c.in-Ok.ensures.contents c.stop.ensures.takes c.fill_retired.ensures.fills c.fill_retired.ensures.rest said)
     c.line_done.ensures
 
 pub fill_retired-requires-clause-away : goal.fill_retired-requires-clause-away
@@ -24,5 +24,5 @@ returns-in-Ok-clause-rest c =
 pub returns-in-Err-clause-drives : goal.returns-in-Err-clause-drives
 returns-in-Err-clause-drives c =
     on_ok_weaker c.line_refused.result
-    (λ said. no_stop_drives _ _ _ _ _ c.args.flags c.in-Err.error _ c.in-Err.ensures.entries c.in-Err.ensures.contents said)
+    (λ said. no_stop_drives c.args.mode _ _ _ _ _ c.args.flags c.in-Err.error _ c.in-Err.ensures.entries c.in-Err.ensures.contents said)
     c.line_refused.ensures

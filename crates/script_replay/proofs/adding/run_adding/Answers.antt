@@ -3,7 +3,7 @@ use Rattle.std.proofs.lemmas.Result.{on_ok_weaker}
 use Rattle.gev_script.specs.Lines as script_line
 use Rattle.gev_script.specs.Lines.{view}
 use Rattle.acq_core.specs.Receiver.{config_of}
-use Rattle.script_replay.proofs.Replaying.{none_open, drive_goes, on_ok_two, open_goes, close_goes, call_goes}
+use Rattle.script_replay.proofs.Replaying.{none_open, drive_goes, start_goes, on_ok_two, open_goes, close_goes, call_goes}
 use Rattle.script_replay.proofs.adding.run_adding.Goals as goal
 
 pub start-requires-clause-none_open : goal.start-requires-clause-none_open
@@ -13,7 +13,7 @@ pub returns-in-Start-clause-goes : goal.returns-in-Start-clause-goes
 returns-in-Start-clause-goes c =
     rw c.in-Start.is
     (on_ok_weaker c.start.result
-    (λ drives. drive_goes script_line.start c.args.running.now c.start.new.out.items c.start.new.board c.start.new.acq c.args.running.now.counts c.requires.keeps (drives c.args.running.now.counts) c.start.ensures.rest c.start.ensures.config)
+    (λ drives. start_goes c.args.running.now c.start.new.out.items c.start.new.board c.start.new.acq c.requires.keeps (drives c.args.running.now.counts) c.start.ensures.rest c.start.ensures.config)
     c.start.ensures.drives)
 
 pub returns-in-Stop-clause-goes : goal.returns-in-Stop-clause-goes

@@ -4,7 +4,7 @@ use Rattle.script_replay.proofs.Retiring.{FillsOn}
 use Rattle.script_replay.proofs.retired.fill_retired.Given as goal
 
 abbrev pub invariant-loop-fill : goal.invariant-loop-fill
-invariant-loop-fill l = FillsOn l.initial.board l.initial.counts l.board l.counts l.initial.acq l.acq
+invariant-loop-fill l = FillsOn l.initial.mode l.initial.board l.initial.counts l.board l.counts l.initial.acq l.acq
 
 abbrev pub decreases-loop-fill : goal.decreases-loop-fill
 decreases-loop-fill l = length (waiting_fills l.acq)

@@ -1,4 +1,4 @@
-use Rattle.std.proofs.Common.{[], length, true, sym, subst}
+use Rattle.std.proofs.Common.{[], length, sym, subst}
 use Rattle.hex.specs.Hex.{encode_lower}
 use Rattle.gvsp_std.proofs.Written.{widened_fits}
 use Rattle.gev_script.specs.Lines as script_line

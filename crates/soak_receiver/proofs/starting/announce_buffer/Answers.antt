@@ -9,5 +9,5 @@ pub returns : goal.returns
 returns c =
     on_ok_weaker c.announce.result
     (λ acts_so. announced_one c.args.place c.args.running.now _ c.announce.new.out.items c.requires.few c.requires.stocked
-    (call_goes (script_line.announce 3072) c.args.running.now c.announce.new.out.items c.announce.new.board c.requires.stocked.keeps acts_so c.announce.ensures.ready c.announce.ensures.lifted) refl)
+    (call_goes (script_line.announce 3072) c.args.running.now c.announce.new.out.items c.announce.new.board c.requires.stocked.keeps acts_so c.announce.ensures.ready c.announce.ensures.lifted) refl refl)
     c.announce.ensures.acts

@@ -9,5 +9,5 @@ pub returns : goal.returns
 returns c =
     on_ok_weaker c.queue.result
     (λ acts_so. queued_one c.args.place c.args.running.now _ c.queue.new.out.items c.requires.few c.requires.announced
-    (call_goes (script_line.queue c.args.place 1) c.args.running.now c.queue.new.out.items c.queue.new.board c.requires.announced.keeps acts_so c.queue.ensures.ready c.queue.ensures.lifted) refl)
+    (call_goes (script_line.queue c.args.place 1) c.args.running.now c.queue.new.out.items c.queue.new.board c.requires.announced.keeps acts_so c.queue.ensures.ready c.queue.ensures.lifted) refl refl)
     c.queue.ensures.acts

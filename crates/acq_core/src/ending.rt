@@ -1,0 +1,72 @@
+//! What is told of the blocks that retire.
+
+ghost use Rattle.std.specs.Prelude.{◌≡◌, ℕ, ◌+◌, ◌≤◌, ◌<◌, ◌++◌, [], List, Option};
+ghost use Rattle.std.specs.Vec.{vec_len, vec_capacity};
+ghost use Rattle.stream_packets.specs.Packets.{StreamPacket};
+ghost use Rattle.acquisition_machine.specs.Blocks.{Given, Open};
+ghost use Rattle.acquisition_machine.specs.Machine.{shown};
+ghost use Rattle.acq_core.specs.Standing.{HoldsFor, SlotStands, floor_of};
+ghost use Rattle.acq_core.specs.Ending.{held_of, end_of, told_end};
+
+use crate::ended::{Cause, Ended, Held};
+use crate::machine::Machine;
+use crate::slot::{Hold, Slot};
+
+/// What the block gave.
+fn held(hold: &Hold) -> Option<Held>
+    ensures { (p b : ℕ) (given : Option Given) (heard : List StreamPacket) → HoldsFor p b hold.now given heard
+        → result ≡ held_of p b given heard }
+{
+    match hold {
+        Hold::Without(_) => None,
+        Hold::With(place, assembly) => Some(Held {
+            place: *place,
+            account: assembly.account(),
+        }),
+    }
+}
+
+/// The floor as it is told.
+fn told_floor(floor: Option<u64>) -> Option<u64>
+    ensures { result ≡ shown (floor_of floor) }
+{
+    floor
+}
+
+/// What is told of a block that retires.
+fn ended(slot: &Slot, floor: Option<u64>, cause: Cause) -> Ended
+    ensures { (p : ℕ) (o : Open) → SlotStands p slot.now o → result ≡ end_of p (floor_of floor) cause o }
+{
+    Ended {
+        block: slot.block,
+        floor: told_floor(floor),
+        cause,
+        held: held(&slot.hold),
+    }
+}
+
+/// Tells of the block that retires, if that is wanted.
+pub(crate) fn tell(machine: &mut Machine, slot: &Slot, cause: Cause)
+    requires { vec_len machine.old.ends < vec_capacity machine.old.ends }
+    ensures ends { (p : ℕ) (o : Open) → SlotStands p slot.now o
+        → machine.new.ends.items ≡ machine.old.ends.items ++ told_end machine.old.telling (end_of p (floor_of machine.old.floor) cause o) }
+    ensures rest { machine.new ≡ record machine.old { ends = machine.new.ends } }
+    ensures few { vec_len machine.new.ends ≤ vec_len machine.old.ends + 1 }
+    ensures capacity { vec_capacity machine.new.ends ≡ vec_capacity machine.old.ends }
+{
+    if !machine.telling {
+        return;
+    }
+    let end = ended(slot, machine.floor, cause);
+    machine.ends.push_reserved(end);
+}
+
+/// Nothing that retired before is told any more.
+pub(crate) fn forget(machine: &mut Machine)
+    ensures none { machine.new.ends.items ≡ [] }
+    ensures rest { machine.new ≡ record machine.old { ends = machine.new.ends } }
+    ensures fewer { vec_len machine.new.ends ≡ 0 }
+    ensures capacity { vec_capacity machine.new.ends ≡ vec_capacity machine.old.ends }
+{
+    machine.ends.clear();
+}

@@ -1,0 +1,4 @@
+pub mod Reasons
+pub mod Lost
+pub mod Laws
+pub mod Worked

@@ -1,4 +1,0 @@
-pub mod Playing
-pub mod Script
-pub mod Pool
-pub mod Scripting

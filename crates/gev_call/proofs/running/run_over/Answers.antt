@@ -1,0 +1,22 @@
+-- Links that failed go back with their counts.
+use Rattle.std.proofs.Common.{arith}
+use Rattle.gev_call.proofs.Counted.{one_rose}
+use Rattle.gev_call.proofs.Answered.{links_kept, link_failed, writes_kept}
+use Rattle.gev_call.proofs.running.run_over.Goals as goal
+
+pub returns-in-Ok-clause-link_fault : goal.returns-in-Ok-clause-link_fault
+returns-in-Ok-clause-link_fault g c =
+    λ is.
+    c.give_ends.ensures.faults.rises
+    (one_rose _ _ _ _ _ _ c.requires.camera.no_fault c.requires.stream.no_fault c.requires.control.no_fault
+    (link_failed _ _ _ _ _ _ _ _ _ _ _ c.live_over-status.ensures.live is))
+
+pub returns-in-Ok-clause-links_steady : goal.returns-in-Ok-clause-links_steady
+returns-in-Ok-clause-links_steady g c =
+    λ other.
+    let kept = links_kept _ _ _ _ _ _ _ _ _ _ _ c.live_over-status.ensures.live other in
+    c.give_ends.ensures.faults.stays
+    (omega (arith, kept.camera, kept.stream, kept.control, c.requires.camera.no_fault, c.requires.stream.no_fault, c.requires.control.no_fault))
+
+pub returns-in-Ok-clause-writes_steady : goal.returns-in-Ok-clause-writes_steady
+returns-in-Ok-clause-writes_steady g c = λ other. writes_kept _ _ _ _ _ _ _ _ _ _ _ c.live_over-status.ensures.live other

@@ -1,0 +1,39 @@
+-- The words ask for no live run, and what they ask for is done.
+use Rattle.std.proofs.Common.{map, sym, ◌∙◌}
+use Rattle.std.specs.String.{string_bytes}
+use Rattle.gev_call.proofs.Errands.{fault_same, command_is, never_live, never_links}
+use Rattle.gev_call.proofs.top.gevacq_top.Goals as goal
+
+pub returns-in-None-clause-usage : goal.returns-in-None-clause-usage
+returns-in-None-clause-usage g c =
+    λ place.
+    let same = fault_same (map (λ word. string_bytes word) c.args.words.now) (sym c.in-None.ensures.said) in (
+      λ is. same ∙ (c.plain_top.ensures.usage place).0 is,
+      λ is. (c.plain_top.ensures.usage place).1 (sym same ∙ is),
+    )
+
+pub returns-in-None-clause-unused : goal.returns-in-None-clause-unused
+returns-in-None-clause-unused g c =
+    λ place is. c.plain_top.ensures.unused place (sym (fault_same (map (λ word. string_bytes word) c.args.words.now) (sym c.in-None.ensures.said)) ∙ is)
+
+pub returns-in-None-clause-cause : goal.returns-in-None-clause-cause
+returns-in-None-clause-cause g c =
+    λ command is. c.plain_top.ensures.cause command (command_is (map (λ word. string_bytes word) c.args.words.now) command (sym c.in-None.ensures.said) is)
+
+pub returns-in-None-clause-exact : goal.returns-in-None-clause-exact
+returns-in-None-clause-exact g c =
+    λ command is. c.plain_top.ensures.exact command (command_is (map (λ word. string_bytes word) c.args.words.now) command (sym c.in-None.ensures.said) is)
+
+pub returns-in-None-clause-unread : goal.returns-in-None-clause-unread
+returns-in-None-clause-unread g c =
+    λ n is. absurd (never_live (map (λ word. string_bytes word) c.args.words.now) n (sym c.in-None.ensures.said) is)
+
+pub returns-in-None-clause-none : goal.returns-in-None-clause-none
+returns-in-None-clause-none g c =
+    λ n is unkept. absurd (never_live (map (λ word. string_bytes word) c.args.words.now) n (sym c.in-None.ensures.said) is)
+
+pub returns-in-None-clause-link_fault : goal.returns-in-None-clause-link_fault
+returns-in-None-clause-link_fault g c =
+    λ is.
+    absurd (never_links (map (λ word. string_bytes word) c.args.words.now) c.plain_top.result _ _ _ _ _ _ _ _
+    (λ place fault. (c.plain_top.ensures.usage place).1 fault) c.plain_top.ensures.cause is)

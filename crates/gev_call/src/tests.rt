@@ -1,0 +1,175 @@
+use super::*;
+use gev_links::{DiscardingLink, MemoryPorts, MemorySink, OpenGate, SteadySource};
+use gev_status::Status;
+use gev_types::{NoMemory, Peer};
+use std::alloc::Global;
+use std::process::Abort;
+use std::sync::Wait;
+use std::test::Fail;
+use std::thread::Threads;
+
+const CAMERA: Peer = Peer {
+    address: 0x7f00_0001,
+    port: 3956,
+};
+
+const HOST: Peer = Peer {
+    address: 0x7f00_0001,
+    port: 49_152,
+};
+
+// The acknowledges of the setup's four commands.
+const ACKS: [&[u8]; 4] = [
+    b"\x00\x00\x00\x83\x00\x04\x00\x01\x00\x00\x00\x01",
+    b"\x00\x00\x00\x83\x00\x04\x00\x02\x00\x00\x00\x01",
+    b"\x00\x00\x00\x83\x00\x04\x00\x03\x00\x00\x00\x01",
+    b"\x00\x00\x00\x83\x00\x04\x00\x04\x00\x00\x00\x01",
+];
+
+/// A vector of these words.
+fn word_list(alloc: Global, words: &[&str]) -> Result<Vec<String>, Fail> {
+    let mut all = Vec::new(alloc);
+    for word in words {
+        all.push(String::from_str(alloc, word)?)?;
+    }
+    Ok(all)
+}
+
+/// Ports with three links, of which the third hears this, and of whose binds these fail.
+fn quiet_ports<'a>(
+    alloc: Global,
+    answers: &'a [Option<(&'a [u8], Peer)>],
+    failing: &'a [u64],
+) -> Result<MemoryPorts<'a, DiscardingLink<'a>>, NoMemory> {
+    let camera = DiscardingLink::new(alloc, CAMERA, &[])?;
+    let stream = DiscardingLink::new(alloc, HOST, &[])?;
+    let control = DiscardingLink::new(alloc, HOST, answers)?;
+    // The host's clock rises by one with each moment.
+    let moments: [&[u64]; 3] = [&[], &[0, 1, 2, 3, 4, 5, 6, 7, 8, 9, 10, 11], &[]];
+    MemoryPorts::new(alloc, camera, stream, control, moments, failing)
+}
+
+/// What the words come to: the answer, what is written, how many links come back, and whether a board is kept.
+fn check_words<R: Abort + Threads + Wait + Sync>(
+    rt: &R,
+    alloc: Global,
+    words: &[&str],
+    script: &str,
+    ports: &mut MemoryPorts<'_, DiscardingLink<'_>>,
+    status: Status,
+    text: &str,
+    back: usize,
+    keeps: bool,
+) -> Result<(), Fail> {
+    let words = word_list(alloc, words)?;
+    let mut source = SteadySource::new(script.as_bytes(), 1000);
+    let mut sink = MemorySink::new(alloc, 1000, &[]);
+    let mut kept = None;
+    let answer = gevacq_top(
+        rt,
+        alloc,
+        &words,
+        &mut source,
+        &mut sink,
+        ports,
+        &OpenGate,
+        &mut kept,
+    );
+    assert_eq!(rt; answer, status);
+    assert_eq!(rt; sink.written(), text.as_bytes());
+    assert_eq!(rt; ports.links().len(), back);
+    assert_eq!(rt; kept.is_some(), keeps);
+    Ok(())
+}
+
+// A live run whose stream is silent spends its turns, and gives its three links back.
+#[test]
+fn a_live_run_is_made_over_ports(rt: HostRuntime) -> Result<(), Fail> {
+    let answers = [
+        Some((ACKS[0], CAMERA)),
+        Some((ACKS[1], CAMERA)),
+        Some((ACKS[2], CAMERA)),
+        Some((ACKS[3], CAMERA)),
+    ];
+    let mut ports = quiet_ports(rt.alloc(), &answers, &[])?;
+    check_words(
+        &rt,
+        rt.alloc(),
+        &["live", "1", "20", "10", "1", "3"],
+        "",
+        &mut ports,
+        Status::TurnsSpent {
+            turns: 3,
+            frames: 0,
+        },
+        "live frames=20 taken=0\n",
+        3,
+        true,
+    )
+}
+
+// Where a bind fails the links that came go back, and nothing is run or written.
+#[test]
+fn binds_that_fail_give_back_what_came(rt: HostRuntime) -> Result<(), Fail> {
+    let rows: [(&[u64], usize); 3] = [(&[1], 0), (&[2], 1), (&[3], 2)];
+    for (failing, back) in rows {
+        let mut ports = quiet_ports(rt.alloc(), &[], failing)?;
+        check_words(
+            &rt,
+            rt.alloc(),
+            &["live", "1", "20", "10", "1", "3"],
+            "",
+            &mut ports,
+            Status::LinkFault,
+            "",
+            back,
+            false,
+        )?;
+    }
+    Ok(())
+}
+
+// The other commands make no use of the ports, and words of a live run are refused by their place.
+#[test]
+fn other_words_bind_nothing(rt: HostRuntime) -> Result<(), Fail> {
+    let script = "gevacq 1 528 1 1000 100 2\nend\n";
+    let report =
+        "end taken=0 fills=0 complete=0 underrun=0 requests=0 foreign=0 late=0 repeat=0 misfit=0 starved=0 notice=0 idle=0\n";
+    let mut ports = quiet_ports(rt.alloc(), &[], &[1])?;
+    check_words(
+        &rt,
+        rt.alloc(),
+        &["replay"],
+        script,
+        &mut ports,
+        Status::Done,
+        report,
+        0,
+        false,
+    )?;
+    let rows: [(&[&str], u32); 9] = [
+        (&[], 0),
+        (&["lives"], 0),
+        (&["live"], 1),
+        (&["live", "18446744073709551616", "1", "1", "1", "1"], 1),
+        (&["live", "1", "1001", "1", "1", "1"], 2),
+        (&["live", "1", "1", "16", "1", "1"], 3),
+        (&["live", "1", "1", "1", "2", "1"], 4),
+        (&["live", "1", "1", "1", "1", "0"], 5),
+        (&["live", "1", "1", "1", "1", "1", "1"], 6),
+    ];
+    for (words, place) in rows {
+        check_words(
+            &rt,
+            rt.alloc(),
+            words,
+            "",
+            &mut ports,
+            Status::Usage { place },
+            "",
+            0,
+            false,
+        )?;
+    }
+    Ok(())
+}

@@ -1,0 +1,89 @@
+//! The call of the program.
+
+ghost use Rattle.std.specs.Prelude.{◌≡◌, ◌≢◌, ◌↔◌, ◌+◌, ◌≤◌, ℕ, Some, None, Ok, map, IfSome};
+ghost use Rattle.std.specs.String.{string_bytes};
+ghost use Rattle.board_machine.specs.Histories.{After};
+ghost use Rattle.board_machine.specs.Laws.{IsAlone};
+ghost use Rattle.gev_links.specs.Faults.{Rose};
+ghost use Rattle.script_runs.specs.Verdicts.{IfTold};
+ghost use Rattle.gev_top.specs.declared.command.Command.{Command};
+ghost use Rattle.gev_top.specs.declared.live_numbers.LiveNumbers.{LiveNumbers};
+ghost use Rattle.gev_top.specs.Answers.{Answers, IsDecided};
+ghost use Rattle.gev_top.specs.LiveWords.{plain, live, errand_of, errand_fault};
+ghost use Rattle.gev_call.specs.Runs.{RunsOver, RunsNothing};
+
+use crate::running::run_live;
+use buffer_words::{Board, Pass};
+use gev_links::{Gate, Ports, Sink, Source};
+use gev_status::Status;
+use gev_top::{plain_top, read_live};
+use std::alloc::Global;
+use std::sync::Wait;
+use std::thread::Threads;
+
+/// Does what the words say. This is what `main` calls.
+///
+/// `replay`, `camera`, `make` and `soak` do what `plain_top` says; they make no use of the ports, and nothing is
+/// kept.
+///
+/// `live` with a seed, a number of frames, of buffers, of lanes and of turns runs a camera, a receiver and an
+/// application as threads over three links of the ports, and writes a line for each frame that was handed out. The
+/// board and the pass of the run are kept, where a board was made.
+pub fn gevacq_top<R: Threads + Wait + Sync, S: Source, K: Sink, P: Ports, G: Gate + Sync>(
+    rt: &R,
+    alloc: Global,
+    words: &[String],
+    source: &mut S,
+    sink: &mut K,
+    ports: &mut P,
+    gate: &G,
+    kept: &mut Option<(Board, Pass)>,
+) -> Status
+    requires unkept { kept.old ≡ None }
+
+    // Words that aren't a command line are answered by their place, and nothing is read, written or bound.
+    ensures usage { (place : ℕ) → (result ≡ Status.Usage place) ↔ (errand_fault (map (λ word. string_bytes word) words.now) ≡ Some place) }
+    ensures unused { (place : ℕ) → errand_fault (map (λ word. string_bytes word) words.now) ≡ Some place
+        → (S.left source.new ≡ S.left source.old) × (K.written sink.new ≡ K.written sink.old)
+        × (S.faults source.new ≡ S.faults source.old) × (K.faults sink.new ≡ K.faults sink.old) }
+    ensures unbound { (place : ℕ) → errand_fault (map (λ word. string_bytes word) words.now) ≡ Some place
+        → (P.binds ports.new ≡ P.binds ports.old) × (P.links ports.new ≡ P.links ports.old) × (P.clocks ports.new ≡ P.clocks ports.old)
+        × (P.faults ports.new ≡ P.faults ports.old) × (kept.new ≡ None) }
+
+    // A command is answered as `plain_top` answers it, and makes no use of the ports.
+    ensures cause { (command : Command) → errand_of (map (λ word. string_bytes word) words.now) ≡ Ok (plain command)
+        → Answers command result (S.left source.old) (S.left source.new) (S.faults source.old) (S.faults source.new)
+        (K.written sink.old) (K.written sink.new) (K.faults sink.old) (K.faults sink.new) }
+    ensures exact { (command : Command) → errand_of (map (λ word. string_bytes word) words.now) ≡ Ok (plain command)
+        → IfTold (S.left source.old) (λ content. IsDecided command result content) }
+    ensures plain_ports { (command : Command) → errand_of (map (λ word. string_bytes word) words.now) ≡ Ok (plain command)
+        → (P.binds ports.new ≡ P.binds ports.old) × (P.links ports.new ≡ P.links ports.old) × (P.clocks ports.new ≡ P.clocks ports.old)
+        × (P.faults ports.new ≡ P.faults ports.old) × (kept.new ≡ None) }
+
+    // A live run reads nothing. Where a board was made its pass is kept, which is alone and has seen the run's whole
+    // history: what the run promises is said of it, and of the links and clocks that came back. Else nothing was
+    // written, since a bind failed or memory was wanting.
+    ensures unread { (n : LiveNumbers) → errand_of (map (λ word. string_bytes word) words.now) ≡ Ok (live n)
+        → (S.left source.new ≡ S.left source.old) × (S.faults source.new ≡ S.faults source.old) }
+    ensures live { (n : LiveNumbers) → errand_of (map (λ word. string_bytes word) words.now) ≡ Ok (live n)
+        → IfSome kept.new (λ k. RunsOver P.L.received P.L.sent P.L.faults P.C.told n result (P.links ports.old) (P.links ports.new)
+        (P.clocks ports.old) (P.clocks ports.new) (K.written sink.old) (K.written sink.new) (K.faults sink.old) (K.faults sink.new) k.1.seen) }
+    ensures alone { IfSome kept.new (λ k. IsAlone (After k.1.seen) 0) }
+    ensures none { (n : LiveNumbers) → errand_of (map (λ word. string_bytes word) words.now) ≡ Ok (live n) → kept.new ≡ None
+        → RunsNothing result (K.written sink.old) (K.written sink.new) (K.faults sink.old) (K.faults sink.new) }
+    ensures few_binds { P.binds ports.new ≤ P.binds ports.old + 3 }
+
+    // A count of faults changes only with the answer that tells of it.
+    ensures reads_steady { result ≢ Status.ReadFault → S.faults source.new ≡ S.faults source.old }
+    ensures writes_steady { result ≢ Status.WriteFault → K.faults sink.new ≡ K.faults sink.old }
+    ensures links_steady { result ≢ Status.LinkFault → P.faults ports.new ≡ P.faults ports.old }
+    ensures link_fault { result ≡ Status.LinkFault → Rose (P.faults ports.old) (P.faults ports.new) }
+{
+    match read_live(words) {
+        Some(said) => match said {
+            Ok(numbers) => run_live(rt, alloc, numbers, ports, gate, sink, kept),
+            Err(place) => Status::Usage { place },
+        },
+        None => plain_top(alloc, words, source, sink),
+    }
+}

@@ -1,0 +1,5 @@
+pub mod Drops
+pub mod LineNotes
+pub mod Explaining
+pub mod NoteLines
+pub mod Laws
