@@ -54,10 +54,7 @@ if_ended P Q f (statuses.NoAnswer req) h = h
 if_ended P Q f (statuses.Refused status) h = h
 if_ended P Q f statuses.LinkFault h = h
 if_ended P Q f (statuses.TurnsSpent turns frames) h = h
-<<<<<<< HEAD
 if_ended P Q f (statuses.BadCapture number kind) h = h
-=======
->>>>>>> e16780b0a8eef18086125e01b9a487a75ab931f5
 
 pub ended : (P : Ending → Type 0) (ending : Ending) → P ending → IfEnded P (status_of ending)
 ended P endings.Done h = h
