@@ -7,7 +7,7 @@ use Rattle.gev_status.specs.declared.status.Status.TheVariants.{Usage, LinkFault
 use Rattle.gev_top.specs.declared.command.Command.{Command}
 use Rattle.gev_top.specs.declared.command.Command.TheVariants.{Replay, Streams, Camera, Make, Soak}
 use Rattle.gev_top.specs.declared.live_numbers.LiveNumbers.{LiveNumbers}
-use Rattle.gev_top.specs.Answers.{Answers, ReadsSteady}
+use Rattle.gev_top.specs.Answers.{Answers}
 use Rattle.gev_top.specs.Soaking.{status_after}
 use Rattle.gev_top.specs.Usage.{Said, command_of, place_of, usage_fault}
 use Rattle.gev_top.specs.LiveWords.{plain, live, live_said, errand_by, errand_of, place_in, errand_fault}
@@ -63,11 +63,3 @@ pub never_links : (words : List (List ℕ)) (status : Status) (left left_after :
     → ((command : Command) → command_of words ≡ Ok command → Answers command status left left_after reads reads_after written written_after writes writes_after) → status ≡ LinkFault → ⊥
 never_links words status left left_after reads reads_after written written_after writes writes_after usage cause is =
     said_links (command_of words) status left left_after reads reads_after written written_after writes writes_after usage cause is
-
--- a source that wasn't read is steady
-pub still_steady : (command : Command) (status : Status) (reads : ℕ) → ReadsSteady command status reads reads
-still_steady Replay status reads other = refl
-still_steady Streams status reads whole = refl
-still_steady Camera status reads other = refl
-still_steady (Make seed frames rates) status reads other = refl
-still_steady (Soak seed frames rates short) status reads other = refl
