@@ -8,7 +8,7 @@ ghost use Rattle.gev_links.specs.Faults.{Rose};
 ghost use Rattle.script_runs.specs.Verdicts.{IfTold};
 ghost use Rattle.gev_top.specs.declared.command.Command.{Command};
 ghost use Rattle.gev_top.specs.declared.live_numbers.LiveNumbers.{LiveNumbers};
-ghost use Rattle.gev_top.specs.Answers.{Answers, IsDecided};
+ghost use Rattle.gev_top.specs.Answers.{Answers, IsDecided, ReadsSteady};
 ghost use Rattle.gev_top.specs.LiveWords.{plain, live, errand_of, errand_fault};
 ghost use Rattle.gev_call.specs.Runs.{RunsOver, RunsNothing};
 
@@ -23,7 +23,7 @@ use std::thread::Threads;
 
 /// Does what the words say. This is what `main` calls.
 ///
-/// `replay`, `camera`, `make` and `soak` do what `plain_top` says; they make no use of the ports, and nothing is
+/// `replay`, `streams`, `camera`, `make` and `soak` do what `plain_top` says; they make no use of the ports, and nothing is
 /// kept.
 ///
 /// `live` with a seed, a number of frames, of buffers, of lanes and of turns runs a camera, a receiver and an
@@ -73,8 +73,10 @@ pub fn gevacq_top<R: Threads + Wait + Sync, S: Source, K: Sink, P: Ports, G: Gat
         → RunsNothing result (K.written sink.old) (K.written sink.new) (K.faults sink.old) (K.faults sink.new) }
     ensures few_binds { P.binds ports.new ≤ P.binds ports.old + 3 }
 
-    // A count of faults changes only with the answer that tells of it.
-    ensures reads_steady { result ≢ Status.ReadFault → S.faults source.new ≡ S.faults source.old }
+    // A count of faults changes only with the answer that tells of it; of a capture, that of the source may also
+    // have changed where writing failed or memory ran out behind a read that failed.
+    ensures reads_steady { (command : Command) → errand_of (map (λ word. string_bytes word) words.now) ≡ Ok (plain command)
+        → ReadsSteady command result (S.faults source.old) (S.faults source.new) }
     ensures writes_steady { result ≢ Status.WriteFault → K.faults sink.new ≡ K.faults sink.old }
     ensures links_steady { result ≢ Status.LinkFault → P.faults ports.new ≡ P.faults ports.old }
     ensures link_fault { result ≡ Status.LinkFault → Rose (P.faults ports.old) (P.faults ports.new) }

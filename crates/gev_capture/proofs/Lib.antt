@@ -2,3 +2,5 @@ mod Resolving
 pub mod Pieces
 pub mod OneCapture
 pub mod Coming
+pub mod Walking
+pub mod ReaderSteps

@@ -1,6 +1,6 @@
 -- What a captured packet is: a datagram of UDP over IPv4 (RFC 791, RFC 768), or why not, by its interface's link
 -- type (the numbers that tcpdump.org lists as LINKTYPE).
-use Rattle.std.specs.Prelude.{ℕ, ◌+◌, ◌-◌, ◌*◌, ◌/◌, ◌%◌, ◌^◌, ◌==◌, ◌&&◌, ◌||◌, not, nat_le, nat_lt, min, max, List, length, take, drop, slice_index, Bool, Option, Some, None, if◌then◌else◌}
+use Rattle.std.specs.Prelude.{⊤, ◌≤◌, ℕ, ◌+◌, ◌-◌, ◌*◌, ◌/◌, ◌%◌, ◌^◌, ◌==◌, ◌&&◌, ◌||◌, not, nat_le, nat_lt, min, max, List, length, take, drop, slice_index, Bool, Option, Some, None, if◌then◌else◌}
 use Rattle.wire_fields.specs.Fields.{number_at}
 use Rattle.gev_types.specs.declared.peer.Peer.{Peer}
 use Rattle.gev_capture.specs.declared.content.Content.{Content}
@@ -126,6 +126,13 @@ network_seen (Some ip) = ip_seen ip
 -- What a packet of this link type is.
 abbrev pub seen : ℕ → List ℕ → Seen
 seen link bytes = network_seen (network link bytes)
+
+-- No datagram of UDP has more bytes than 65,535, its header of 8 included.
+abbrev pub IsShort : Seen → Type 0
+IsShort other = ⊤
+IsShort fragment = ⊤
+IsShort cut = ⊤
+IsShort (datagram carried) = length carried.bytes ≤ 65527
 
 -- ---- moments
 

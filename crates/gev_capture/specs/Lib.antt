@@ -5,3 +5,5 @@ pub mod Captures
 pub mod Laws
 pub mod Contents
 pub mod Reading
+pub mod Sightings
+pub mod Walking

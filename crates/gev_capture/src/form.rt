@@ -1,7 +1,7 @@
 use crate::order::Order;
 
 /// An interface of a section of a pcapng file.
-#[derive(Clone, Copy, Debug, PartialEq, Eq)]
+#[derive(Clone, Copy, Debug, Default, PartialEq, Eq)]
 pub struct Face {
     /// The link type.
     pub link: u16,

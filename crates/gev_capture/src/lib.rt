@@ -7,26 +7,34 @@
 
 mod blocks;
 mod capture_end;
+mod captured;
 mod classic;
 mod content;
 mod form;
 mod kind;
 mod laws;
+mod moments;
 mod numbers;
 mod options;
 mod order;
+mod reader;
 mod reading;
 mod room;
 mod seeing;
 mod step;
 mod telling;
+#[cfg(test)]
+mod tests;
 
 pub use capture_end::CaptureEnd;
+pub use captured::Captured;
 pub use content::Content;
 pub use form::{Face, Form};
 pub use kind::CaptureKind;
 pub use laws::{captures_are_one, pieces_tell};
+pub use moments::Moments;
 pub use order::Order;
+pub use reader::Reader;
 pub use reading::find_record;
 pub use room::Room;
 pub use seeing::{content_of, moment_of};

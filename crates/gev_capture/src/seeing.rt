@@ -3,7 +3,7 @@
 ghost use Rattle.std.specs.Prelude.{◌≡◌, ◌+◌, ◌-◌, ◌*◌, ◌/◌, ◌%◌, ◌^◌, ◌≤◌, ◌<◌, ◌==◌, ◌&&◌, ◌||◌, nat_le, min, max, length, drop, Some};
 ghost use Rattle.std.specs.Option.{option_copied};
 ghost use Rattle.wire_fields.specs.Fields.{number_at};
-ghost use Rattle.gev_capture.specs.Contents.{seen_as, ipv4, untagged, is_tag, once_tagged, twice_tagged, looped, cooked, network, header_size, total_length, is_udp, is_fragment, datagram_in, udp_sized, udp_seen, ip_seen, network_seen, seen, moment_of};
+ghost use Rattle.gev_capture.specs.Contents.{seen_as, ipv4, untagged, is_tag, once_tagged, twice_tagged, looped, cooked, network, header_size, total_length, is_udp, is_fragment, datagram_in, udp_sized, udp_seen, ip_seen, network_seen, seen, IsShort, moment_of};
 
 use crate::content::Content;
 use gev_types::Peer;
@@ -150,7 +150,9 @@ fn datagram_in<'a>(ip: &[u8], udp: &'a [u8], count: usize) -> Content<'a>
     requires header { 20 ≤ length ip.now }
     requires least { 8 ≤ count }
     requires within { count ≤ length udp.now }
-    ensures { seen_as result ≡ datagram_in ip.now udp.now count }
+    requires most { count ≤ 65535 }
+    ensures seen { seen_as result ≡ datagram_in ip.now udp.now count }
+    ensures short { IsShort (seen_as result) }
 {
     Content::Datagram {
         sender: Peer {
@@ -169,7 +171,8 @@ fn datagram_in<'a>(ip: &[u8], udp: &'a [u8], count: usize) -> Content<'a>
 fn udp_seen<'a>(ip: &[u8], udp: &'a [u8], room: usize) -> Content<'a>
     requires header { 20 ≤ length ip.now }
     requires udp { 8 ≤ length udp.now }
-    ensures { seen_as result ≡ udp_seen ip.now udp.now room }
+    ensures seen { seen_as result ≡ udp_seen ip.now udp.now room }
+    ensures short { IsShort (seen_as result) }
 {
     let count = usize::from(u16_at(udp, 4));
     if count < UDP_HEADER_SIZE {
@@ -186,7 +189,8 @@ fn udp_seen<'a>(ip: &[u8], udp: &'a [u8], room: usize) -> Content<'a>
 
 /// What a packet of the network layer is.
 fn ip_seen(ip: &[u8]) -> Content<'_>
-    ensures { seen_as result ≡ ip_seen ip.now }
+    ensures seen { seen_as result ≡ ip_seen ip.now }
+    ensures short { IsShort (seen_as result) }
 {
     if ip.len() < LEAST_IP_HEADER {
         return Content::Other;
@@ -210,7 +214,8 @@ fn ip_seen(ip: &[u8]) -> Content<'_>
 
 /// What a captured packet of this link type is. Its bytes are lent.
 pub fn content_of(link: u16, bytes: &[u8]) -> Content<'_>
-    ensures { seen_as result ≡ seen link bytes.now }
+    ensures seen { seen_as result ≡ seen link bytes.now }
+    ensures short { IsShort (seen_as result) }
 {
     match network(link, bytes) {
         Some(ip) => ip_seen(ip),

@@ -119,6 +119,7 @@ fn is_told(status: Status) -> bool
         Status::TurnsSpent { .. } => true,
         Status::Usage { .. } => false,
         Status::BadScript { .. } => false,
+        Status::BadCapture { .. } => false,
         Status::ReadFault => false,
         Status::WriteFault => false,
         Status::LinkFault => false,

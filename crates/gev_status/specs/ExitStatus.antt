@@ -1,7 +1,7 @@
 -- The exit status of the program for each answer.
 use Rattle.std.specs.Prelude.{ℕ}
 use Rattle.gev_status.specs.declared.status.Status.{Status}
-use Rattle.gev_status.specs.declared.status.Status.TheVariants.{Done, Usage, BadScript, ReadFault, WriteFault, LinkFault, NoMemory, NoAnswer, Refused, TurnsSpent}
+use Rattle.gev_status.specs.declared.status.Status.TheVariants.{Done, Usage, BadScript, ReadFault, WriteFault, LinkFault, NoMemory, NoAnswer, Refused, TurnsSpent, BadCapture}
 
 abbrev pub exit_status : Status → ℕ
 exit_status Done = 0
@@ -14,3 +14,4 @@ exit_status NoMemory = 7
 exit_status (NoAnswer req) = 9
 exit_status (Refused status) = 10
 exit_status (TurnsSpent turns frames) = 11
+exit_status (BadCapture number kind) = 12

@@ -1,6 +1,7 @@
 ghost use Rattle.std.specs.Prelude.{◌≡◌};
 ghost use Rattle.gev_status.specs.ExitStatus.{exit_status};
 
+use gev_capture::CaptureKind;
 use gev_script::ScriptKind;
 use std::fmt;
 
@@ -47,6 +48,13 @@ pub enum Status {
         /// How many frames were handed out.
         frames: u32,
     },
+    /// A record of the capture is refused. The text of the packets before it was written.
+    BadCapture {
+        /// The record's number, from 1.
+        record: u64,
+        /// Why it's refused.
+        kind: CaptureKind,
+    },
 }
 
 impl Status {
@@ -65,6 +73,7 @@ impl Status {
             Status::NoAnswer { .. } => 9,
             Status::Refused { .. } => 10,
             Status::TurnsSpent { .. } => 11,
+            Status::BadCapture { .. } => 12,
         }
     }
 }
@@ -88,6 +97,10 @@ impl fmt::Display for Status {
             Status::TurnsSpent { turns, frames } => {
                 write!(f, "{turns} turns spent, {frames} frames")
             }
+            Status::BadCapture { record, kind } => {
+                let cause = CaptureCause(*kind);
+                write!(f, "record {record}: {cause}")
+            }
         }
     }
 }
@@ -106,6 +119,22 @@ impl fmt::Display for Cause {
             ScriptKind::Long => write!(f, "too long"),
             ScriptKind::NoEnd => write!(f, "no end"),
             ScriptKind::Many => write!(f, "too many lines"),
+        }
+    }
+}
+
+/// Why a record of a capture is refused, as a text.
+#[derive(Drop)]
+struct CaptureCause(CaptureKind);
+
+impl fmt::Display for CaptureCause {
+    fn fmt<W: fmt::Write>(&self, f: &mut fmt::Formatter<W>) -> fmt::Result {
+        match self.0 {
+            CaptureKind::Magic => write!(f, "magic"),
+            CaptureKind::Cut => write!(f, "cut off"),
+            CaptureKind::Version => write!(f, "version"),
+            CaptureKind::Length => write!(f, "length"),
+            CaptureKind::Interface => write!(f, "interface"),
         }
     }
 }

@@ -1,3 +1,4 @@
 pub mod Keeping
 pub mod Endings
 pub mod Kept
+pub mod Captured

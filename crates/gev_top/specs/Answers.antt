@@ -1,5 +1,5 @@
 -- What each command has read and written by its answer, and when it gives which answer.
-use Rattle.std.specs.Prelude.{⊤, ◌≡◌, ℕ, List, Option}
+use Rattle.std.specs.Prelude.{⊤, ◌≡◌, ◌≢◌, ℕ, List, Option}
 use Rattle.gev_links.specs.Faults.{Rose}
 use Rattle.gev_links.specs.Told.{Appends, WritesFront}
 use Rattle.script_runs.specs.Verdicts.{outcome}
@@ -9,11 +9,12 @@ use Rattle.camera_trace.specs.Standing as camera
 use Rattle.camera_trace.specs.Laws.{IsTold}
 use Rattle.gev_make.specs.MakeText.{make_text}
 use Rattle.gev_status.specs.declared.status.Status.{Status}
-use Rattle.gev_status.specs.declared.status.Status.TheVariants.{Done, Usage, BadScript, ReadFault, WriteFault, LinkFault, NoMemory, NoAnswer, Refused, TurnsSpent}
+use Rattle.gev_status.specs.declared.status.Status.TheVariants.{Done, Usage, BadScript, ReadFault, WriteFault, LinkFault, NoMemory, NoAnswer, Refused, TurnsSpent, BadCapture}
 use Rattle.gev_top.specs.declared.command.Command.{Command}
-use Rattle.gev_top.specs.declared.command.Command.TheVariants.{Replay, Camera, Make, Soak}
+use Rattle.gev_top.specs.declared.command.Command.TheVariants.{Replay, Streams, Camera, Make, Soak}
 use Rattle.gev_top.specs.Scripts.{Ends, IfEnded, AnswersContent}
 use Rattle.gev_top.specs.Soaking.{Soaks}
+use Rattle.gev_top.specs.Capturing.{ListsStreams, IsCaptureRead, AnswersCapture}
 
 -- A replay: behind each line its trace keeps its promises. It is a run of the board machine, each buffer
 -- has one owner at each step, buffers are handed out once and in the order of their fills, the
@@ -50,6 +51,7 @@ Writes text (NoAnswer req) written written_after writes writes_after = ⊥
 Writes text (Refused status) written written_after writes writes_after = ⊥
 Writes text LinkFault written written_after writes writes_after = ⊥
 Writes text (TurnsSpent turns frames) written written_after writes writes_after = ⊥
+Writes text (BadCapture number kind) written written_after writes writes_after = ⊥
 
 -- A text is made, and nothing is read.
 pub record Makes (text : List ℕ) (status : Status) (left left_after : Option (List ℕ)) (reads reads_after : ℕ) (written written_after : Option (List ℕ)) (writes writes_after : ℕ) : Type 0 where
@@ -61,13 +63,25 @@ pub record Makes (text : List ℕ) (status : Status) (left left_after : Option (
 -- stood in the sink, and the numbers are the counts of faults of both
 abbrev pub Answers : Command → Status → Option (List ℕ) → Option (List ℕ) → ℕ → ℕ → Option (List ℕ) → Option (List ℕ) → ℕ → ℕ → Type 0
 Answers Replay = Replays
+Answers Streams = ListsStreams
 Answers Camera = Serves
 Answers (Make seed frames rates) = Makes (make_text seed frames rates)
 Answers (Soak seed frames rates short) = Soaks (record { seed = seed; frames = frames; rates = rates; short = short })
 
+-- How the source's count of faults stands by the answer: it changes only with the answer that tells of it. Behind a
+-- read that failed lines of a capture are still written, so there it may also have changed with the answers that
+-- writing failed and that memory ran out.
+abbrev pub ReadsSteady : Command → Status → ℕ → ℕ → Type 0
+ReadsSteady Replay status reads reads_after = status ≢ ReadFault → reads_after ≡ reads
+ReadsSteady Streams status reads reads_after = IsCaptureRead status → reads_after ≡ reads
+ReadsSteady Camera status reads reads_after = status ≢ ReadFault → reads_after ≡ reads
+ReadsSteady (Make seed frames rates) status reads reads_after = status ≢ ReadFault → reads_after ≡ reads
+ReadsSteady (Soak seed frames rates short) status reads reads_after = status ≢ ReadFault → reads_after ≡ reads
+
 -- the answer where a source holds these bytes, but for faults and want of memory
 abbrev pub IsDecided : Command → Status → List ℕ → Type 0
 IsDecided Replay status content = AnswersContent status (outcome replay.replay_verdict content)
+IsDecided Streams status content = AnswersCapture status content
 IsDecided Camera status content = AnswersContent status (outcome camera.camera_verdict content)
 IsDecided (Make seed frames rates) status content = ⊤
 IsDecided (Soak seed frames rates short) status content = ⊤

@@ -5,7 +5,7 @@ use Rattle.gev_script.specs.Words.{Read}
 use Rattle.gev_script.specs.Numbers.{number_in}
 use Rattle.lossy_queue.specs.declared.rates.Rates.{Rates}
 use Rattle.gev_top.specs.declared.command.Command.{Command}
-use Rattle.gev_top.specs.declared.command.Command.TheVariants.{Replay, Camera, Make, Soak}
+use Rattle.gev_top.specs.declared.command.Command.TheVariants.{Replay, Streams, Camera, Make, Soak}
 use Rattle.gev_top.specs.declared.numbers.Numbers.{Numbers}
 
 -- What words say, or the place of the first word with which no command line goes on, from 0. Where more
@@ -53,6 +53,12 @@ replay_of words = do
   done ← none_at 1 words
   Ok Replay
 
+-- `streams`
+abbrev pub streams_of : List (List ℕ) → Said Command
+streams_of words = do
+  done ← none_at 1 words
+  Ok Streams
+
 -- `camera`
 abbrev pub camera_of : List (List ℕ) → Said Command
 camera_of words = do
@@ -94,6 +100,7 @@ soak_of words = do
 abbrev pub named : List ℕ → List (List ℕ) → Said Command
 named name words =
     if bytes_eq name (codes "replay") then replay_of words
+    else if bytes_eq name (codes "streams") then streams_of words
     else if bytes_eq name (codes "camera") then camera_of words
     else if bytes_eq name (codes "make") then make_of words
     else if bytes_eq name (codes "soak") then soak_of words

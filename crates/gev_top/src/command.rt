@@ -5,6 +5,8 @@ use lossy_queue::Rates;
 pub enum Command {
     /// Run a replay script, and write its report.
     Replay,
+    /// List the image streams in a capture.
+    Streams,
     /// Run a camera script, and write what the camera answers.
     Camera,
     /// Write the replay script of a seed.

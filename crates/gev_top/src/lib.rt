@@ -5,6 +5,7 @@
 //! and `gev_world`.
 #![tactic(auto)]
 
+mod capturing;
 mod command;
 mod live_numbers;
 mod live_words;

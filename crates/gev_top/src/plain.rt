@@ -2,9 +2,10 @@ ghost use Rattle.std.specs.Prelude.{◌≡◌, ◌≢◌, ◌↔◌, ℕ, Some, 
 ghost use Rattle.std.specs.String.{string_bytes};
 ghost use Rattle.script_runs.specs.Verdicts.{IfTold};
 ghost use Rattle.gev_top.specs.declared.command.Command.{Command};
-ghost use Rattle.gev_top.specs.Answers.{Answers, IsDecided};
+ghost use Rattle.gev_top.specs.Answers.{Answers, IsDecided, ReadsSteady};
 ghost use Rattle.gev_top.specs.Usage.{command_of, usage_fault};
 
+use crate::capturing::streams;
 use crate::command::Command;
 use crate::making::make_script;
 use crate::scripts::{camera, replay};
@@ -19,6 +20,9 @@ use std::alloc::Global;
 /// `replay` runs the replay script that the source gives, and writes its report to the sink. Each line is
 /// run as it's read, and its report is written before the next line is read. Memory doesn't grow with the
 /// script but by the buffers that it announces.
+///
+/// `streams` reads a capture of a network, a pcap or a pcapng file, and writes a line for each image stream in
+/// it, and an end line.
 ///
 /// `camera` runs the camera script that the source gives in the same way: its report is what a simulated
 /// camera answers and sends.
@@ -46,7 +50,8 @@ pub fn plain_top<S: Source, K: Sink>(
     // of faults rose. The bytes that a replay writes are the report of one trace, which keeps its promises:
     // under each map of frames from which the datagrams were sent, an image that is marked complete is its
     // block's frame. Those that a camera script writes are what events of one camera print. Of a script that
-    // is made: it was written whole, or a front of it. Of a soak run: its text was written, or a front of it,
+    // is made: it was written whole, or a front of it. Of a capture: the text that lists the streams of its
+    // packets was written, up to the record that is refused, if one is. Of a soak run: its text was written, or a front of it,
     // the answer is the run's end, its receiver's history keeps the promises of a trace, each image that is
     // marked complete is the generator's, and its commands act once.
     ensures cause { (command : Command) → command_of (map (λ word. string_bytes word) words.now) ≡ Ok command
@@ -57,8 +62,10 @@ pub fn plain_top<S: Source, K: Sink>(
     ensures exact { (command : Command) → command_of (map (λ word. string_bytes word) words.now) ≡ Ok command
         → IfTold (S.left source.old) (λ content. IsDecided command result content) }
 
-    // A count of faults changes only with the answer that tells of it.
-    ensures reads_steady { result ≢ Status.ReadFault → S.faults source.new ≡ S.faults source.old }
+    // A count of faults changes only with the answer that tells of it; of a capture, that of the source may also
+    // have changed where writing failed or memory ran out behind a read that failed.
+    ensures reads_steady { (command : Command) → command_of (map (λ word. string_bytes word) words.now) ≡ Ok command
+        → ReadsSteady command result (S.faults source.old) (S.faults source.new) }
     ensures writes_steady { result ≢ Status.WriteFault → K.faults sink.new ≡ K.faults sink.old }
 {
     match read_words(words) {
@@ -78,11 +85,12 @@ fn run_command<S: Source, K: Sink>(
     ensures cause { Answers command result (S.left source.old) (S.left source.new) (S.faults source.old) (S.faults source.new)
         (K.written sink.old) (K.written sink.new) (K.faults sink.old) (K.faults sink.new) }
     ensures exact { IfTold (S.left source.old) (λ content. IsDecided command result content) }
-    ensures reads_steady { result ≢ Status.ReadFault → S.faults source.new ≡ S.faults source.old }
+    ensures reads_steady { ReadsSteady command result (S.faults source.old) (S.faults source.new) }
     ensures writes_steady { result ≢ Status.WriteFault → K.faults sink.new ≡ K.faults sink.old }
 {
     match command {
         Command::Replay => replay(alloc, source, sink),
+        Command::Streams => streams(alloc, source, sink),
         Command::Camera => camera(alloc, source, sink),
         Command::Make {
             seed,

@@ -6,6 +6,7 @@ use std::test::Fail;
 mod blocks;
 mod board;
 mod cameras;
+mod captures;
 mod faults;
 mod handles;
 mod large_images;

@@ -1,7 +1,7 @@
 ghost use Rattle.std.specs.Prelude.{◌≡◌, ◌≤◌, map, IfOk};
 ghost use Rattle.std.specs.String.{string_bytes};
 ghost use Rattle.std.specs.Str.{bytes_eq};
-ghost use Rattle.gev_top.specs.Usage.{number_at, none_at, short_at, rates_of, replay_of, camera_of, make_of, soak_of, numbers_of, named, command_of};
+ghost use Rattle.gev_top.specs.Usage.{number_at, none_at, short_at, rates_of, replay_of, streams_of, camera_of, make_of, soak_of, numbers_of, named, command_of};
 
 use crate::command::Command;
 use crate::numbers::Numbers;
@@ -26,6 +26,9 @@ fn read_named(name: &[u8], words: &[String]) -> Result<Command, u32>
     if is(name, b"replay") {
         return read_replay(words);
     }
+    if is(name, b"streams") {
+        return read_streams(words);
+    }
     if is(name, b"camera") {
         return read_camera(words);
     }
@@ -44,6 +47,14 @@ fn read_replay(words: &[String]) -> Result<Command, u32>
 {
     none_at(1, words)?;
     Ok(Command::Replay)
+}
+
+/// No word follows `streams`.
+fn read_streams(words: &[String]) -> Result<Command, u32>
+    ensures { result ≡ streams_of (map (λ word. string_bytes word) words.now) }
+{
+    none_at(1, words)?;
+    Ok(Command::Streams)
 }
 
 /// No word follows `camera`.

@@ -8,6 +8,10 @@ gevacq replay
     Runs a script of buffer calls, datagrams and moments: reads it from standard
     input and writes its report, line by line, to standard output.
 
+gevacq streams
+    Lists the image streams in a capture: reads a pcap or pcapng file from standard
+    input and writes a line for each stream.
+
 gevacq camera
     Runs a script of control messages on a simulated camera: reads it from
     standard input and writes what the camera answers and sends.
@@ -48,6 +52,7 @@ docs/FORMATS.md.
 /// A line for each command line, printed behind the text of words that weren't understood.
 pub(crate) const USAGE: &str = "\
 usage: gevacq replay
+usage: gevacq streams
 usage: gevacq camera
 usage: gevacq make <seed> <frames> <loss> <repeat> <swap>
 usage: gevacq soak <seed> <frames> <loss> <repeat> <swap> [short]

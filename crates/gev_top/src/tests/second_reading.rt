@@ -16,17 +16,19 @@ use std::test::Fail;
 type Words = &'static [&'static str];
 
 /// Command lines of one word.
-const WORDS_ALONE: [(Words, Command); 2] = [
+const WORDS_ALONE: [(Words, Command); 3] = [
     (&["replay"], Command::Replay),
+    (&["streams"], Command::Streams),
     (&["camera"], Command::Camera),
 ];
 
 /// Refused words: the place of the first that isn't understood, and what `clap` finds wrong.
-const REFUSED: [(Words, u32, ErrorKind); 15] = [
+const REFUSED: [(Words, u32, ErrorKind); 16] = [
     (&[], 0, ErrorKind::MissingSubcommand),
     (&["reply"], 0, ErrorKind::InvalidSubcommand),
     (&["Replay"], 0, ErrorKind::InvalidSubcommand),
     (&["replay", "replay"], 1, ErrorKind::UnknownArgument),
+    (&["streams", "streams"], 1, ErrorKind::UnknownArgument),
     (&["camera", "replay"], 1, ErrorKind::UnknownArgument),
     (&["make"], 1, ErrorKind::MissingRequiredArgument),
     (
@@ -136,6 +138,7 @@ fn matches_of(alloc: Global, words: Words) -> Result<ArgMatches<'static>, Error>
         .no_binary_name(true)
         .subcommand_required(true)
         .subcommand(clap::Command::new(alloc, "replay"))?
+        .subcommand(clap::Command::new(alloc, "streams"))?
         .subcommand(clap::Command::new(alloc, "camera"))?
         .subcommand(with_numbers(alloc, "make")?)?
         .subcommand(with_numbers(alloc, "soak")?.arg(short_word(alloc))?)?;
@@ -161,6 +164,9 @@ fn found_command(found: &ArgMatches<'static>) -> Option<Command> {
     let (name, inner) = found.subcommand()?;
     if name == "replay" {
         return Some(Command::Replay);
+    }
+    if name == "streams" {
+        return Some(Command::Streams);
     }
     if name == "camera" {
         return Some(Command::Camera);

@@ -1,5 +1,6 @@
 use super::{SCRIPT, word_list};
 use crate::{Status, gevacq_top};
+use gev_capture::CaptureKind;
 use gev_links::{MemorySink, SteadySource};
 use gev_script::ScriptKind;
 use std::test::Fail;
@@ -90,6 +91,15 @@ fn numbers_and_texts(rt: HostRuntime) -> Result<(), Fail> {
             10,
             "refused with status 0x002a",
         ),
+        (bad_capture(CaptureKind::Magic), 12, "record 3: magic"),
+        (bad_capture(CaptureKind::Cut), 12, "record 3: cut off"),
+        (bad_capture(CaptureKind::Version), 12, "record 3: version"),
+        (bad_capture(CaptureKind::Length), 12, "record 3: length"),
+        (
+            bad_capture(CaptureKind::Interface),
+            12,
+            "record 3: interface",
+        ),
     ];
     assert_eq!(rt; Status::Done.number(), 0);
     for (status, number, text) in cases {
@@ -102,4 +112,9 @@ fn numbers_and_texts(rt: HostRuntime) -> Result<(), Fail> {
 /// The answer to a script whose line 12 is refused for this cause.
 fn bad_script(kind: ScriptKind) -> Status {
     Status::BadScript { line: 12, kind }
+}
+
+/// The answer to a capture whose record 3 is refused for this cause.
+fn bad_capture(kind: CaptureKind) -> Status {
+    Status::BadCapture { record: 3, kind }
 }

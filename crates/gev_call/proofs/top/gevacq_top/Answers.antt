@@ -24,6 +24,10 @@ pub returns-in-None-clause-exact : goal.returns-in-None-clause-exact
 returns-in-None-clause-exact g c =
     λ command is. c.plain_top.ensures.exact command (command_is (map (λ word. string_bytes word) c.args.words.now) command (sym c.in-None.ensures.said) is)
 
+pub returns-in-None-clause-reads_steady : goal.returns-in-None-clause-reads_steady
+returns-in-None-clause-reads_steady g c =
+    λ command is. c.plain_top.ensures.reads_steady command (command_is (map (λ word. string_bytes word) c.args.words.now) command (sym c.in-None.ensures.said) is)
+
 pub returns-in-None-clause-unread : goal.returns-in-None-clause-unread
 returns-in-None-clause-unread g c =
     λ n is. absurd (never_live (map (λ word. string_bytes word) c.args.words.now) n (sym c.in-None.ensures.said) is)

@@ -1,0 +1,68 @@
+-- How a run over a capture ended, and what it has read and written.
+use Rattle.std.specs.Prelude.{◌≡◌, ⊤, ℕ, List, Option, Some, None}
+use Rattle.gev_links.specs.Faults.{Rose}
+use Rattle.gev_links.specs.Told.{Gives, Appends, WritesFront}
+use Rattle.script_runs.specs.Verdicts.{IfTold}
+use Rattle.gev_capture.specs.Files.{Packet, Format, fresh}
+use Rattle.gev_capture.specs.Captures.{Read, Refusal, IsOpen, packets_in, HasCaptured}
+use Rattle.gev_capture.specs.Sightings.{Sighting, sightings}
+use Rattle.gev_capture.specs.Walking.{Walks}
+use Rattle.capture_runs.specs.declared.ending.Ending.{Ending}
+use Rattle.capture_runs.specs.declared.ending.Ending.TheVariants.{Done, BadCapture, ReadFault, WriteFault, NoMemory}
+
+-- These bytes came from the source. They are a capture with these packets and this end, and where the source
+-- tells what it holds, so is all of that. This holds of the packets.
+pub record WasCaptured (left left_after : Option (List ℕ)) (end : Option Refusal) (P : List Packet → Type 0) : Type 0 where
+  pub bytes : List ℕ
+  pub packets : List Packet
+  pub given : Gives left left_after bytes
+  pub captured : HasCaptured bytes packets end
+  pub content : IfTold left (λ content. HasCaptured content packets end)
+  pub holds : P packets
+
+-- These bytes came from the source, and begin with these records, behind which is this format, and these bytes
+-- are left. This holds of them.
+pub record WasRead (left left_after : Option (List ℕ)) (P : List Read → Format → List ℕ → Type 0) : Type 0 where
+  pub bytes : List ℕ
+  pub records : List Read
+  pub now : Format
+  pub rest : List ℕ
+  pub given : Gives left left_after bytes
+  pub walks : Walks fresh bytes records now rest
+  pub holds : P records now rest
+
+-- By the ending, where `whole` is the text of a capture with these packets, and `broken` that of one whose
+-- reading failed behind them: the capture's text was written, or a front of it.
+abbrev pub RunEnds : (List Sighting → List ℕ) → (List Sighting → List ℕ) → Ending → Option (List ℕ) → Option (List ℕ) → ℕ → ℕ → Option (List ℕ) → Option (List ℕ) → ℕ → ℕ → Type 0
+RunEnds whole broken Done left left_after reads reads_after written written_after writes writes_after =
+    WasCaptured left left_after None (λ packets. Appends written written_after (whole (sightings packets)))
+RunEnds whole broken (BadCapture n kind) left left_after reads reads_after written written_after writes writes_after =
+    WasCaptured left left_after (Some (record { number = n; kind = kind })) (λ packets. Appends written written_after (whole (sightings packets)))
+RunEnds whole broken ReadFault left left_after reads reads_after written written_after writes writes_after =
+    Rose reads reads_after
+    × WasRead left left_after (λ records now rest. IsOpen now rest × Appends written written_after (broken (sightings (packets_in records))))
+RunEnds whole broken WriteFault left left_after reads reads_after written written_after writes writes_after =
+    Rose writes writes_after
+    × WasRead left left_after (λ records now rest. WritesFront written written_after (whole (sightings (packets_in records))))
+RunEnds whole broken NoMemory left left_after reads reads_after written written_after writes writes_after =
+    WasRead left left_after (λ records now rest. WritesFront written written_after (whole (sightings (packets_in records))))
+
+-- The capture was read to its end, or to a record that is refused.
+abbrev pub IsWhole : Ending → Type 0
+IsWhole Done = ⊤
+IsWhole (BadCapture n kind) = ⊤
+IsWhole ReadFault = ⊥
+IsWhole WriteFault = ⊥
+IsWhole NoMemory = ⊥
+
+-- The ending of a run over a capture that ends so, but for faults and want of memory.
+abbrev pub AnswersEnd : Ending → Option Refusal → Type 0
+AnswersEnd Done end = end ≡ None
+AnswersEnd (BadCapture n kind) end = end ≡ Some (record { number = n; kind = kind })
+AnswersEnd ReadFault end = ⊤
+AnswersEnd WriteFault end = ⊤
+AnswersEnd NoMemory end = ⊤
+
+-- The same over these bytes, all that a source holds.
+abbrev pub AnswersContent : Ending → List ℕ → Type 0
+AnswersContent ending content = (packets : List Packet) (end : Option Refusal) → HasCaptured content packets end → AnswersEnd ending end

@@ -1,0 +1,4 @@
+pub mod Signs
+pub mod Streams
+pub mod Texts
+pub mod Pieces

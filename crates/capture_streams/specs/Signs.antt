@@ -1,0 +1,24 @@
+-- What a datagram is to an image stream.
+use Rattle.std.specs.Prelude.{ℕ, List, length, Bool, true, false, Option, Some, None, Result, Ok, Err}
+use Rattle.stream_packets.specs.Packets.{StreamPacket, leader, payload, trailer, notice}
+use Rattle.gvsp_wire.specs.Reading.{packet_of}
+use Rattle.gvsp_std.specs.declared.std_error.StdError.{StdError}
+use Rattle.gvsp_std.specs.Widening.{widened}
+use Rattle.capture_streams.specs.declared.sign.Sign.{Sign}
+use Rattle.capture_streams.specs.declared.sign.Sign.TheVariants.{Leader, Payload, Other}
+
+-- a packet with extended identifiers or with standard ones, if it is one
+abbrev pub sign_in : Bool → Option StreamPacket → Sign
+sign_in extended None = Other
+sign_in extended (Some (leader h i)) = Leader extended h.block i
+sign_in extended (Some (payload h d)) = Payload (length d)
+sign_in extended (Some (trailer h y)) = Other
+sign_in extended (Some (notice h)) = Other
+
+-- What becomes of a datagram with standard identifiers decides, where it is one: its block is its own id.
+abbrev pub sign_of : Result (ℕ × List ℕ) StdError → List ℕ → Sign
+sign_of (Ok x) bytes = sign_in false (packet_of x.1)
+sign_of (Err e) bytes = sign_in true (packet_of bytes)
+
+abbrev pub sign : List ℕ → Sign
+sign bytes = sign_of (widened 0 bytes) bytes

@@ -1,0 +1,123 @@
+-- The image streams in a capture, and what is counted of each. Counts stand still at 2 ^ 64 - 1.
+use Rattle.std.specs.Prelude.{ℕ, ◌-◌, ◌==◌, ◌&&◌, ◌||◌, not, max, nat_lt, List, [], ◌∷◌, ◌++◌, length, position, slice_get, slice_set, Bool, true, false, Option, Some, None, if◌then◌else◌}
+use Rattle.gev_types.specs.declared.peer.Peer.{Peer}
+use Rattle.gev_links.specs.Given.{one_more}
+use Rattle.stream_packets.specs.declared.fields.LeaderInfo.{LeaderInfo}
+use Rattle.gev_capture.specs.Contents.{Seen, Carried, other, fragment, cut, datagram}
+use Rattle.gev_capture.specs.Sightings.{Sighting}
+use Rattle.capture_streams.specs.declared.counts.Counts.{Counts}
+use Rattle.capture_streams.specs.declared.sign.Sign.{Sign}
+use Rattle.capture_streams.specs.declared.sign.Sign.TheVariants.{Leader, Payload, Other}
+use Rattle.capture_streams.specs.declared.stream.Stream.{Stream}
+use Rattle.capture_streams.specs.Signs.{sign}
+
+pub record TableState : Type 0 where
+  -- in the order in which they begin
+  pub streams : List Stream
+  pub counts : Counts
+
+abbrev pub no_counts : Counts
+no_counts = record { packets = 0; datagrams = 0; fragments = 0; cut = 0; other = 0; unlisted = 0 }
+
+abbrev pub empty_table : TableState
+empty_table = record { streams = []; counts = no_counts }
+
+-- ---- a stream
+
+abbrev pub same_peer : Peer → Peer → Bool
+same_peer a b = a.address == b.address && a.port == b.port
+
+-- who sends and who receives is that of the stream
+abbrev pub is_between : Peer → Peer → Stream → Bool
+is_between sender receiver s = same_peer s.sender sender && same_peer s.receiver receiver
+
+-- what a leader tells, the last one
+abbrev pub with_leader : Bool → ℕ → LeaderInfo → Stream → Stream
+with_leader extended block info s = record s {
+  extended = s.extended || extended;
+  standard = s.standard || not extended;
+  leaders = one_more s.leaders;
+  width = info.size_x;
+  height = info.size_y;
+  pixel = info.pixel;
+  bytes = info.size;
+  last = block;
+}
+
+abbrev pub with_sign : Sign → Stream → Stream
+with_sign (Leader extended block info) s = with_leader extended block info s
+with_sign (Payload n) s = record s { payload = max s.payload n }
+with_sign Other s = s
+
+-- one more datagram of a stream, at this moment
+abbrev pub heard : ℕ → Sign → Stream → Stream
+heard moment found s = with_sign found (record s { datagrams = one_more s.datagrams; ended = moment })
+
+-- a stream whose first leader, of this block, comes at this moment, before it's counted
+abbrev pub blank : Peer → Peer → ℕ → ℕ → Stream
+blank sender receiver moment block = record {
+  sender = sender;
+  receiver = receiver;
+  extended = false;
+  standard = false;
+  datagrams = 0;
+  payload = 0;
+  leaders = 0;
+  width = 0;
+  height = 0;
+  pixel = 0;
+  bytes = 0;
+  first = block;
+  last = block;
+  begun = moment;
+  ended = moment;
+}
+
+abbrev pub begun : Peer → Peer → ℕ → Bool → ℕ → LeaderInfo → Stream
+begun sender receiver moment extended block info = heard moment (Leader extended block info) (blank sender receiver moment block)
+
+-- ---- the table
+
+-- the streams with one more datagram of the one at this place
+abbrev pub with_heard : ℕ → ℕ → Sign → Option Stream → List Stream → List Stream
+with_heard place moment found None streams = streams
+with_heard place moment found (Some s) streams = slice_set streams place (heard moment found s)
+
+-- one leader more of a stream that isn't listed
+abbrev pub with_unlisted : Counts → Counts
+with_unlisted counts = record counts { unlisted = one_more counts.unlisted }
+
+-- A datagram of a pair that is no stream yet: a leader begins one, of which at most 256 are listed.
+abbrev pub with_new : Peer → Peer → ℕ → Sign → TableState → TableState
+with_new sender receiver moment (Leader extended block info) t =
+    if nat_lt (length t.streams) 256 then record { streams = t.streams ++ begun sender receiver moment extended block info ∷ []; counts = t.counts }
+    else record { streams = t.streams; counts = with_unlisted t.counts }
+with_new sender receiver moment (Payload n) t = t
+with_new sender receiver moment Other t = t
+
+-- by the place of the pair's stream, if there is one
+abbrev pub with_datagram : Option ℕ → Peer → Peer → ℕ → Sign → TableState → TableState
+with_datagram (Some place) sender receiver moment found t =
+    record { streams = with_heard place moment found (slice_get t.streams place) t.streams; counts = t.counts }
+with_datagram None sender receiver moment found t = with_new sender receiver moment found t
+
+abbrev pub with_carried : Carried → ℕ → TableState → TableState
+with_carried c moment t =
+    with_datagram (position (is_between c.sender c.receiver) t.streams) c.sender c.receiver moment (sign c.bytes) t
+
+-- one packet more, by what it is
+abbrev pub counts_after : Seen → Counts → Counts
+counts_after other counts = record counts { packets = one_more counts.packets; other = one_more counts.other }
+counts_after fragment counts = record counts { packets = one_more counts.packets; fragments = one_more counts.fragments }
+counts_after cut counts = record counts { packets = one_more counts.packets; cut = one_more counts.cut }
+counts_after (datagram c) counts = record counts { packets = one_more counts.packets; datagrams = one_more counts.datagrams }
+
+abbrev pub with_seen : ℕ → Seen → TableState → TableState
+with_seen moment other t = t
+with_seen moment fragment t = t
+with_seen moment cut t = t
+with_seen moment (datagram c) t = with_carried c moment t
+
+-- the table with one more packet
+abbrev pub counted : Sighting → TableState → TableState
+counted x t = with_seen x.moment x.what (record { streams = t.streams; counts = counts_after x.what t.counts })

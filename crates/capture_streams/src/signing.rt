@@ -1,0 +1,37 @@
+//! What a datagram is to an image stream, by its bytes.
+
+ghost use Rattle.std.specs.Prelude.{◌≡◌, ◌≤◌, ◌+◌, length, false, true};
+ghost use Rattle.gvsp_wire.specs.View.{seen};
+ghost use Rattle.gvsp_wire.specs.Reading.{ok_of, packet_of};
+ghost use Rattle.gvsp_std.specs.Widening.{widened};
+ghost use Rattle.capture_streams.specs.Signs.{sign_in, sign};
+
+use crate::sign::Sign;
+use gvsp_std::Widener;
+use gvsp_wire::{Packet, WireError, parse};
+
+/// What a packet with extended identifiers or with standard ones is, if it is one.
+fn sign_in(extended: bool, packet: Result<Packet<'_>, WireError>) -> Sign
+    ensures { result ≡ sign_in extended (ok_of (seen packet.entry)) }
+{
+    match packet {
+        Ok(Packet::Leader(head, info)) => Sign::Leader(extended, head.block, info),
+        Ok(Packet::Payload(_, bytes)) => Sign::Payload(bytes.len() as u64),
+        Ok(Packet::Trailer(_, _)) => Sign::Other,
+        Ok(Packet::Notice(_)) => Sign::Other,
+        Err(_) => Sign::Other,
+    }
+}
+
+/// What a datagram is to a stream. One with standard identifiers is widened into the room, in the block of its
+/// own id.
+pub fn sign(bytes: &[u8], room: &mut [u8]) -> Sign
+    requires { length bytes.now + 12 ≤ length room.old }
+    ensures { result ≡ sign bytes.now }
+{
+    let mut widener = Widener::new();
+    match widener.widen(bytes, room) {
+        Ok(count) => sign_in(false, parse(&room[..count])),
+        Err(_) => sign_in(true, parse(bytes)),
+    }
+}

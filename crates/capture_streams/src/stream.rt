@@ -1,0 +1,148 @@
+ghost use Rattle.std.specs.Prelude.{◌≡◌, ◌&&◌, ◌||◌, not, max};
+ghost use Rattle.gev_links.specs.Given.{one_more};
+ghost use Rattle.capture_streams.specs.Streams.{same_peer, is_between, with_leader, with_sign, heard, blank, begun};
+
+use crate::sign::Sign;
+use gev_types::Peer;
+use stream_packets::LeaderInfo;
+
+/// An image stream: what one address and port sends to another, from its first leader on.
+#[derive(Clone, Copy, Debug, PartialEq, Eq)]
+pub struct Stream {
+    /// Who sends.
+    pub sender: Peer,
+    /// Who receives.
+    pub receiver: Peer,
+    /// A leader had extended identifiers.
+    pub extended: bool,
+    /// A leader had standard ones.
+    pub standard: bool,
+    /// How many datagrams came.
+    pub datagrams: u64,
+    /// The most bytes of a payload.
+    pub payload: u64,
+    /// How many leaders came.
+    pub leaders: u64,
+    /// Pixels in a line, by the last leader.
+    pub width: u32,
+    /// Lines, by the last leader.
+    pub height: u32,
+    /// The pixel format's code, by the last leader.
+    pub pixel: u32,
+    /// The image's size in bytes, by the last leader.
+    pub bytes: u32,
+    /// The block id of the first leader.
+    pub first: u64,
+    /// The block id of the last leader.
+    pub last: u64,
+    /// The moment of the first datagram, in milliseconds.
+    pub begun: u64,
+    /// The moment of the last datagram.
+    pub ended: u64,
+}
+
+/// One more, up to the counter's last value.
+pub fn one_more(count: u64) -> u64
+    ensures { result ≡ one_more count }
+{
+    count.saturating_add(1)
+}
+
+/// Whether these are one address and port.
+fn same_peer(a: Peer, b: Peer) -> bool
+    ensures { result ≡ same_peer a b }
+{
+    a.address == b.address && a.port == b.port
+}
+
+impl Stream {
+    /// Whether this is what the one sends to the other.
+    pub fn is_between(&self, sender: Peer, receiver: Peer) -> bool
+        ensures { result ≡ is_between sender receiver self.now }
+    {
+        same_peer(self.sender, sender) && same_peer(self.receiver, receiver)
+    }
+
+    /// A stream whose first leader, of this block, comes at this moment, before it's counted.
+    fn blank(sender: Peer, receiver: Peer, moment: u64, block: u64) -> Stream
+        ensures { result ≡ blank sender receiver moment block }
+    {
+        Stream {
+            sender,
+            receiver,
+            extended: false,
+            standard: false,
+            datagrams: 0,
+            payload: 0,
+            leaders: 0,
+            width: 0,
+            height: 0,
+            pixel: 0,
+            bytes: 0,
+            first: block,
+            last: block,
+            begun: moment,
+            ended: moment,
+        }
+    }
+
+    /// The stream behind a leader.
+    fn with_leader(self, extended: bool, block: u64, info: LeaderInfo) -> Stream
+        ensures { result ≡ with_leader extended block info self }
+    {
+        Stream {
+            extended: self.extended || extended,
+            standard: self.standard || !extended,
+            leaders: one_more(self.leaders),
+            width: info.size_x,
+            height: info.size_y,
+            pixel: info.pixel,
+            bytes: info.size,
+            last: block,
+            ..self
+        }
+    }
+
+    /// The stream behind a datagram that is counted.
+    fn with_sign(self, sign: Sign) -> Stream
+        ensures { result ≡ with_sign sign self }
+    {
+        match sign {
+            Sign::Leader(extended, block, info) => self.with_leader(extended, block, info),
+            Sign::Payload(count) => Stream {
+                payload: self.payload.max(count),
+                ..self
+            },
+            Sign::Other => self,
+        }
+    }
+
+    /// The stream with one more datagram, at this moment.
+    pub fn heard(self, moment: u64, sign: Sign) -> Stream
+        ensures { result ≡ heard moment sign self }
+    {
+        let counted = Stream {
+            datagrams: one_more(self.datagrams),
+            ended: moment,
+            ..self
+        };
+        counted.with_sign(sign)
+    }
+
+    /// The stream that this leader begins.
+    pub fn begun(
+        sender: Peer,
+        receiver: Peer,
+        moment: u64,
+        extended: bool,
+        block: u64,
+        info: LeaderInfo,
+    ) -> Stream
+        ensures { result ≡ begun sender receiver moment extended block info }
+    {
+        Stream::blank(sender, receiver, moment, block).heard(
+            moment,
+            Sign::Leader(extended, block, info),
+        )
+    }
+}

@@ -1,0 +1,33 @@
+ghost use Rattle.std.specs.Prelude.{◌≡◌, ◌≢◌};
+ghost use Rattle.script_runs.specs.Verdicts.{IfTold};
+ghost use Rattle.gev_top.specs.Capturing.{status_from, ListsStreams, IsCaptureRead, AnswersCapture};
+
+use capture_runs::Ending;
+use capture_streams::list_streams;
+use gev_links::{Sink, Source};
+use gev_status::Status;
+use std::alloc::Global;
+
+/// The answer where the run over a capture ended so.
+fn status_from(ending: Ending) -> Status
+    ensures { result ≡ status_from ending }
+{
+    match ending {
+        Ending::Done => Status::Done,
+        Ending::BadCapture { record, kind } => Status::BadCapture { record, kind },
+        Ending::ReadFault => Status::ReadFault,
+        Ending::WriteFault => Status::WriteFault,
+        Ending::NoMemory => Status::NoMemory,
+    }
+}
+
+/// Lists the image streams in the capture that the source gives.
+pub fn streams<S: Source, K: Sink>(alloc: Global, source: &mut S, sink: &mut K) -> Status
+    ensures cause { ListsStreams result (S.left source.old) (S.left source.new) (S.faults source.old) (S.faults source.new)
+        (K.written sink.old) (K.written sink.new) (K.faults sink.old) (K.faults sink.new) }
+    ensures exact { IfTold (S.left source.old) (λ content. AnswersCapture result content) }
+    ensures reads_steady { IsCaptureRead result → S.faults source.new ≡ S.faults source.old }
+    ensures writes_steady { result ≢ Status.WriteFault → K.faults sink.new ≡ K.faults sink.old }
+{
+    status_from(list_streams(alloc, source, sink))
+}
