@@ -1,4 +1,5 @@
-//! The program's top call: what `gevacq` does with its words, its input and its output.
+//! The commands of the program that make no use of ports: what `gevacq` does with its words, its input and its
+//! output. `gev_call` has the program's call, which adds `live`.
 //!
 //! `specs/Usage.antt` says which words are which command, and `specs/Answers.antt` what a command has read
 //! and written by its answer. They stand on the definitions of `script_runs`, `script_trace`, `gev_make`
@@ -16,7 +17,6 @@ mod scripts;
 mod soaking;
 #[cfg(test)]
 mod tests;
-mod top;
 mod usage;
 
 pub use command::Command;
@@ -24,4 +24,3 @@ pub use gev_status::Status;
 pub use live_numbers::LiveNumbers;
 pub use live_words::read_live;
 pub use plain::plain_top;
-pub use top::gevacq_top;

@@ -1,4 +1,4 @@
-use crate::{Status, gevacq_top};
+use crate::{Status, plain_top};
 use gev_links::{MemorySink, SteadySource};
 use std::alloc::Global;
 use std::test::Fail;
@@ -63,7 +63,7 @@ fn replay(alloc: Global, script: &str) -> Result<(Status, Vec<u8>), Fail> {
     let words = word_list(alloc, &["replay"])?;
     let mut source = SteadySource::new(script.as_bytes(), 1000);
     let mut sink = MemorySink::new(alloc, 1000, &[]);
-    let status = gevacq_top(alloc, &words, &mut source, &mut sink);
+    let status = plain_top(alloc, &words, &mut source, &mut sink);
     let written = sink.written().to_vec(alloc)?;
     Ok((status, written))
 }

@@ -1,5 +1,5 @@
 use super::{SCRIPT, word_list};
-use crate::{Status, gevacq_top};
+use crate::{Status, plain_top};
 use gev_links::{MemorySink, SteadySource};
 use gev_script::ScriptKind;
 use std::test::Fail;
@@ -35,7 +35,7 @@ fn runs_camera_scripts(rt: HostRuntime) -> Result<(), Fail> {
         let words = word_list(alloc, &[word])?;
         let mut source = SteadySource::new(script.as_bytes(), 1000);
         let mut sink = MemorySink::new(alloc, 1000, &[]);
-        let status = gevacq_top(alloc, &words, &mut source, &mut sink);
+        let status = plain_top(alloc, &words, &mut source, &mut sink);
         assert_eq!(rt; status, ending, "{word}");
         assert_eq!(rt; sink.written(), report.as_bytes(), "{word}");
     }

@@ -1,7 +1,7 @@
 //! Captures, their streams, and how their records are refused.
 
 use super::word_list;
-use crate::{Status, gevacq_top};
+use crate::{Status, plain_top};
 use gev_capture::CaptureKind;
 use gev_links::{MemorySink, MemorySource, SteadySource};
 use std::test::Fail;
@@ -97,7 +97,7 @@ fn streams_in_pieces(rt: HostRuntime) -> Result<(), Fail> {
         for piece in [1, 7, 4096] {
             let mut source = SteadySource::new(&bytes, piece);
             let mut sink = MemorySink::new(alloc, 1000, &[]);
-            let status = gevacq_top(alloc, &words, &mut source, &mut sink);
+            let status = plain_top(alloc, &words, &mut source, &mut sink);
             assert_eq!(rt; status, row.status);
             assert_eq!(rt; sink.written(), row.streams.as_bytes());
         }
@@ -115,14 +115,14 @@ fn streams_behind_a_fault(rt: HostRuntime) -> Result<(), Fail> {
     let bytes = hex::decode(alloc, row.capture)?;
     let mut source = MemorySource::new(&bytes, 4096, &[2]);
     let mut sink = MemorySink::new(alloc, 1000, &[]);
-    let status = gevacq_top(alloc, &words, &mut source, &mut sink);
+    let status = plain_top(alloc, &words, &mut source, &mut sink);
     assert_eq!(rt; status, Status::ReadFault);
     assert_eq!(rt; row.streams.as_bytes().starts_with(sink.written()), true);
     assert_eq!(rt; sink.written().ends_with(b"\n"), true);
     assert_eq!(rt; sink.written().len() < row.streams.len(), true);
     let mut source = MemorySource::new(&bytes, 4096, &[2]);
     let mut sink = MemorySink::new(alloc, 1000, &[1]);
-    let status = gevacq_top(alloc, &words, &mut source, &mut sink);
+    let status = plain_top(alloc, &words, &mut source, &mut sink);
     assert_eq!(rt; status, Status::WriteFault);
     assert_eq!(rt; (source.faults(), sink.faults()), (1, 1));
     Ok(())

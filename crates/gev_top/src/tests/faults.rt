@@ -1,5 +1,5 @@
 use super::{REPORT, SCRIPT, word_list};
-use crate::{Status, gevacq_top};
+use crate::{Status, plain_top};
 use gev_links::{MemorySink, MemorySource};
 use std::test::Fail;
 
@@ -18,7 +18,7 @@ fn a_read_fails(rt: HostRuntime) -> Result<(), Fail> {
             let failing = [failing];
             let mut source = MemorySource::new(SCRIPT.as_bytes(), piece, &failing);
             let mut sink = MemorySink::new(alloc, 1000, &[]);
-            let status = gevacq_top(alloc, &words, &mut source, &mut sink);
+            let status = plain_top(alloc, &words, &mut source, &mut sink);
             if failing == [reads + 1] {
                 assert_eq!(rt; status, Status::Done, "{piece} {failing:?}");
                 assert_eq!(rt; sink.written(), REPORT.as_bytes(), "{piece} {failing:?}");
@@ -43,7 +43,7 @@ fn whole_lines_are_reported(rt: HostRuntime) -> Result<(), Fail> {
     let words = word_list(alloc, &["replay"])?;
     let mut source = MemorySource::new(SCRIPT.as_bytes(), SCRIPT.len() - 6, &[2]);
     let mut sink = MemorySink::new(alloc, 1000, &[]);
-    let status = gevacq_top(alloc, &words, &mut source, &mut sink);
+    let status = plain_top(alloc, &words, &mut source, &mut sink);
     assert_eq!(rt; status, Status::ReadFault);
     assert_eq!(rt; sink.written(), BEFORE_TAKE.as_bytes());
     Ok(())
@@ -60,7 +60,7 @@ fn a_write_fails(rt: HostRuntime) -> Result<(), Fail> {
             let failing = [failing];
             let mut source = MemorySource::new(SCRIPT.as_bytes(), 1000, &[]);
             let mut sink = MemorySink::new(alloc, piece, &failing);
-            let status = gevacq_top(alloc, &words, &mut source, &mut sink);
+            let status = plain_top(alloc, &words, &mut source, &mut sink);
             let written = sink.written();
             if status == Status::Done {
                 assert_eq!(rt; written, REPORT.as_bytes(), "{piece} {failing:?}");
@@ -90,7 +90,7 @@ fn nothing_is_taken(rt: HostRuntime) -> Result<(), Fail> {
     let words = word_list(alloc, &["replay"])?;
     let mut source = MemorySource::new(SCRIPT.as_bytes(), 1000, &[]);
     let mut sink = MemorySink::new(alloc, 0, &[]);
-    let status = gevacq_top(alloc, &words, &mut source, &mut sink);
+    let status = plain_top(alloc, &words, &mut source, &mut sink);
     assert_eq!(rt; status, Status::WriteFault);
     assert!(rt; sink.written().is_empty());
     assert_eq!(rt; sink.faults(), 1);

@@ -1,5 +1,5 @@
 use super::word_list;
-use crate::{Status, gevacq_top};
+use crate::{Status, plain_top};
 use gev_links::{MemorySink, SteadySource};
 use std::alloc::Global;
 use std::test::Fail;
@@ -79,7 +79,7 @@ fn a_million_bytes(rt: HostRuntime) -> Result<(), Fail> {
         let words = word_list(alloc, &["replay"])?;
         let mut source = SteadySource::new(script.as_slice(), 30_000);
         let mut sink = MemorySink::new(alloc, 1000, &[]);
-        let status = gevacq_top(alloc, &words, &mut source, &mut sink);
+        let status = plain_top(alloc, &words, &mut source, &mut sink);
         assert_eq!(rt; status, Status::Done);
         assert_eq!(rt; sink.written(), REPORT.as_bytes());
     }

@@ -1,5 +1,5 @@
 use super::word_list;
-use crate::{Status, gevacq_top};
+use crate::{Status, plain_top};
 use gev_links::{MemorySink, MemorySource};
 use gev_script::ScriptKind;
 use std::alloc::Global;
@@ -87,7 +87,7 @@ fn refused_lines(rt: HostRuntime) -> Result<(), Fail> {
         for piece in [1, 7, 20_001] {
             let mut source = MemorySource::new(row.script.as_bytes(), piece, &[]);
             let mut sink = MemorySink::new(alloc, 1000, &[]);
-            let status = gevacq_top(alloc, &words, &mut source, &mut sink);
+            let status = plain_top(alloc, &words, &mut source, &mut sink);
             let want = Status::BadScript {
                 line: row.line,
                 kind: row.kind,
@@ -114,7 +114,7 @@ fn long_lines(rt: HostRuntime) -> Result<(), Fail> {
         for piece in [7, 20_001] {
             let mut source = MemorySource::new(text.as_slice(), piece, &[]);
             let mut sink = MemorySink::new(alloc, 1000, &[]);
-            let status = gevacq_top(alloc, &words, &mut source, &mut sink);
+            let status = plain_top(alloc, &words, &mut source, &mut sink);
             let want = Status::BadScript { line: 1, kind };
             assert_eq!(rt; status, want, "{len} {piece}");
         }
@@ -137,7 +137,7 @@ fn refused_lines_and_faults(rt: HostRuntime) -> Result<(), Fail> {
     let words = word_list(alloc, &["replay"])?;
     let mut source = MemorySource::new(b"gevacq 2\ngevacq 1", 9, &[2]);
     let mut sink = MemorySink::new(alloc, 1000, &[]);
-    let status = gevacq_top(alloc, &words, &mut source, &mut sink);
+    let status = plain_top(alloc, &words, &mut source, &mut sink);
     let want = Status::BadScript {
         line: 1,
         kind: ScriptKind::Header,
@@ -151,7 +151,7 @@ fn refused_lines_and_faults(rt: HostRuntime) -> Result<(), Fail> {
         &[],
     );
     let mut sink = MemorySink::new(alloc, 1000, &[1]);
-    let status = gevacq_top(alloc, &words, &mut source, &mut sink);
+    let status = plain_top(alloc, &words, &mut source, &mut sink);
     assert_eq!(rt; status, Status::WriteFault);
     Ok(())
 }

@@ -1,5 +1,5 @@
 use super::{SCRIPT, word_list};
-use crate::{Status, gevacq_top};
+use crate::{Status, plain_top};
 use gev_links::{MemorySink, SteadySource};
 use std::alloc::Global;
 use std::test::Fail;
@@ -40,7 +40,7 @@ fn soak(
     let words = word_list(alloc, words)?;
     let mut source = SteadySource::new(SCRIPT.as_bytes(), 1000);
     let mut sink = MemorySink::new(alloc, piece, failing);
-    let status = gevacq_top(alloc, &words, &mut source, &mut sink);
+    let status = plain_top(alloc, &words, &mut source, &mut sink);
     let written = sink.written().to_vec(alloc)?;
     Ok((status, written))
 }

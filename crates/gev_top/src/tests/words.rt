@@ -1,5 +1,5 @@
 use super::{SCRIPT, word_list};
-use crate::{Status, gevacq_top};
+use crate::{Status, plain_top};
 use gev_capture::CaptureKind;
 use gev_links::{MemorySink, SteadySource};
 use gev_script::ScriptKind;
@@ -50,7 +50,7 @@ fn refuses_other_words(rt: HostRuntime) -> Result<(), Fail> {
         let words = word_list(alloc, given)?;
         let mut source = SteadySource::new(SCRIPT.as_bytes(), 1000);
         let mut sink = MemorySink::new(alloc, 1000, &[]);
-        let status = gevacq_top(alloc, &words, &mut source, &mut sink);
+        let status = plain_top(alloc, &words, &mut source, &mut sink);
         assert_eq!(rt; status, Status::Usage { place }, "{given:?}");
         assert!(rt; sink.written().is_empty(), "{given:?}");
     }
