@@ -120,32 +120,24 @@ fn moments(alloc: Global) -> Result<Vec<u64>, NoMemory> {
     Ok(all)
 }
 
-/// What a live run of two frames and so many buffers writes over a stream that lost this payload and a control link
-/// whose first answer is this. It ends with this status, its three links are back, and its board is kept.
-fn written<R: Abort + Threads + Wait + Sync, G: Gate + Sync>(
+/// What a live run of two frames and so many buffers writes over links that hear this. It ends with this status, its
+/// three links are back, and its board is kept.
+fn run_heard<R: Abort + Threads + Wait + Sync, G: Gate + Sync>(
     rt: &R,
     alloc: Global,
     buffers: &str,
-    lost: u32,
-    first: &[u8],
+    stream: &[Option<(&[u8], Peer)>],
+    control: &[Option<(&[u8], Peer)>],
+    moments: &[u64],
     gate: &G,
     status: Status,
 ) -> Result<Vec<u8>, Fail> {
-    let packets = two_frames(alloc, lost)?;
-    let stream = heard(alloc, packets.as_slice())?;
-    let control = [
-        Some((first, CAMERA)),
-        Some((ACKS[1], CAMERA)),
-        Some((ACKS[2], CAMERA)),
-        Some((ACKS[3], CAMERA)),
-    ];
-    let moments = moments(alloc)?;
     let mut ports = MemoryPorts::new(
         alloc,
         DiscardingLink::new(alloc, CAMERA, &[])?,
-        DiscardingLink::new(alloc, HOST, stream.as_slice())?,
-        DiscardingLink::new(alloc, HOST, &control)?,
-        [&[], moments.as_slice(), &[]],
+        DiscardingLink::new(alloc, HOST, stream)?,
+        DiscardingLink::new(alloc, HOST, control)?,
+        [&[], moments, &[]],
         &[],
     )?;
     let words = word_list(alloc, &["live", "1", "2", buffers, "1", "100000"])?;
@@ -165,6 +157,37 @@ fn written<R: Abort + Threads + Wait + Sync, G: Gate + Sync>(
     assert_eq!(rt; answer, status);
     assert_eq!(rt; (ports.links().len(), kept.is_some()), (3, true));
     Ok(sink.written().to_vec(alloc)?)
+}
+
+/// The same over a stream that lost this payload, and a control link whose first answer is this.
+fn written<R: Abort + Threads + Wait + Sync, G: Gate + Sync>(
+    rt: &R,
+    alloc: Global,
+    buffers: &str,
+    lost: u32,
+    first: &[u8],
+    gate: &G,
+    status: Status,
+) -> Result<Vec<u8>, Fail> {
+    let packets = two_frames(alloc, lost)?;
+    let stream = heard(alloc, packets.as_slice())?;
+    let moments = moments(alloc)?;
+    let control = [
+        Some((first, CAMERA)),
+        Some((ACKS[1], CAMERA)),
+        Some((ACKS[2], CAMERA)),
+        Some((ACKS[3], CAMERA)),
+    ];
+    run_heard(
+        rt,
+        alloc,
+        buffers,
+        stream.as_slice(),
+        &control,
+        moments.as_slice(),
+        gate,
+        status,
+    )
 }
 
 // Where nothing is lost both frames are handed out whole.
