@@ -1,3 +1,5 @@
+mod rows;
+
 use super::*;
 use gev_links::{DiscardingLink, MemoryPorts, MemorySink, OpenGate, SteadySource};
 use gev_status::Status;
