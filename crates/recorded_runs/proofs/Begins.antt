@@ -16,7 +16,9 @@ use Rattle.script_trace.specs.Answers.{done_text, id_text}
 use Rattle.script_trace.specs.BoardLines.{buffer}
 use Rattle.acquisition_laws.specs.Turns.{buffer_size}
 use Rattle.recorded_runs.specs.Script.{first_lines}
+use Rattle.script_trace.proofs.Histories.{opening_runs}
 use Rattle.recorded_runs.proofs.Desk.{desk, live_word, Done}
+use Rattle.recorded_runs.proofs.Saying.{says_nothing, says_announced, says_started, tells_quiet}
 use Rattle.recorded_runs.proofs.Stages.{On, GoesTo, Goes, line_on, to_both}
 
 -- before the start, with these words
@@ -116,7 +118,7 @@ start_done = record {
 }
 
 open_on : On opening none
-open_on = record { is = refl; handles = refl; mode = refl; entries = (tt, (tt, (tt, (tt, (tt, tt))))) }
+open_on = record { is = refl; handles = refl; mode = refl; entries = (tt, (tt, (tt, (tt, (tt, tt))))); run = opening_runs; says = says_nothing }
 
 not_memory : (place : ℕ) → Ok (buffer place 1) ≢ Err OutOfMemory
 not_memory place e = cc
@@ -125,25 +127,25 @@ one_goes : GoesTo opening (line.announce buffer_size ∷ []) [] one
 one_goes =
     line_on opening (line.announce buffer_size) (entries_of caller first_events) [] (id_text (codes "announce") (Ok (buffer 0 1))) none one open_on
     (Ok (buffer 0 1), not_memory 0, record { events = first_events; kind = ((lit≤ tt, lit≤ tt), ([], refl, record { output = []; is = refl })); is = refl })
-    first_done (tt, (tt, (tt, tt)))
+    first_done (tt, (tt, (tt, tt))) (tells_quiet [] (entries_of caller first_events) _ refl (says_announced (buffer 0 1)))
 
 two_goes : (t : Trace) → On t one → GoesTo t (line.announce buffer_size ∷ []) [] two
 two_goes t s =
     line_on t (line.announce buffer_size) (entries_of caller second_events) [] (id_text (codes "announce") (Ok (buffer 1 1))) one two s
     (Ok (buffer 1 1), not_memory 1, record { events = second_events; kind = ((lit≤ tt, lit≤ tt), (free ∷ [], refl, record { output = []; is = refl })); is = refl })
-    second_done (tt, (tt, (tt, (tt, tt))))
+    second_done (tt, (tt, (tt, (tt, tt)))) (tells_quiet [] (entries_of caller second_events) _ refl (says_announced (buffer 1 1)))
 
 three_goes : (t : Trace) → On t two → GoesTo t (line.announce buffer_size ∷ []) [] three
 three_goes t s =
     line_on t (line.announce buffer_size) (entries_of caller third_events) [] (id_text (codes "announce") (Ok (buffer 2 1))) two three s
     (Ok (buffer 2 1), not_memory 2, record { events = third_events; kind = ((lit≤ tt, lit≤ tt), (free ∷ free ∷ [], refl, record { output = []; is = refl })); is = refl })
-    third_done (tt, (tt, (tt, (tt, (tt, tt)))))
+    third_done (tt, (tt, (tt, (tt, (tt, tt))))) (tells_quiet [] (entries_of caller third_events) _ refl (says_announced (buffer 2 1)))
 
 start_goes : (t : Trace) → On t three → GoesTo t (line.start ∷ []) (restart ∷ []) (desk 1 [] [] [])
 start_goes t s =
     line_on t line.start (entries_of caller (LookOut [] false ∷ Start (Ok tt) ∷ []) ++ []) (restart ∷ []) (done_text (codes "start")) three (desk 1 [] [] []) s
     (Ok tt, LookOut [] false ∷ Start (Ok tt) ∷ [], record { output = []; is = refl }, refl)
-    start_done (tt, (tt, tt))
+    start_done (tt, (tt, tt)) (tells_quiet [] (entries_of caller (LookOut [] false ∷ Start (Ok tt) ∷ []) ++ []) _ refl says_started)
 
 pub begins : Goes opening first_lines (restart ∷ []) 1 [] [] []
 begins =

@@ -1,5 +1,5 @@
 -- A datagram that asks for a buffer, in the script of a recorded run.
-use Rattle.std.proofs.Common.{◌≡◌, ◌≢◌, ◌⊎◌, inl, inr, ℕ, ◌+◌, ◌<◌, ◌≤◌, Bool, true, false, List, [], ◌∷◌, ◌++◌, map, refl, sym, ap, subst, ◌∙◌, arith, append-nil}
+use Rattle.std.proofs.Common.{◌≡◌, ◌≢◌, ◌⊎◌, inl, inr, ℕ, ◌+◌, ◌<◌, ◌≤◌, Bool, true, false, List, [], ◌∷◌, ◌++◌, map, refl, sym, ap, subst, ◌∙◌, arith, append-nil, ap₂}
 use Rattle.std.specs.Prelude.{Option, Some, None, Ok}
 use Rattle.std.specs.List.{AllByRecursion}
 use Rattle.std.proofs.lemmas.Bool.{cases_eq}
@@ -12,6 +12,8 @@ use Rattle.board_machine.specs.declared.events.Event.TheVariants.{Claim}
 use Rattle.board_machine.specs.Places.{same, times, put_all}
 use Rattle.board_machine.specs.Machine.{Board, Item, places, word_at}
 use Rattle.board_machine.specs.Adding.{entries_of}
+use Rattle.board_machine.specs.Handout.{removed}
+use Rattle.board_machine.proofs.Handed.{removed-append}
 use Rattle.board_machine.proofs.Adding.{entries_of-append}
 use Rattle.board_machine.proofs.Places.{times-append, same_other, same_le}
 use Rattle.acquisition_machine.specs.declared.retired.Retired.{Retired}
@@ -35,7 +37,8 @@ use Rattle.recorded_runs.specs.Script.{live_config, held_places, told_outcome, t
 use Rattle.recorded_runs.proofs.Desk.{desk, uses, Done, done_both, done_to, is_sized, claim_done, claims_none, desk_middle}
 use Rattle.recorded_runs.proofs.Holding.{places_in, places_in-append, IsLive, Live, came_back, settled_datagram, HoldsMore, none_given, one_given}
 use Rattle.recorded_runs.proofs.Stages.{IsRecorded, Stage, Goes, adds, one_line, goes_both}
-use Rattle.recorded_runs.proofs.StageLines.{fill_events, fills_recorded, takes_go}
+use Rattle.recorded_runs.proofs.Saying.{says_nothing, tells_quiet}
+use Rattle.recorded_runs.proofs.StageLines.{fill_events, fills_remove, fills_recorded, takes_go}
 use Rattle.recorded_runs.proofs.TurnLines.{state_of, places-items, take_each, mode_fills, fills_back, running}
 
 -- ---- the claim
@@ -152,7 +155,7 @@ given-append : (xs ys : List Retired) → map given_of (xs ++ ys) ≡ map given_
 given-append [] ys = refl
 given-append (x ∷ xs) ys = ap (λ l. given_of x ∷ l) (given-append xs ys)
 
-takes_three : (s : State) (bytes : List ℕ) (claim : Bool) (p : ℕ)
+pub takes_three : (s : State) (bytes : List ℕ) (claim : Bool) (p : ℕ)
     → takes s (twice bytes (told_outcome claim p))
     ≡ take_each (came_back s (datagram bytes) ++ came_back (given_state s bytes claim p) (datagram bytes))
 takes_three s bytes claim p =
@@ -198,6 +201,8 @@ asks_goes t bytes claim p b stage live low free decoded asked =
     let recorded : AllByRecursion IsRecorded es =
     subst (λ l. AllByRecursion IsRecorded l) (sym parts)
     (all_append IsRecorded one (two ++ three) (fills_recorded xs) (all_append IsRecorded two three (tt, tt) (fills_recorded ys))) in
+    let none_removed : removed es ≡ [] =
+    ap removed parts ∙ (removed-append one (two ++ three) ∙ ap₂ (λ a b. a ++ b) (fills_remove xs) (removed-append two three ∙ ap (λ b. removed two ++ b) (fills_remove ys))) in
     let told : List Input = told_twice t bytes (place_of (got_of claim p)) in
     let part : Part = adds t es told [] in
     let spells : Spells live_config t (line.datagram (encode_lower bytes)) part = (
@@ -210,7 +215,8 @@ asks_goes t bytes claim p b stage live low free decoded asked =
     let led : Goes t (line.datagram (encode_lower bytes) ∷ []) (twice bytes (told_outcome claim p)) 1 his (map item_of (xs ++ ys)) [] =
     subst (λ o. Goes t (line.datagram (encode_lower bytes) ∷ []) (twice bytes (told_outcome claim p)) 1 his o []) (sym (items-append xs ys))
     (subst (λ q. Goes t (line.datagram (encode_lower bytes) ∷ []) q 1 his out []) same_told
-    (one_line t (line.datagram (encode_lower bytes)) es told [] 1 1 his (held_places s) out [] [] (pool_of claim p) stage spells done recorded)) in
+    (one_line t (line.datagram (encode_lower bytes)) es told [] 1 1 his (held_places s) out [] [] (pool_of claim p) stage spells done recorded
+    (tells_quiet [] es [] none_removed says_nothing))) in
     let once : (k : ℕ) → uses his (map item_of (xs ++ ys)) [] k ≤ 1 =
     λ k. waits_once k xs ys (held_places s) (held_places s1) (held_places s2) his p (split k) (live.once k) free (claiming.counts k)
     (ap (times k) second.places ∙ times-append k (places_in (map given_of ys)) his) in

@@ -1,5 +1,5 @@
 -- What a recorded script's caller took, where nothing waits at the end: all that the acquisition filled.
-use Rattle.std.proofs.Common.{◌≡◌, ℕ, zero, suc, ◌+◌, ◌≤◌, ◌==◌, Bool, true, false, cond, List, [], ◌∷◌, ◌++◌, length, map, drop, replicate, take_all, refl, sym, ap, ◌∙◌, arith, length-append, suc-add, zero-add, ap₂}
+use Rattle.std.proofs.Common.{◌≡◌, ℕ, zero, suc, ◌+◌, ◌≤◌, ◌==◌, Bool, true, false, cond, List, [], ◌∷◌, ◌++◌, length, map, drop, replicate, take, take_all, refl, sym, ap, ◌∙◌, arith, length-append, suc-add, zero-add, ap₂}
 use Rattle.std.specs.List.{AllByRecursion}
 use Rattle.board_machine.specs.declared.events.Entry.{Entry}
 use Rattle.board_machine.specs.declared.events.Event.{Event}
@@ -64,3 +64,15 @@ all_taken h run all none =
 pub fillings-items : (xs : List Retired) → map (λ (x : Item). x.filling) (map item_of xs) ≡ images xs
 fillings-items [] = refl
 fillings-items (x ∷ xs) = ap (λ l. x.buf ∷ l) (fillings-items xs)
+
+take_few : {A : Type 0} (n : ℕ) (xs : List A) → length (take n xs) ≤ n
+take_few zero [] = omega arith
+take_few zero (x ∷ xs) = omega arith
+take_few (suc n) [] = omega arith
+take_few (suc n) (x ∷ xs) = (let few = take_few n xs in omega (arith, few))
+
+-- all that was removed was taken by the caller
+pub removed_taken : (h : List Entry) → AllByRecursion IsRecorded h → taken_items caller h ≡ removed_items h
+removed_taken h all =
+    ap (λ ms. marked ms (removed_items h)) (all_marked h all)
+    ∙ marked_all (length (removed h)) (removed_items h) (take_few (length (removed h)) (filled h))

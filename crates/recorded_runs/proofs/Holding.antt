@@ -195,7 +195,7 @@ free_by is true false e f few = (omega arith, not_among 1 is f)
 free_by is true true e f few =
     let a = among_times 0 is e in let b = among_times 1 is f in let t = three_fit is in (omega arith, omega (arith, a, b, t, few))
 
-few_held : (os : List Open) → length (held os) ≤ length os
+pub few_held : (os : List Open) → length (held os) ≤ length os
 few_held [] = omega arith
 few_held (o ∷ os) = go o.given (few_held os) where
   go : (g : Option Given) → length (held os) ≤ length os → length (with_given g (held os)) ≤ length (o ∷ os)

@@ -1,6 +1,7 @@
 pub mod Telling
 pub mod Desk
 pub mod Holding
+pub mod Saying
 pub mod Stages
 pub mod StageLines
 pub mod TurnLines

@@ -64,7 +64,7 @@ first_there = state_after opening begins.to (restart ∷ []) begins.inputs
 
 -- ---- the whole script
 
-whole : (ts : List Noted) → AllByRecursion HasWidths ts → MarksTell first_state (map with_bytes ts)
+pub whole : (ts : List Noted) → AllByRecursion HasWidths ts → MarksTell first_state (map with_bytes ts)
     → Goes opening (recorded_lines ts) (restart ∷ run_inputs first_state (map with_bytes ts)) 0
     (held_places (step live_config (after_turns first_state (map with_bytes ts)) stop).after) [] []
 whole ts widths marks =
@@ -75,7 +75,7 @@ whole ts widths marks =
     (run_goes begins.to first_state first_there ns marks (all_tellable ts widths) begins.stage first_live)
 
 -- what was taken is what the script's inputs retire
-taken_told : (ts : List Noted) (widths : AllByRecursion HasWidths ts) (marks : MarksTell first_state (map with_bytes ts)) (keeps : KeepsPromises live_config (whole ts widths marks).to)
+pub taken_told : (ts : List Noted) (widths : AllByRecursion HasWidths ts) (marks : MarksTell first_state (map with_bytes ts)) (keeps : KeepsPromises live_config (whole ts widths marks).to)
     → taken_images (whole ts widths marks).to ≡ images (fills live_config.p (retired_from live_config first_state (run_inputs first_state (map with_bytes ts))))
 taken_told ts widths marks keeps =
     let all = whole ts widths marks in
@@ -85,7 +85,7 @@ taken_told ts widths marks keeps =
     ∙ (ap (λ q. map (λ (x : Item). x.filling) (map item_of (fills live_config.p (retired_from live_config first_state q)))) all.inputs
     ∙ fillings-items (fills live_config.p (retired_from live_config first_state (run_inputs first_state (map with_bytes ts)))))
 
-one_trace : (ts : List Noted) → AllByRecursion HasWidths ts → (a b : Trace) → Leads live_config opening (recorded_lines ts) a → Leads live_config opening (recorded_lines ts) b → a ≡ b
+pub one_trace : (ts : List Noted) → AllByRecursion HasWidths ts → (a b : Trace) → Leads live_config opening (recorded_lines ts) a → Leads live_config opening (recorded_lines ts) b → a ≡ b
 one_trace ts widths a b = trace_one live_config (recorded_lines ts) opening a b (lines_fit ts widths)
 
 pub recorded_runs_replay : RecordedRunsReplay

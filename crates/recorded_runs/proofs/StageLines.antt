@@ -14,6 +14,7 @@ use Rattle.board_machine.specs.Places.{times}
 use Rattle.board_machine.specs.Machine.{Board, Item, item}
 use Rattle.board_machine.specs.Ids.{buffer_at}
 use Rattle.board_machine.specs.Adding.{entries_of}
+use Rattle.board_machine.specs.Handout.{removed}
 use Rattle.acquisition_machine.specs.declared.retired.Retired.{Retired}
 use Rattle.acquisition_machine.specs.TurnLaws.{given_of}
 use Rattle.block_fills.specs.Fills.{item_of}
@@ -24,6 +25,7 @@ use Rattle.script_trace.specs.Modes.{FillsInMode}
 use Rattle.script_trace.specs.BoardLines.{TakeIfOpen}
 use Rattle.recorded_runs.proofs.Desk.{desk, uses, Done, done_both, done_none, fill_done, take_done, queue_done}
 use Rattle.recorded_runs.proofs.Holding.{places_in, IsLive}
+use Rattle.recorded_runs.proofs.Saying.{says_take, says_queued, tells_quiet}
 use Rattle.recorded_runs.proofs.Stages.{IsRecorded, Stage, Goes, adds, one_line, no_line, goes_both, has_event}
 
 -- ---- fills
@@ -47,6 +49,10 @@ in_mode (x ∷ xs) = (
   },
   in_mode xs,
 )
+
+pub fills_remove : (xs : List Retired) → removed (entries_of acquirer (fill_events xs)) ≡ []
+fills_remove [] = refl
+fills_remove (x ∷ xs) = fills_remove xs
 
 pub fills_recorded : (xs : List Retired) → AllByRecursion IsRecorded (entries_of acquirer (fill_events xs))
 fills_recorded [] = tt
@@ -90,6 +96,7 @@ take_goes t r p f his out s low once =
     ))
     (take_done r p f his out low once)
     (refl, (tt, tt))
+    (record { gone = item p f ∷ []; rest = out; split = append-nil (item p f ∷ out); went = refl; says = says_take (buffer_at (board t) p) f })
 
 -- as many as wait
 pub takes_go : (t : Trace) (r : ℕ) (xs : List Retired) (his : List ℕ) → Stage t r his (map item_of xs) [] → AllByRecursion IsLive (map given_of xs)
@@ -116,3 +123,4 @@ queue_goes t r p his s low free =
     )
     (queue_done r p his low free)
     (tt, (tt, (tt, tt)))
+    (tells_quiet [] (entries_of caller (LookOut [] false ∷ Grab p 1 (Ok tt) ∷ Pool p ∷ [])) _ refl says_queued)

@@ -11,8 +11,9 @@ use Rattle.board_machine.specs.declared.events.Event.{Event}
 use Rattle.board_machine.specs.declared.events.Event.TheVariants.{Fill, Take, SweepOut}
 use Rattle.board_machine.specs.declared.events.TakeEnd.TheVariants.{Taken}
 use Rattle.board_machine.specs.Machine.{Board, Item, empty_board}
-use Rattle.board_machine.specs.Histories.{RunsFrom, after_from}
-use Rattle.board_machine.proofs.Runs.{after-append}
+use Rattle.board_machine.specs.Histories.{RunsFrom, Run, after_from}
+use Rattle.board_machine.specs.Handout.{removed_items}
+use Rattle.board_machine.proofs.Runs.{after-append, runs-append}
 use Rattle.acquisition_machine.specs.Machine.{Input}
 use Rattle.acquisition_machine.proofs.Order.{all_append}
 use Rattle.mode_calls.specs.declared.mode.Mode.TheVariants.{OldestFirst}
@@ -23,6 +24,7 @@ use Rattle.script_trace.specs.Adding.{Spells, Leads}
 use Rattle.script_trace.specs.BoardLines.{open_event}
 use Rattle.recorded_runs.specs.Script.{live_config}
 use Rattle.recorded_runs.proofs.Desk.{desk, Done}
+use Rattle.recorded_runs.proofs.Saying.{Says, contents, Tells, says_on}
 
 -- ---- the entries of a recorded script
 
@@ -48,12 +50,15 @@ fills_from contents (e ∷ es) all = (as_lay contents e.by e.event all.0, fills_
 
 -- ---- stages
 
--- The board is this one; the handles are the first ones, and waiting buffers stay.
+-- The board is this one; the handles are the first ones, and waiting buffers stay; the text is lines, and its take
+-- lines are of what was taken.
 pub record On (t : Trace) (b : Board) : Type 0 where
   pub is : board t ≡ b
   pub handles : t.handles ≡ first_handles
   pub mode : t.mode ≡ OldestFirst
   pub entries : AllByRecursion IsRecorded t.entries
+  pub run : Run t.entries
+  pub says : Says t.text (contents (removed_items t.entries))
 
 -- The board is told by its run word, by the places of the open blocks, by what waits in the output and by what is
 -- pooled.
@@ -83,8 +88,8 @@ adds t es told said = record {
 }
 
 pub line_on : (t : Trace) (l : ScriptLine) (es : List Entry) (told : List Input) (said : List ℕ) (was new : Board)
-    → On t was → Spells live_config t l (adds t es told said) → Done was es new → AllByRecursion IsRecorded es → GoesTo t (l ∷ []) told new
-line_on t l es told said was new s spells done all = record {
+    → On t was → Spells live_config t l (adds t es told said) → Done was es new → AllByRecursion IsRecorded es → Tells was.out es said → GoesTo t (l ∷ []) told new
+line_on t l es told said was new s spells done all tells = record {
   to = grown t (adds t es told said);
   leads = (
     adds t es told said,
@@ -100,15 +105,17 @@ line_on t l es told said was new s spells done all = record {
     handles = s.handles;
     mode = s.mode;
     entries = all_append IsRecorded t.entries es s.entries all;
+    run = runs-append empty_board t.entries es s.run (subst (λ b. RunsFrom b es) (sym s.is) done.runs);
+    says = says_on t.entries es t.text said was.out s.run (ap (λ (b : Board). b.out) s.is) s.says tells;
   };
   inputs = refl;
 }
 
 pub one_line : (t : Trace) (l : ScriptLine) (es : List Entry) (told : List Input) (said : List ℕ) (r run : ℕ) (his was : List ℕ) (out waited : List Item) (pool pooled : List ℕ)
     → Stage t run was waited pooled → Spells live_config t l (adds t es told said) → Done (desk run was waited pooled) es (desk r his out pool)
-    → AllByRecursion IsRecorded es → Goes t (l ∷ []) told r his out pool
-one_line t l es told said r run his was out waited pool pooled s spells done all =
-    line_on t l es told said (desk run was waited pooled) (desk r his out pool) s spells done all
+    → AllByRecursion IsRecorded es → Tells waited es said → Goes t (l ∷ []) told r his out pool
+one_line t l es told said r run his was out waited pool pooled s spells done all tells =
+    line_on t l es told said (desk run was waited pooled) (desk r his out pool) s spells done all tells
 
 pub leads-append : (t : Trace) (ls ms : List ScriptLine) (mid new : Trace) → Leads live_config t ls mid → Leads live_config mid ms new → Leads live_config t (ls ++ ms) new
 leads-append t [] ms mid new is more = subst (λ u. Leads live_config u ms new) is more

@@ -1,5 +1,5 @@
 -- The lines of a turn of a recorded run: from rest to rest.
-use Rattle.std.proofs.Common.{◌≡◌, ℕ, ◌+◌, ◌≤◌, ◌==◌, true, false, List, [], ◌∷◌, ◌++◌, map, refl, sym, ap, subst, ◌∙◌, arith, append-nil}
+use Rattle.std.proofs.Common.{◌≡◌, ℕ, ◌+◌, ◌≤◌, ◌==◌, true, false, List, [], ◌∷◌, ◌++◌, map, refl, sym, ap, subst, ◌∙◌, arith, append-nil, ap₂}
 use Rattle.std.specs.Prelude.{None, Ok, codes}
 use Rattle.std.specs.List.{AllByRecursion}
 use Rattle.hex.specs.Hex.{decode_of, encode_lower}
@@ -11,6 +11,8 @@ use Rattle.board_machine.specs.declared.events.Event.TheVariants.{Stop}
 use Rattle.board_machine.specs.Places.{times}
 use Rattle.board_machine.specs.Machine.{Board, Item, places}
 use Rattle.board_machine.specs.Adding.{entries_of}
+use Rattle.board_machine.specs.Handout.{removed}
+use Rattle.board_machine.proofs.Handed.{removed-append}
 use Rattle.board_machine.proofs.Places.{times-append}
 use Rattle.acquisition_machine.specs.declared.retired.Retired.{Retired}
 use Rattle.acquisition_machine.specs.Blocks.{Retirement, fills}
@@ -31,7 +33,8 @@ use Rattle.recorded_runs.specs.Script.{live_config, held_places, takes, stop_lin
 use Rattle.recorded_runs.proofs.Desk.{desk, uses, Done, done_both, done_none}
 use Rattle.recorded_runs.proofs.Holding.{places_in, Live, came_back, Settled, settled_datagram, settled_tick, settled_stop}
 use Rattle.recorded_runs.proofs.Stages.{IsRecorded, Stage, Goes, adds, one_line, goes_both}
-use Rattle.recorded_runs.proofs.StageLines.{fill_events, in_mode, fills_recorded, fills_done, takes_go}
+use Rattle.recorded_runs.proofs.Saying.{Says, says_nothing, says_requests, says_stopped, tells_quiet}
+use Rattle.recorded_runs.proofs.StageLines.{fill_events, in_mode, fills_remove, fills_recorded, fills_done, takes_go}
 
 -- the acquisition's state after the trace
 abbrev pub state_of : Trace → State
@@ -49,7 +52,7 @@ places-items (x ∷ xs) = ap (λ l. x.place ∷ l) (places-items xs)
 abbrev pub take_each : List Retired → List ScriptLine
 take_each xs = map (λ x. line.take) xs
 
-takes_one : (s : State) (i : Input) → takes s (i ∷ []) ≡ take_each (came_back s i)
+pub takes_one : (s : State) (i : Input) → takes s (i ∷ []) ≡ take_each (came_back s i)
 takes_one s i = ap (λ (rs : List Retirement). take_each (fills live_config.p rs)) (append-nil (step live_config s i).retired)
 
 pub mode_fills : (m : Mode) (xs : List Retired) → m ≡ OldestFirst → FillsInMode m xs (fill_events xs)
@@ -90,16 +93,18 @@ settle_goes : (t : Trace) (l : ScriptLine) (i : Input) (calls : List Event) (sai
     → Stage t run (held_places (state_of t)) [] [] → Live (state_of t) → Settled (state_of t) i
     → (Settles live_config t calls i said (adds t (settling t calls i) (i ∷ []) said) → Spells live_config t l (adds t (settling t calls i) (i ∷ []) said))
     → Done (desk run (held_places (state_of t)) [] []) (entries_of caller calls) (desk r (held_places (state_of t)) [] [])
-    → AllByRecursion IsRecorded (entries_of caller calls)
+    → AllByRecursion IsRecorded (entries_of caller calls) → removed (entries_of caller calls) ≡ [] → Says said []
     → Goes t (l ∷ takes (state_of t) (i ∷ [])) (i ∷ []) r (held_places (step live_config (state_of t) i).after) [] []
-settle_goes t l i calls said r run s live settled spells before all =
+settle_goes t l i calls said r run s live settled spells before all none says =
     let xs : List Retired = came_back (state_of t) i in
     let his : List ℕ = held_places (step live_config (state_of t) i).after in
     let done = done_both (desk run (held_places (state_of t)) [] []) (desk r (held_places (state_of t)) [] []) (desk r his (map item_of xs) [])
     (entries_of caller calls) (entries_of acquirer (fill_events xs)) before (fills_back r (state_of t) i [] [] settled) in
     let first = one_line t l (settling t calls i) (i ∷ []) said r run his (held_places (state_of t)) (map item_of xs) [] [] [] s
     (spells (settles_is t calls i said s.mode)) done
-    (all_append IsRecorded (entries_of caller calls) (entries_of acquirer (fill_events xs)) all (fills_recorded xs)) in
+    (all_append IsRecorded (entries_of caller calls) (entries_of acquirer (fill_events xs)) all (fills_recorded xs))
+    (tells_quiet [] (settling t calls i) said
+    (removed-append (entries_of caller calls) (entries_of acquirer (fill_events xs)) ∙ ap₂ (λ a b. a ++ b) none (fills_remove xs)) says) in
     let rest = takes_go first.to r xs his first.stage settled.back (once_settled (state_of t) i live settled) in
     subst (λ ls. Goes t (l ∷ ls) (i ∷ []) r his [] []) (sym (takes_one (state_of t) i))
     (goes_both t (l ∷ []) (take_each xs) (i ∷ []) [] r r his his [] (map item_of xs) [] [] first rest)
@@ -108,7 +113,8 @@ pub tick_goes : (t : Trace) (moment : ℕ) → Stage t 1 (held_places (state_of 
     → Goes t (line.tick moment ∷ takes (state_of t) (tick moment ∷ [])) (tick moment ∷ []) 1 (held_places (step live_config (state_of t) (tick moment)).after) [] []
 tick_goes t moment s live =
     settle_goes t (line.tick moment) (tick moment) [] (requests_text (step live_config (state_of t) (tick moment)).requests) 1 1 s live
-    (settled_tick (state_of t) moment live) (λ x. x) (done_none (desk 1 (held_places (state_of t)) [] [])) tt
+    (settled_tick (state_of t) moment live) (λ x. x) (done_none (desk 1 (held_places (state_of t)) [] [])) tt refl
+    (says_requests (step live_config (state_of t) (tick moment)).requests)
 
 pub stop_goes : (t : Trace) → Stage t 1 (held_places (state_of t)) [] [] → Live (state_of t)
     → Goes t (stop_lines (state_of t)) (stop ∷ []) 0 (held_places (step live_config (state_of t) stop).after) [] []
@@ -116,7 +122,7 @@ stop_goes t s live =
     settle_goes t (line.stop 0) stop (Stop false (Ok tt) ∷ []) (done_text (codes "stop")) 0 1 s live
     (settled_stop (state_of t) live) (λ x. (Ok tt, Stop false (Ok tt) ∷ [], (omega arith, refl), x))
     (record { runs = (record { actor = λ e. cc; meets = refl }, tt); after = refl })
-    (tt, tt)
+    (tt, tt) refl says_stopped
 
 -- ---- a datagram
 
@@ -138,4 +144,4 @@ heard_goes t bytes s live decoded quiet =
       subst (λ v. HearsIfRunning live_config t bytes v part) (sym (running t (held_places (state_of t)) [] [] s))
           (subst (λ a. Hears live_config t bytes a part) (sym quiet) x),
     ))
-    (done_none (desk 1 (held_places (state_of t)) [] [])) tt
+    (done_none (desk 1 (held_places (state_of t)) [] [])) tt refl says_nothing

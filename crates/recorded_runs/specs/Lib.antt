@@ -1,3 +1,4 @@
 pub mod Script
 pub mod Marks
 pub mod Laws
+pub mod TakeLines

@@ -1,0 +1,4 @@
+pub mod Counts
+pub mod FitLines
+pub mod Following
+pub mod Reporting
