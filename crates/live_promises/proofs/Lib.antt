@@ -1,0 +1,4 @@
+pub mod Sending
+pub mod Filling
+pub mod Causing
+pub mod Keeping
