@@ -1,0 +1,104 @@
+-- Lines that are added to the text.
+use Rattle.std.proofs.Common.{◌≡◌, ℕ, ◌+◌, ◌≤◌, Bool, List, [], ◌∷◌, ◌++◌, ap, sym, ◌∙◌, subst, append_assoc, arith}
+use Rattle.std.specs.Prelude.{replicate, if◌then◌else◌}
+use Rattle.std.proofs.lemmas.Bool.{ne_eqb}
+use Rattle.std.proofs.lemmas.List.{append-nil}
+use Rattle.hex.specs.Hex.{encode_lower}
+use Rattle.gev_script.specs.Lines as line
+use Rattle.gev_script.specs.Lines.{ScriptLine}
+use Rattle.gev_capture.specs.Sightings.{Sighting}
+use Rattle.capture_runs.specs.Texts.{Tells}
+use Rattle.capture_script.specs.Playing.{Played, Line, heard, ticked, stopped}
+use Rattle.capture_script.specs.Pool.{PlayingState, StandsAt, PlaysLine}
+use Rattle.capture_script.specs.Script.{Scripted, Lines, text_of, taking, with_takes, no_lines, both, goes_on, ticks, carries, sighted, script_texts, closing_lines}
+use Rattle.capture_script.specs.Scripting.{ScriptingState, StandsFor, AddsLines}
+use Rattle.capture_script.proofs.Spelled.{text_of-append, text_again}
+
+-- lines behind lines
+pub added_both : (ls ms : List ScriptLine) (t0 t1 t2 : List ℕ) → t1 ≡ t0 ++ text_of ls → t2 ≡ t1 ++ text_of ms → t2 ≡ t0 ++ text_of (ls ++ ms)
+added_both ls ms t0 t1 t2 e f =
+    f ∙ ap (λ (t : List ℕ). t ++ text_of ms) e ∙ append_assoc t0 (text_of ls) (text_of ms)
+    ∙ ap (λ (t : List ℕ). t0 ++ t) (sym (text_of-append ls ms))
+
+-- a line and the takes behind it
+added_line : (l : ScriptLine) (filled n : ℕ) (t0 t1 t2 : List ℕ) → filled ≡ n → t1 ≡ t0 ++ text_of (l ∷ []) → t2 ≡ t1 ++ text_of (taking filled) → t2 ≡ t0 ++ text_of (l ∷ taking n)
+added_line l filled n t0 t1 t2 g e f = added_both (l ∷ []) (taking filled) t0 t1 t2 e f ∙ ap (λ (k : ℕ). t0 ++ text_of (l ∷ taking k)) g
+
+line_adds : (l : ScriptLine) (played : Line) (s : Scripted) (old new : ScriptingState) (moment filled : ℕ) (t0 t1 t2 : List ℕ) → PlaysLine played old.playing new.playing filled
+    → new.port ≡ old.port → new.moment ≡ moment → StandsFor old s → t1 ≡ t0 ++ text_of (l ∷ []) → t2 ≡ t1 ++ text_of (taking filled)
+    → AddsLines (record { lines = with_takes l played; after = record s { played = played.after; moment = moment } }) new t0 t2
+line_adds l played s old new moment filled t0 t1 t2 plays port is_moment at e f = record {
+  stands = record {
+    port = port ∙ at.port;
+    p = plays.p ∙ at.p;
+    size = plays.size ∙ at.size;
+    played = plays.stands;
+    moment = is_moment;
+  };
+  text_is = added_line l filled played.filled t0 t1 t2 plays.filled_is e f;
+}
+
+stands_inside : (inside now : ScriptingState) (s : Scripted) → inside ≡ now → StandsFor now s → StandsFor inside s
+stands_inside inside now s e at = subst (λ (x : ScriptingState). StandsFor x s) (sym e) at
+
+-- a `t` line
+pub tick_adds : (inside now new : ScriptingState) (moment filled : ℕ) (s : Scripted) (t0 t1 t2 : List ℕ) → inside ≡ now → new.port ≡ inside.port → new.moment ≡ moment
+    → ((q : Played) → StandsAt inside.playing q → PlaysLine (ticked inside.playing.p moment q) inside.playing new.playing filled)
+    → t1 ≡ t0 ++ text_of (line.tick moment ∷ []) → t2 ≡ t1 ++ text_of (taking filled) → StandsFor now s → AddsLines (goes_on moment s) new t0 t2
+tick_adds inside now new moment filled s t0 t1 t2 same port is_moment ticks e f stands =
+    let at = stands_inside inside now s same stands in
+    let plays = subst (λ (p : ℕ). PlaysLine (ticked p moment s.played) inside.playing new.playing filled) at.p (ticks s.played at.played) in
+    line_adds (line.tick moment) (ticked s.p moment s.played) s inside new moment filled t0 t1 t2 plays port is_moment at e f
+
+-- a `d` line
+pub carry_adds : (inside now new : ScriptingState) (bytes : List ℕ) (filled : ℕ) (s : Scripted) (t0 t1 t2 : List ℕ) → inside ≡ now → new.port ≡ inside.port → new.moment ≡ inside.moment
+    → ((q : Played) → StandsAt inside.playing q → PlaysLine (heard inside.playing.p inside.playing.size bytes q) inside.playing new.playing filled)
+    → t1 ≡ t0 ++ text_of (line.datagram (encode_lower bytes) ∷ []) → t2 ≡ t1 ++ text_of (taking filled) → StandsFor now s → AddsLines (carries bytes s) new t0 t2
+carry_adds inside now new bytes filled s t0 t1 t2 same port is_moment hears e f stands =
+    let at = stands_inside inside now s same stands in
+    let sized = subst (λ (n : ℕ). PlaysLine (heard inside.playing.p n bytes s.played) inside.playing new.playing filled) at.size (hears s.played at.played) in
+    let plays = subst (λ (p : ℕ). PlaysLine (heard p s.size bytes s.played) inside.playing new.playing filled) at.p sized in
+    line_adds (line.datagram (encode_lower bytes)) (heard s.p s.size bytes s.played) s inside new s.moment filled t0 t1 t2 plays port (is_moment ∙ at.moment) at e f
+
+-- nothing is added
+pub none_adds : (now : ScriptingState) (s : Scripted) (t : List ℕ) → StandsFor now s → AddsLines (no_lines s) now t t
+none_adds now s t at = record { stands = at; text_is = sym (append-nil t) }
+
+-- the one and then the other
+pub both_add : (first : Lines) (next : Scripted → Lines) (mid new : ScriptingState) (t0 t1 t2 : List ℕ) → AddsLines first mid t0 t1
+    → ((s : Scripted) → StandsFor mid s → AddsLines (next s) new t1 t2) → AddsLines (both first next) new t0 t2
+both_add first next mid new t0 t1 t2 one two =
+    let h = two first.after one.stands in
+    record { stands = h.stands; text_is = added_both first.lines (next first.after).lines t0 t1 t2 one.text_is h.text_is }
+
+-- the lines of a packet
+pub tells_packet : (s : Scripted) (x : Sighting) (new : ScriptingState) (t0 t1 : List ℕ) → AddsLines (sighted s x) new t0 t1 → Tells script_texts s (x ∷ []) (StandsFor new) t0 t1
+tells_packet s x new t0 t1 h = record {
+  stands = h.stands;
+  added = h.text_is ∙ ap (λ (t : List ℕ). t0 ++ t) (sym (append-nil (text_of (sighted s x).lines)));
+}
+
+-- all takes stand, and the flush behind them
+pub taken_all : (filled counter : ℕ) (t0 t1 t2 : List ℕ) → 1 ≤ filled → counter ≡ filled → t1 ≡ t0 ++ text_of (replicate counter line.take) → t2 ≡ t1 ++ text_of (line.flush 3 ∷ [])
+    → t2 ≡ t0 ++ text_of (taking filled)
+taken_all filled counter t0 t1 t2 some is e f =
+    added_both (replicate counter line.take) (line.flush 3 ∷ []) t0 t1 t2 e f
+    ∙ ap (λ (k : ℕ). t0 ++ text_of (replicate k line.take ++ line.flush 3 ∷ [])) is
+    ∙ ap (λ (b : Bool). t0 ++ text_of (if b then [] else replicate filled line.take ++ line.flush 3 ∷ [])) (sym (ne_eqb filled 0 (λ e. omega (arith, some, e))))
+
+-- one more take
+pub taken_one : (n : ℕ) (t0 t1 t2 : List ℕ) → t1 ≡ t0 ++ text_of (replicate n line.take) → t2 ≡ t1 ++ text_of (line.take ∷ []) → t2 ≡ t0 ++ text_of (replicate (n + 1) line.take)
+taken_one n t0 t1 t2 e f =
+    f ∙ ap (λ (t : List ℕ). t ++ text_of (line.take ∷ [])) e ∙ append_assoc t0 (text_of (replicate n line.take)) (text_of (line.take ∷ []))
+    ∙ ap (λ (t : List ℕ). t0 ++ t) (text_again n line.take)
+
+-- the stream stops, and the script ends
+pub close_adds : (inside now : ScriptingState) (after : PlayingState) (filled : ℕ) (s : Scripted) (t0 t1 t2 t3 : List ℕ) → inside ≡ now
+    → ((q : Played) → StandsAt inside.playing q → PlaysLine (stopped inside.playing.p q) inside.playing after filled)
+    → t1 ≡ t0 ++ text_of (line.stop 0 ∷ []) → t2 ≡ t1 ++ text_of (taking filled) → t3 ≡ t2 ++ text_of (line.end_of_script ∷ []) → StandsFor now s
+    → t3 ≡ t0 ++ text_of (closing_lines s)
+close_adds inside now after filled s t0 t1 t2 t3 same stops e f g stands =
+    let at = stands_inside inside now s same stands in
+    let plays = subst (λ (p : ℕ). PlaysLine (stopped p s.played) inside.playing after filled) at.p (stops s.played at.played) in
+    added_both (with_takes (line.stop 0) (stopped s.p s.played)) (line.end_of_script ∷ []) t0 t2 t3
+    (added_line (line.stop 0) filled (stopped s.p s.played).filled t0 t1 t2 plays.filled_is e f) g

@@ -1,0 +1,6 @@
+pub mod Buffers
+pub mod Turns
+pub mod Heard
+pub mod Spelled
+pub mod Adding
+pub mod Written

@@ -1,0 +1,58 @@
+-- The lines of a script as text.
+use Rattle.std.proofs.Common.{◌≡◌, ℕ, zero, suc, ◌+◌, ◌*◌, ◌/◌, ◌%◌, ◌<◌, ◌≤◌, true, List, [], ◌∷◌, ◌++◌, length, get_or, refl, ap, sym, ◌∙◌, arith, append_assoc, add-one}
+use Rattle.std.specs.Prelude.{replicate, slice_index}
+use Rattle.std.specs.List.{list_all}
+use Rattle.std.proofs.lemmas.Bool.{le-leb, eq-eqb, and_from}
+use Rattle.std.proofs.lemmas.List.Sums.{AllPass-from_list_all}
+use Rattle.hex.specs.Hex.{encode_with, encode_lower, lower_digits}
+use Rattle.hex.proofs.HexLemmas.{length-encode_with}
+use Rattle.gev_script.specs.Numbers.{is_hex_digit}
+use Rattle.gev_script.specs.Lines.{ScriptLine}
+use Rattle.gev_script.specs.Spelling.{spelling, IsDatagram}
+use Rattle.capture_script.specs.Script.{text_of}
+
+pub text_of-append : (ls ms : List ScriptLine) → text_of (ls ++ ms) ≡ text_of ls ++ text_of ms
+text_of-append [] ms = refl
+text_of-append (l ∷ ls) ms =
+    ap (λ (t : List ℕ). spelling l ++ 10 ∷ t) (text_of-append ls ms) ∙ sym (append_assoc (spelling l) (10 ∷ text_of ls) (text_of ms))
+
+-- one more of the same line
+pub text_again : (n : ℕ) (l : ScriptLine) → text_of (replicate n l) ++ text_of (l ∷ []) ≡ text_of (replicate (n + 1) l)
+text_again n l = sym (text_of-append (replicate n l) (l ∷ [])) ∙ ap text_of (pushed n) where
+  pushed : (k : ℕ) → replicate k l ++ l ∷ [] ≡ replicate (k + 1) l
+  pushed zero = refl
+  pushed (suc k) = rw add-one (ap (λ (ls : List ScriptLine). l ∷ ls) (pushed k ∙ rw add-one refl))
+
+abbrev AreSmall : List ℕ → Type 0
+AreSmall bytes = (i : ℕ) → slice_index bytes i < 256
+
+digit_is_hex : (k : ℕ) → k < 16 → is_hex_digit (get_or lower_digits k 0) ≡ true
+digit_is_hex k h = AllPass-from_list_all is_hex_digit lower_digits refl k 0 h
+
+high_digit : (b : ℕ) → b < 256 → b / 16 < 16
+high_digit b h = omega arith
+
+low_digit : (b : ℕ) → b % 16 < 16
+low_digit b = omega arith
+
+encoded_is_hex : (bytes : List ℕ) → AreSmall bytes → list_all is_hex_digit (encode_lower bytes) ≡ true
+unfolding encode_with
+encoded_is_hex [] h = refl
+encoded_is_hex (b ∷ rest) h =
+    and_from _ _ (digit_is_hex (b / 16) (high_digit b (h 0)))
+    (and_from _ _ (digit_is_hex (b % 16) (low_digit b)) (encoded_is_hex rest (λ i. h (suc i))))
+
+twice_is_even : (n m : ℕ) → n ≡ 2 * m → n % 2 ≡ 0
+twice_is_even n m e = omega arith
+
+-- the digits of a datagram of 1 to 9,999 bytes
+pub datagram_fits : (bytes : List ℕ) → AreSmall bytes → 1 ≤ length bytes → length bytes ≤ 9999 → IsDatagram (encode_lower bytes)
+datagram_fits bytes small some few =
+    let wide : length (encode_lower bytes) ≡ 2 * length bytes = length-encode_with lower_digits bytes in
+    record {
+      hex =
+          and_from _ _
+          (and_from _ _ (le-leb 1 (length (encode_lower bytes)) (omega arith)) (eq-eqb (length (encode_lower bytes) % 2) 0 (twice_is_even _ _ wide)))
+          (encoded_is_hex bytes small);
+      short = omega arith;
+    }

@@ -1,0 +1,4 @@
+pub mod Playing
+pub mod Script
+pub mod Pool
+pub mod Scripting

@@ -1,0 +1,22 @@
+-- How the code writes a script.
+use Rattle.std.specs.Prelude.{◌≡◌, ℕ, List, ◌++◌}
+use Rattle.capture_script.specs.Pool.{PlayingState, StandsAt}
+use Rattle.capture_script.specs.Script.{Scripted, Lines, text_of}
+
+pub record ScriptingState : Type 0 where
+  pub port : ℕ
+  pub playing : PlayingState
+  pub moment : ℕ
+
+-- It stands so behind the lines.
+pub record StandsFor (now : ScriptingState) (s : Scripted) : Type 0 where
+  pub port : now.port ≡ s.port
+  pub p : now.playing.p ≡ s.p
+  pub size : now.playing.size ≡ s.size
+  pub played : StandsAt now.playing s.played
+  pub moment : now.moment ≡ s.moment
+
+-- These lines were added.
+pub record AddsLines (lines : Lines) (new : ScriptingState) (text text_new : List ℕ) : Type 0 where
+  pub stands : StandsFor new lines.after
+  pub text_is : text_new ≡ text ++ text_of lines.lines
