@@ -1,3 +1,4 @@
 pub mod Pieces
 pub mod Ended
 pub mod Names
+pub mod Blocks

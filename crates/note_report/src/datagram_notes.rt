@@ -15,12 +15,12 @@ use gvsp_std::StdError;
 use gvsp_wire::WireError;
 
 /// A datagram of so many bytes came while the stream wasn't running.
-pub fn note_idle(at: At, bytes: u32, out: &mut Vec<u8>) -> Result<(), NoMemory>
+pub fn note_idle(at: At, bytes: u64, out: &mut Vec<u8>) -> Result<(), NoMemory>
     ensures { OnOk result (out.new.items ≡ out.old.items ++ note_line at.line at.moment (idle bytes)) }
 {
     add_note(
         at,
-        &[Piece::Text(b"idle bytes="), Piece::Number(u64::from(bytes))],
+        &[Piece::Text(b"idle bytes="), Piece::Number(bytes)],
         out,
     )
 }
@@ -117,7 +117,7 @@ pub fn note_ignored(at: At, why: Why, packet: Named, out: &mut Vec<u8>) -> Resul
                 Piece::Packet(b"misfit", packet.block, packet.id),
                 Piece::Status(packet.status),
                 Piece::Text(b" bytes="),
-                Piece::Number(u64::from(packet.bytes)),
+                Piece::Number(packet.bytes),
             ],
             out,
         ),

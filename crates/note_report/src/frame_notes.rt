@@ -3,9 +3,11 @@
 ghost use Rattle.std.specs.Prelude.{◌≡◌, ◌++◌, OnOk};
 ghost use Rattle.acquisition_notes.specs.Notes.{leads, opens, asks, first as first_note, absent, drops};
 ghost use Rattle.acquisition_notes.specs.Texts.{words_line, note_line};
+ghost use Rattle.note_report.specs.Blocks.{counts_words};
 ghost use Rattle.note_report.specs.Ended.{ended_words, unbuffered_words};
 
 use crate::at::At;
+use crate::block_counts::BlockCounts;
 use crate::piece::Piece;
 use crate::writing::add_note;
 use acq_core::Cause;
@@ -171,6 +173,37 @@ pub fn note_unbuffered(at: At, block: u64, cause: Cause, out: &mut Vec<u8>) -> R
             Piece::Number(block),
             Piece::Text(b" buffer=none cause="),
             Piece::Cause(cause),
+        ],
+        out,
+    )
+}
+
+/// What blocks came to, at the end of a script; so many blocks are still open.
+pub fn note_blocks(
+    at: At,
+    counts: &BlockCounts,
+    still_open: u8,
+    out: &mut Vec<u8>,
+) -> Result<(), NoMemory>
+    ensures { OnOk result (out.new.items ≡ out.old.items ++ words_line at.line at.moment (counts_words counts.now still_open)) }
+{
+    add_note(
+        at,
+        &[
+            Piece::Text(b"blocks opened="),
+            Piece::Number(counts.opened),
+            Piece::Text(b" complete="),
+            Piece::Number(counts.complete),
+            Piece::Text(b" incomplete="),
+            Piece::Number(counts.incomplete),
+            Piece::Text(b" unbuffered="),
+            Piece::Number(counts.unbuffered),
+            Piece::Text(b" open="),
+            Piece::Number(u64::from(still_open)),
+            Piece::Text(b" absent="),
+            Piece::Number(counts.absent),
+            Piece::Text(b" dropped="),
+            Piece::Number(counts.dropped),
         ],
         out,
     )

@@ -5,6 +5,7 @@
 
 mod at;
 mod basics;
+mod block_counts;
 mod datagram_notes;
 mod frame_notes;
 mod laws;
@@ -15,9 +16,10 @@ mod tests;
 mod writing;
 
 pub use at::At;
+pub use block_counts::BlockCounts;
 pub use datagram_notes::{note_foreign, note_idle, note_ignored, note_unwidened};
 pub use frame_notes::{
-    note_absent, note_ask, note_done, note_drop, note_first, note_leader, note_open,
+    note_absent, note_ask, note_blocks, note_done, note_drop, note_first, note_leader, note_open,
     note_unbuffered,
 };
 pub use laws::ended_words_are_outcomes;

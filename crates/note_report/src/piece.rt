@@ -23,7 +23,7 @@ pub struct Named {
     /// The status.
     pub status: u16,
     /// How many bytes a payload carries; 0 of another packet.
-    pub bytes: u32,
+    pub bytes: u64,
 }
 
 /// A part of a line.

@@ -71,6 +71,15 @@ fn lines_of_frames(rt: HostRuntime) -> Result<(), Fail> {
     note_absent(AT, 3, 5, &mut out)?;
     note_drop(AT, 1, ID, &mut out)?;
     note_unbuffered(AT, 2, Cause::Old, &mut out)?;
+    let counts = BlockCounts {
+        opened: 7,
+        complete: 3,
+        incomplete: 2,
+        unbuffered: 1,
+        absent: 40,
+        dropped: 5,
+    };
+    note_blocks(AT, &counts, 1, &mut out)?;
     let wanted =
         "# 5 70 leader block=1 width=1280 height=1024 pixel=0x01080001 bytes=1310720 time=9000\n\
         # 5 70 open block=1 buffer=3.2\n\
@@ -80,7 +89,8 @@ fn lines_of_frames(rt: HostRuntime) -> Result<(), Fail> {
         # 5 70 first block=7\n\
         # 5 70 absent blocks=3-5\n\
         # 5 70 drop block=1 buffer=3.2\n\
-        # 5 70 done block=2 buffer=none cause=old\n";
+        # 5 70 done block=2 buffer=none cause=old\n\
+        # 5 70 blocks opened=7 complete=3 incomplete=2 unbuffered=1 open=1 absent=40 dropped=5\n";
     assert_eq!(rt; out.as_slice(), wanted.as_bytes());
     Ok(())
 }

@@ -1,5 +1,5 @@
 use Rattle.std.proofs.Common.{sym}
-use Rattle.note_report.proofs.datagram_notes.note_idle.Goals as goal
+use Rattle.note_report.proofs.frame_notes.note_blocks.Goals as goal
 
 pub returns : goal.returns
 returns c = rw (sym c.from.ensures) c.add_note.ensures
