@@ -1,3 +1,5 @@
 pub mod Counted
 pub mod Errands
 pub mod Answered
+pub mod Replaying
+pub mod Promised

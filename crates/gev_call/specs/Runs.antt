@@ -9,6 +9,7 @@ use Rattle.gev_status.specs.declared.status.Status.TheVariants.{LinkFault, NoMem
 use Rattle.gev_top.specs.declared.live_numbers.LiveNumbers.{LiveNumbers}
 use Rattle.gev_live.specs.Told.{Told}
 use Rattle.gev_live.specs.LiveRun.{Numbers, RunsLive}
+use Rattle.live_promises.specs.Promises.{KeepsLivePromises}
 
 -- what these three links and three clocks tell
 abbrev pub told_by : {L C : Type 0} → (L → Option (List Answer)) → (L → Option (List (Address × List ℕ))) → (L → ℕ) → (C → Option (List ℕ)) → L → L → L → C → C → C → Told
@@ -49,8 +50,9 @@ pub record AreListed {L C : Type 0} (received : L → Option (List Answer)) (sen
 abbrev pub numbers_of : LiveNumbers → Numbers
 numbers_of n = record { seed = n.seed; frames = n.frames; buffers = n.buffers; turns = n.turns }
 
--- A live run over new links and clocks, whose history is h. Where the ports told what came back, and nothing had,
--- they tell of just the run's links and clocks, as they were at its end.
+-- A live run over new links and clocks, whose history is h. It keeps the headline, and its reader ended for a cause.
+-- Where the ports told what came back, and nothing had, they tell of just the run's links and clocks, as they were at
+-- its end.
 pub record RunsOver {L C : Type 0} (received : L → Option (List Answer)) (sent : L → Option (List (Address × List ℕ))) (faults : L → ℕ) (told : C → Option (List ℕ))
     (n : LiveNumbers) (status : Status) (links links_after : Option (List L)) (clocks clocks_after : Option (List C))
     (written written_after : Option (List ℕ)) (writes writes_after : ℕ) (h : List Entry) : Type 0 where
@@ -61,6 +63,7 @@ pub record RunsOver {L C : Type 0} (received : L → Option (List Answer)) (sent
   pub untold : IsUntold begins
   pub ends : Told
   pub runs : RunsLive (numbers_of n) camera stream status begins ends written written_after writes writes_after h
+  pub promises : KeepsLivePromises runs
   pub listed : links ≡ Some [] → clocks ≡ Some [] → AreListed received sent faults told links_after clocks_after ends
 
 -- No board was made: a bind failed, or memory was wanting, and nothing was written.

@@ -121,6 +121,8 @@ fn run_over<R: Threads + Wait + Sync, K: Sink, P: Ports, G: Gate + Sync>(
                 sink,
             );
             give_ends(ports, ends);
+            // All that the pass has seen is one run of the board.
+            pass.witness();
             *kept = Some((board, pass));
             status
         }

@@ -1,4 +1,5 @@
 mod rows;
+mod second_reading;
 
 use super::*;
 use gev_links::{DiscardingLink, MemoryPorts, MemorySink, OpenGate, SteadySource};

@@ -7,10 +7,12 @@ ghost use Rattle.board_machine.specs.Laws.{IsAlone};
 ghost use Rattle.gev_links.specs.Faults.{Rose};
 ghost use Rattle.script_runs.specs.Verdicts.{IfTold};
 ghost use Rattle.gev_top.specs.declared.command.Command.{Command};
+ghost use Rattle.gev_top.specs.declared.command.Command.TheVariants as commands;
 ghost use Rattle.gev_top.specs.declared.live_numbers.LiveNumbers.{LiveNumbers};
 ghost use Rattle.gev_top.specs.Answers.{Answers, IsDecided, ReadsSteady};
 ghost use Rattle.gev_top.specs.LiveWords.{plain, live, errand_of, errand_fault};
 ghost use Rattle.gev_call.specs.Runs.{RunsOver, RunsNothing};
+ghost use Rattle.gev_call.specs.Replayed.{ReplaysByHeadline};
 
 use crate::running::run_live;
 use buffer_words::{Board, Pass};
@@ -56,13 +58,17 @@ pub fn gevacq_top<R: Threads + Wait + Sync, S: Source, K: Sink, P: Ports, G: Gat
         (K.written sink.old) (K.written sink.new) (K.faults sink.old) (K.faults sink.new) }
     ensures exact { (command : Command) → errand_of (map (λ word. string_bytes word) words.now) ≡ Ok (plain command)
         → IfTold (S.left source.old) (λ content. IsDecided command result content) }
+    // Behind each line the trace of a replay keeps the headline.
+    ensures headline { errand_of (map (λ word. string_bytes word) words.now) ≡ Ok (plain commands.Replay)
+        → ReplaysByHeadline result (S.left source.old) (S.left source.new) (S.faults source.old) (S.faults source.new)
+        (K.written sink.old) (K.written sink.new) (K.faults sink.old) (K.faults sink.new) }
     ensures plain_ports { (command : Command) → errand_of (map (λ word. string_bytes word) words.now) ≡ Ok (plain command)
         → (P.binds ports.new ≡ P.binds ports.old) × (P.links ports.new ≡ P.links ports.old) × (P.clocks ports.new ≡ P.clocks ports.old)
         × (P.faults ports.new ≡ P.faults ports.old) × (kept.new ≡ None) }
 
     // A live run reads nothing. Where a board was made its pass is kept, which is alone and has seen the run's whole
-    // history: what the run promises is said of it, and of the links and clocks that came back. Else nothing was
-    // written, since a bind failed or memory was wanting.
+    // history: what the run promises is said of it, the headline first, and of the links and clocks that came back.
+    // Else nothing was written, since a bind failed or memory was wanting.
     ensures unread { (n : LiveNumbers) → errand_of (map (λ word. string_bytes word) words.now) ≡ Ok (live n)
         → (S.left source.new ≡ S.left source.old) × (S.faults source.new ≡ S.faults source.old) }
     ensures live { (n : LiveNumbers) → errand_of (map (λ word. string_bytes word) words.now) ≡ Ok (live n)

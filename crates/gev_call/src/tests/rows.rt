@@ -1,4 +1,6 @@
-//! Live runs over links in memory whose stream tells two frames of 640 x 480 pixels.
+//! Live runs over links in memory whose stream tells frames of 640 x 480 pixels.
+
+mod twenty;
 
 use super::{ACKS, CAMERA, HOST, word_list};
 use crate::gevacq_top;
@@ -120,12 +122,12 @@ fn moments(alloc: Global) -> Result<Vec<u64>, NoMemory> {
     Ok(all)
 }
 
-/// What a live run of two frames and so many buffers writes over links that hear this. It ends with this status, its
-/// three links are back, and its board is kept.
+/// What a live run with these words writes over links that hear this. It ends with this status, its three links are
+/// back, and its board is kept.
 fn run_heard<R: Abort + Threads + Wait + Sync, G: Gate + Sync>(
     rt: &R,
     alloc: Global,
-    buffers: &str,
+    words: &[&str],
     stream: &[Option<(&[u8], Peer)>],
     control: &[Option<(&[u8], Peer)>],
     moments: &[u64],
@@ -140,7 +142,7 @@ fn run_heard<R: Abort + Threads + Wait + Sync, G: Gate + Sync>(
         [&[], moments, &[]],
         &[],
     )?;
-    let words = word_list(alloc, &["live", "1", "2", buffers, "1", "100000"])?;
+    let words = word_list(alloc, words)?;
     let mut source = SteadySource::new(b"", 1000);
     let mut sink = MemorySink::new(alloc, 1000, &[]);
     let mut kept = None;
@@ -159,7 +161,8 @@ fn run_heard<R: Abort + Threads + Wait + Sync, G: Gate + Sync>(
     Ok(sink.written().to_vec(alloc)?)
 }
 
-/// The same over a stream that lost this payload, and a control link whose first answer is this.
+/// The same of two frames and so many buffers, over a stream that lost this payload and a control link whose first
+/// answer is this.
 fn written<R: Abort + Threads + Wait + Sync, G: Gate + Sync>(
     rt: &R,
     alloc: Global,
@@ -181,7 +184,7 @@ fn written<R: Abort + Threads + Wait + Sync, G: Gate + Sync>(
     run_heard(
         rt,
         alloc,
-        buffers,
+        &["live", "1", "2", buffers, "1", "100000"],
         stream.as_slice(),
         &control,
         moments.as_slice(),

@@ -1,8 +1,22 @@
--- Links that failed go back with their counts.
+-- What came back tells of the run, and links that failed go back with their counts.
 use Rattle.std.proofs.Common.{arith}
 use Rattle.gev_call.proofs.Counted.{one_rose}
+use Rattle.gev_call.proofs.Promised.{ran_over}
 use Rattle.gev_call.proofs.Answered.{links_kept, link_failed, writes_kept}
 use Rattle.gev_call.proofs.running.run_over.Goals as goal
+
+pub returns-in-Ok-clause-live : goal.returns-in-Ok-clause-live
+returns-in-Ok-clause-live g c =
+    ran_over _ _ _ _ _ _ _ _ _ _ _ _ _ _ _ _ _ _ _ _ _ _ _ _
+    (record {
+      camera = c.requires.camera;
+      stream = c.requires.stream;
+      control = c.requires.control;
+      camera_clock = c.requires.camera_clock;
+      host_clock = c.requires.host_clock;
+      app_clock = c.requires.app_clock;
+    })
+    c.live_over-status.ensures.live c.witness.ensures.run c.give_ends.ensures.links c.give_ends.ensures.clocks
 
 pub returns-in-Ok-clause-link_fault : goal.returns-in-Ok-clause-link_fault
 returns-in-Ok-clause-link_fault g c =

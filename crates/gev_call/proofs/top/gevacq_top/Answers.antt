@@ -2,6 +2,8 @@
 use Rattle.std.proofs.Common.{map, sym, ◌∙◌}
 use Rattle.std.specs.String.{string_bytes}
 use Rattle.gev_call.proofs.Errands.{fault_same, command_is, never_live, never_links}
+use Rattle.gev_top.specs.declared.command.Command.TheVariants as commands
+use Rattle.gev_call.proofs.Replaying.{by_headline}
 use Rattle.gev_call.proofs.top.gevacq_top.Goals as goal
 
 pub returns-in-None-clause-usage : goal.returns-in-None-clause-usage
@@ -41,3 +43,9 @@ returns-in-None-clause-link_fault g c =
     λ is.
     absurd (never_links (map (λ word. string_bytes word) c.args.words.now) c.plain_top.result _ _ _ _ _ _ _ _
     (λ place fault. (c.plain_top.ensures.usage place).1 fault) c.plain_top.ensures.cause is)
+
+pub returns-in-None-clause-headline : goal.returns-in-None-clause-headline
+returns-in-None-clause-headline g c =
+    λ is.
+    by_headline c.plain_top.result _ _ _ _ _ _ _ _
+    (c.plain_top.ensures.cause commands.Replay (command_is (map (λ word. string_bytes word) c.args.words.now) commands.Replay (sym c.in-None.ensures.said) is))

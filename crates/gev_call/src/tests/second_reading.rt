@@ -1,0 +1,189 @@
+//! The words of a live run are read by `read_live`, and a second time by `clap`.
+
+use super::word_list;
+use clap::builder::ValueParser;
+use clap::error::ErrorKind;
+use clap::{Arg, ArgMatches, Error};
+use gev_top::{LiveNumbers, read_live};
+use std::alloc::Global;
+use std::test::Fail;
+
+/// The words of a command line.
+type Words = &'static [&'static str];
+
+/// Command lines that ask for a live run, and its numbers.
+const LIVE: [(Words, LiveNumbers); 4] = [
+    (
+        &["live", "0", "1", "1", "1", "1"],
+        LiveNumbers {
+            seed: 0,
+            frames: 1,
+            buffers: 1,
+            lanes: 1,
+            turns: 1,
+        },
+    ),
+    (
+        &["live", "1", "20", "4", "1", "1000000"],
+        LiveNumbers {
+            seed: 1,
+            frames: 20,
+            buffers: 4,
+            lanes: 1,
+            turns: 1_000_000,
+        },
+    ),
+    (
+        &[
+            "live",
+            "18446744073709551615",
+            "1000",
+            "15",
+            "1",
+            "100000000",
+        ],
+        LiveNumbers {
+            seed: 18_446_744_073_709_551_615,
+            frames: 1000,
+            buffers: 15,
+            lanes: 1,
+            turns: 100_000_000,
+        },
+    ),
+    (
+        &["live", "9223372036854775808", "999", "14", "1", "99999999"],
+        LiveNumbers {
+            seed: 9_223_372_036_854_775_808,
+            frames: 999,
+            buffers: 14,
+            lanes: 1,
+            turns: 99_999_999,
+        },
+    ),
+];
+
+/// Refused words: the place of the first that isn't understood, and what `clap` finds wrong.
+const REFUSED: [(Words, u32, ErrorKind); 13] = [
+    (&["live"], 1, ErrorKind::MissingRequiredArgument),
+    (
+        &["live", "1", "1", "1", "1"],
+        5,
+        ErrorKind::MissingRequiredArgument,
+    ),
+    (
+        &["live", "x", "1", "1", "1", "1"],
+        1,
+        ErrorKind::ValueValidation,
+    ),
+    (
+        &["live", "18446744073709551616", "1", "1", "1", "1"],
+        1,
+        ErrorKind::ValueValidation,
+    ),
+    (
+        &["live", "1", "0", "1", "1", "1"],
+        2,
+        ErrorKind::ValueValidation,
+    ),
+    (
+        &["live", "1", "1001", "1", "1", "1"],
+        2,
+        ErrorKind::ValueValidation,
+    ),
+    (
+        &["live", "1", "1", "0", "1", "1"],
+        3,
+        ErrorKind::ValueValidation,
+    ),
+    (
+        &["live", "1", "1", "16", "1", "1"],
+        3,
+        ErrorKind::ValueValidation,
+    ),
+    (
+        &["live", "1", "1", "1", "0", "1"],
+        4,
+        ErrorKind::ValueValidation,
+    ),
+    (
+        &["live", "1", "1", "1", "2", "1"],
+        4,
+        ErrorKind::ValueValidation,
+    ),
+    (
+        &["live", "1", "1", "1", "1", "0"],
+        5,
+        ErrorKind::ValueValidation,
+    ),
+    (
+        &["live", "1", "1", "1", "1", "100000001"],
+        5,
+        ErrorKind::ValueValidation,
+    ),
+    (
+        &["live", "1", "1", "1", "1", "1", "1"],
+        6,
+        ErrorKind::UnknownArgument,
+    ),
+];
+
+/// A number from one to another.
+fn number(alloc: Global, name: &'static str, least: u64, most: u64) -> Arg<'static> {
+    Arg::new(alloc, name)
+        .required(true)
+        .value_parser(ValueParser::Unsigned(least, most))
+}
+
+/// What `clap` finds in the words.
+fn matches_of(alloc: Global, words: Words) -> Result<ArgMatches<'static>, Error> {
+    let live = clap::Command::new(alloc, "live")
+        .arg(number(alloc, "seed", 0, u64::MAX))?
+        .arg(number(alloc, "frames", 1, 1000))?
+        .arg(number(alloc, "buffers", 1, 15))?
+        .arg(number(alloc, "lanes", 1, 1))?
+        .arg(number(alloc, "turns", 1, 100_000_000))?;
+    let program = clap::Command::new(alloc, "gevacq")
+        .no_binary_name(true)
+        .subcommand_required(true)
+        .subcommand(live)?;
+    program.try_get_matches_from(words)
+}
+
+/// The numbers of the live run that was found.
+fn found_numbers(found: &ArgMatches<'static>) -> Option<LiveNumbers> {
+    let (name, inner) = found.subcommand()?;
+    if name != "live" {
+        return None;
+    }
+    Some(LiveNumbers {
+        seed: inner.get_one::<u64>("seed")?,
+        frames: inner.get_one::<u32>("frames")?,
+        buffers: inner.get_one::<u8>("buffers")?,
+        lanes: inner.get_one::<u8>("lanes")?,
+        turns: inner.get_one::<u64>("turns")?,
+    })
+}
+
+#[test]
+fn both_read_live_runs(rt: HostRuntime) -> Result<(), Fail> {
+    let alloc = rt.alloc();
+    for (words, numbers) in LIVE {
+        let first = read_live(&word_list(alloc, words)?);
+        let second = found_numbers(&matches_of(alloc, words)?);
+        assert_eq!(rt; first, Some(Ok(numbers)), "{words:?}");
+        assert_eq!(rt; second, Some(numbers), "{words:?}");
+    }
+    Ok(())
+}
+
+#[test]
+fn both_refuse_live_runs(rt: HostRuntime) -> Result<(), Fail> {
+    let alloc = rt.alloc();
+    for (words, place, kind) in REFUSED {
+        let first = read_live(&word_list(alloc, words)?);
+        let second = matches_of(alloc, words).err().map(|error| error.kind());
+        assert_eq!(rt; first, Some(Err(place)), "{words:?}");
+        assert_eq!(rt; second, Some(kind), "{words:?}");
+    }
+    Ok(())
+}
