@@ -25,8 +25,8 @@ use std::thread::Threads;
 
 /// Does what the words say. This is what `main` calls.
 ///
-/// `replay`, `streams`, `camera`, `make` and `soak` do what `plain_top` says; they make no use of the ports, and nothing is
-/// kept.
+/// `replay`, `streams`, `capture`, `camera`, `make` and `soak` do what `plain_top` says; they make no use of the
+/// ports, and nothing is kept.
 ///
 /// `live` with a seed, a number of frames, of buffers, of lanes and of turns runs a camera, a receiver and an
 /// application as threads over three links of the ports, and writes a line for each frame that was handed out. The

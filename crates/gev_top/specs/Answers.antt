@@ -11,10 +11,10 @@ use Rattle.gev_make.specs.MakeText.{make_text}
 use Rattle.gev_status.specs.declared.status.Status.{Status}
 use Rattle.gev_status.specs.declared.status.Status.TheVariants.{Done, Usage, BadScript, ReadFault, WriteFault, LinkFault, NoMemory, NoAnswer, Refused, TurnsSpent, BadCapture}
 use Rattle.gev_top.specs.declared.command.Command.{Command}
-use Rattle.gev_top.specs.declared.command.Command.TheVariants.{Replay, Streams, Camera, Make, Soak}
+use Rattle.gev_top.specs.declared.command.Command.TheVariants.{Replay, Streams, Capture, Camera, Make, Soak}
 use Rattle.gev_top.specs.Scripts.{Ends, IfEnded, AnswersContent}
 use Rattle.gev_top.specs.Soaking.{Soaks}
-use Rattle.gev_top.specs.Capturing.{ListsStreams, IsCaptureRead, AnswersCapture}
+use Rattle.gev_top.specs.Capturing.{ListsStreams, ScriptsCapture, IsCaptureRead, AnswersCapture}
 
 -- A replay: behind each line its trace keeps its promises. It is a run of the board machine, each buffer
 -- has one owner at each step, buffers are handed out once and in the order of their fills, the
@@ -64,6 +64,7 @@ pub record Makes (text : List ℕ) (status : Status) (left left_after : Option (
 abbrev pub Answers : Command → Status → Option (List ℕ) → Option (List ℕ) → ℕ → ℕ → Option (List ℕ) → Option (List ℕ) → ℕ → ℕ → Type 0
 Answers Replay = Replays
 Answers Streams = ListsStreams
+Answers (Capture port p bytes) = ScriptsCapture port p bytes
 Answers Camera = Serves
 Answers (Make seed frames rates) = Makes (make_text seed frames rates)
 Answers (Soak seed frames rates short) = Soaks (record { seed = seed; frames = frames; rates = rates; short = short })
@@ -74,6 +75,7 @@ Answers (Soak seed frames rates short) = Soaks (record { seed = seed; frames = f
 abbrev pub ReadsSteady : Command → Status → ℕ → ℕ → Type 0
 ReadsSteady Replay status reads reads_after = status ≢ ReadFault → reads_after ≡ reads
 ReadsSteady Streams status reads reads_after = IsCaptureRead status → reads_after ≡ reads
+ReadsSteady (Capture port p bytes) status reads reads_after = IsCaptureRead status → reads_after ≡ reads
 ReadsSteady Camera status reads reads_after = status ≢ ReadFault → reads_after ≡ reads
 ReadsSteady (Make seed frames rates) status reads reads_after = status ≢ ReadFault → reads_after ≡ reads
 ReadsSteady (Soak seed frames rates short) status reads reads_after = status ≢ ReadFault → reads_after ≡ reads
@@ -82,6 +84,7 @@ ReadsSteady (Soak seed frames rates short) status reads reads_after = status ≢
 abbrev pub IsDecided : Command → Status → List ℕ → Type 0
 IsDecided Replay status content = AnswersContent status (outcome replay.replay_verdict content)
 IsDecided Streams status content = AnswersCapture status content
+IsDecided (Capture port p bytes) status content = AnswersCapture status content
 IsDecided Camera status content = AnswersContent status (outcome camera.camera_verdict content)
 IsDecided (Make seed frames rates) status content = ⊤
 IsDecided (Soak seed frames rates short) status content = ⊤

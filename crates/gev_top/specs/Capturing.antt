@@ -4,6 +4,7 @@ use Rattle.capture_runs.specs.declared.ending.Ending.{Ending}
 use Rattle.capture_runs.specs.declared.ending.Ending.TheVariants as endings
 use Rattle.capture_runs.specs.Ends.{RunEnds, IsWhole, AnswersContent}
 use Rattle.capture_streams.specs.Texts.{streams_text, listed_text}
+use Rattle.capture_script.specs.Script.{capture_script, begun_script}
 use Rattle.gev_status.specs.declared.status.Status.{Status}
 use Rattle.gev_status.specs.declared.status.Status.TheVariants.{Done, Usage, BadScript, ReadFault, WriteFault, LinkFault, NoMemory, NoAnswer, Refused, TurnsSpent, BadCapture}
 
@@ -33,6 +34,13 @@ IfCaptured P (TurnsSpent turns frames) = ⊥
 abbrev pub ListsStreams : Status → Option (List ℕ) → Option (List ℕ) → ℕ → ℕ → Option (List ℕ) → Option (List ℕ) → ℕ → ℕ → Type 0
 ListsStreams status left left_after reads reads_after written written_after writes writes_after =
     IfCaptured (λ ending. RunEnds streams_text listed_text ending left left_after reads reads_after written written_after writes writes_after) status
+
+-- The script of the datagrams to a port: the script of the capture's packets was written.
+abbrev pub ScriptsCapture : ℕ → ℕ → ℕ → Status → Option (List ℕ) → Option (List ℕ) → ℕ → ℕ → Option (List ℕ) → Option (List ℕ) → ℕ → ℕ → Type 0
+ScriptsCapture port p bytes status left left_after reads reads_after written written_after writes writes_after =
+    IfCaptured
+    (λ ending. RunEnds (capture_script port p bytes) (begun_script port p bytes) ending left left_after reads reads_after written written_after writes writes_after)
+    status
 
 -- the capture was read to its end, or to a record that is refused
 abbrev pub IsCaptureRead : Status → Type 0

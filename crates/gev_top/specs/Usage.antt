@@ -1,11 +1,11 @@
 -- The words of the command line: the command that they are, or the first with which no command line goes on.
-use Rattle.std.specs.Prelude.{ℕ, ◌^◌, ◌-◌, Bool, true, false, List, [], ◌∷◌, codes, Option, Some, None, Result, Ok, Err, slice_get, if◌then◌else◌}
+use Rattle.std.specs.Prelude.{⊤, ℕ, ◌≤◌, ◌^◌, ◌-◌, Bool, true, false, List, [], ◌∷◌, codes, Option, Some, None, Result, Ok, Err, slice_get, if◌then◌else◌}
 use Rattle.std.specs.Str.{bytes_eq}
 use Rattle.gev_script.specs.Words.{Read}
 use Rattle.gev_script.specs.Numbers.{number_in}
 use Rattle.lossy_queue.specs.declared.rates.Rates.{Rates}
 use Rattle.gev_top.specs.declared.command.Command.{Command}
-use Rattle.gev_top.specs.declared.command.Command.TheVariants.{Replay, Streams, Camera, Make, Soak}
+use Rattle.gev_top.specs.declared.command.Command.TheVariants.{Replay, Streams, Capture, Camera, Make, Soak}
 use Rattle.gev_top.specs.declared.numbers.Numbers.{Numbers}
 
 -- What words say, or the place of the first word with which no command line goes on, from 0. Where more
@@ -59,6 +59,15 @@ streams_of words = do
   done ← none_at 1 words
   Ok Streams
 
+-- `capture <port> <p> <bytes>`: a payload has at most p bytes, a buffer these
+abbrev pub capture_of : List (List ℕ) → Said Command
+capture_of words = do
+  port ← number_at 1 65535 1 words
+  p ← number_at 528 8964 2 words
+  bytes ← number_at 1 67108864 3 words
+  done ← none_at 4 words
+  Ok (Capture port p bytes)
+
 -- `camera`
 abbrev pub camera_of : List (List ℕ) → Said Command
 camera_of words = do
@@ -96,11 +105,28 @@ soak_of words = do
   done ← none_at 7 words
   Ok (Soak n.seed n.frames n.rates short)
 
+-- Payloads of at most 528 to 8964 bytes, and buffers of 1 to 67,108,864 bytes.
+pub record HasSizes (p bytes : ℕ) : Type 0 where
+  pub some_payload : 528 ≤ p
+  pub payload_fits : p ≤ 8964
+  pub some_bytes : 1 ≤ bytes
+  pub bytes_fit : bytes ≤ 67108864
+
+-- the numbers of a command are in the ranges that it asks for
+abbrev pub IsInRange : Command → Type 0
+IsInRange Replay = ⊤
+IsInRange Streams = ⊤
+IsInRange (Capture port p bytes) = HasSizes p bytes
+IsInRange Camera = ⊤
+IsInRange (Make seed frames rates) = ⊤
+IsInRange (Soak seed frames rates short) = ⊤
+
 -- the words of which the first is this name
 abbrev pub named : List ℕ → List (List ℕ) → Said Command
 named name words =
     if bytes_eq name (codes "replay") then replay_of words
     else if bytes_eq name (codes "streams") then streams_of words
+    else if bytes_eq name (codes "capture") then capture_of words
     else if bytes_eq name (codes "camera") then camera_of words
     else if bytes_eq name (codes "make") then make_of words
     else if bytes_eq name (codes "soak") then soak_of words

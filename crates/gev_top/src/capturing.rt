@@ -1,8 +1,9 @@
-ghost use Rattle.std.specs.Prelude.{◌≡◌, ◌≢◌};
+ghost use Rattle.std.specs.Prelude.{◌≡◌, ◌≢◌, ◌≤◌};
 ghost use Rattle.script_runs.specs.Verdicts.{IfTold};
-ghost use Rattle.gev_top.specs.Capturing.{status_from, ListsStreams, IsCaptureRead, AnswersCapture};
+ghost use Rattle.gev_top.specs.Capturing.{status_from, ListsStreams, ScriptsCapture, IsCaptureRead, AnswersCapture};
 
 use capture_runs::Ending;
+use capture_script::write_capture;
 use capture_streams::list_streams;
 use gev_links::{Sink, Source};
 use gev_status::Status;
@@ -30,4 +31,27 @@ pub fn streams<S: Source, K: Sink>(alloc: Global, source: &mut S, sink: &mut K) 
     ensures writes_steady { result ≢ Status.WriteFault → K.faults sink.new ≡ K.faults sink.old }
 {
     status_from(list_streams(alloc, source, sink))
+}
+
+/// Writes a replay script of the datagrams to one port of the capture that the source gives, with payloads of at most
+/// `p` bytes and buffers of `bytes` bytes.
+pub fn capture<S: Source, K: Sink>(
+    alloc: Global,
+    port: u16,
+    p: u32,
+    bytes: u32,
+    source: &mut S,
+    sink: &mut K,
+) -> Status
+    requires p_some { 528 ≤ p }
+    requires p_most { p ≤ 8964 }
+    requires some { 1 ≤ bytes }
+    requires in_limits { bytes ≤ 67108864 }
+    ensures cause { ScriptsCapture port p bytes result (S.left source.old) (S.left source.new) (S.faults source.old) (S.faults source.new)
+        (K.written sink.old) (K.written sink.new) (K.faults sink.old) (K.faults sink.new) }
+    ensures exact { IfTold (S.left source.old) (λ content. AnswersCapture result content) }
+    ensures reads_steady { IsCaptureRead result → S.faults source.new ≡ S.faults source.old }
+    ensures writes_steady { result ≢ Status.WriteFault → K.faults sink.new ≡ K.faults sink.old }
+{
+    status_from(write_capture(alloc, port, p, bytes, source, sink))
 }

@@ -7,6 +7,15 @@ pub enum Command {
     Replay,
     /// List the image streams in a capture.
     Streams,
+    /// Write a replay script of the datagrams to one port of a capture.
+    Capture {
+        /// The port, from 1 to 65,535.
+        port: u16,
+        /// The most bytes of a payload, from 528 to 8964.
+        p: u32,
+        /// The bytes of each buffer of the script, from 1 to 67,108,864.
+        bytes: u32,
+    },
     /// Run a camera script, and write what the camera answers.
     Camera,
     /// Write the replay script of a seed.

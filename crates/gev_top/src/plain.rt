@@ -3,9 +3,9 @@ ghost use Rattle.std.specs.String.{string_bytes};
 ghost use Rattle.script_runs.specs.Verdicts.{IfTold};
 ghost use Rattle.gev_top.specs.declared.command.Command.{Command};
 ghost use Rattle.gev_top.specs.Answers.{Answers, IsDecided, ReadsSteady};
-ghost use Rattle.gev_top.specs.Usage.{command_of, usage_fault};
+ghost use Rattle.gev_top.specs.Usage.{command_of, usage_fault, IsInRange};
 
-use crate::capturing::streams;
+use crate::capturing::{capture, streams};
 use crate::command::Command;
 use crate::making::make_script;
 use crate::scripts::{camera, replay};
@@ -23,6 +23,9 @@ use std::alloc::Global;
 ///
 /// `streams` reads a capture of a network, a pcap or a pcapng file, and writes a line for each image stream in
 /// it, and an end line.
+///
+/// `capture` with a port, the most bytes of a payload and the bytes of a buffer reads a capture too, and writes a
+/// replay script of the datagrams to that port.
 ///
 /// `camera` runs the camera script that the source gives in the same way: its report is what a simulated
 /// camera answers and sends.
@@ -51,9 +54,9 @@ pub fn plain_top<S: Source, K: Sink>(
     // under each map of frames from which the datagrams were sent, an image that is marked complete is its
     // block's frame. Those that a camera script writes are what events of one camera print. Of a script that
     // is made: it was written whole, or a front of it. Of a capture: the text that lists the streams of its
-    // packets was written, up to the record that is refused, if one is. Of a soak run: its text was written, or a front of it,
-    // the answer is the run's end, its receiver's history keeps the promises of a trace, each image that is
-    // marked complete is the generator's, and its commands act once.
+    // packets, or the script of those to one port, was written, up to the record that is refused, if one is. Of a
+    // soak run: its text was written, or a front of it, the answer is the run's end, its receiver's history keeps
+    // the promises of a trace, each image that is marked complete is the generator's, and its commands act once.
     ensures cause { (command : Command) → command_of (map (λ word. string_bytes word) words.now) ≡ Ok command
         → Answers command result (S.left source.old) (S.left source.new) (S.faults source.old) (S.faults source.new)
         (K.written sink.old) (K.written sink.new) (K.faults sink.old) (K.faults sink.new) }
@@ -81,6 +84,7 @@ fn run_command<S: Source, K: Sink>(
     source: &mut S,
     sink: &mut K,
 ) -> Status
+    requires { IsInRange command }
     ensures understood { (place : ℕ) → result ≢ Status.Usage place }
     ensures cause { Answers command result (S.left source.old) (S.left source.new) (S.faults source.old) (S.faults source.new)
         (K.written sink.old) (K.written sink.new) (K.faults sink.old) (K.faults sink.new) }
@@ -91,6 +95,7 @@ fn run_command<S: Source, K: Sink>(
     match command {
         Command::Replay => replay(alloc, source, sink),
         Command::Streams => streams(alloc, source, sink),
+        Command::Capture { port, p, bytes } => capture(alloc, port, p, bytes, source, sink),
         Command::Camera => camera(alloc, source, sink),
         Command::Make {
             seed,

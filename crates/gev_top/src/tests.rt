@@ -6,6 +6,7 @@ use std::test::Fail;
 mod blocks;
 mod board;
 mod cameras;
+mod capture_scripts;
 mod captures;
 mod faults;
 mod handles;

@@ -1,7 +1,7 @@
 ghost use Rattle.std.specs.Prelude.{◌≡◌, ◌≤◌, map, IfOk};
 ghost use Rattle.std.specs.String.{string_bytes};
 ghost use Rattle.std.specs.Str.{bytes_eq};
-ghost use Rattle.gev_top.specs.Usage.{number_at, none_at, short_at, rates_of, replay_of, streams_of, camera_of, make_of, soak_of, numbers_of, named, command_of};
+ghost use Rattle.gev_top.specs.Usage.{number_at, none_at, short_at, rates_of, replay_of, streams_of, capture_of, camera_of, make_of, soak_of, numbers_of, named, command_of, IsInRange};
 
 use crate::command::Command;
 use crate::numbers::Numbers;
@@ -11,7 +11,8 @@ use lossy_queue::Rates;
 /// The command that the words are, or the place, from 0, of the first word with which no command line
 /// goes on. Where more words are wanted it is their number.
 pub fn read_words(words: &[String]) -> Result<Command, u32>
-    ensures { result ≡ command_of (map (λ word. string_bytes word) words.now) }
+    ensures said { result ≡ command_of (map (λ word. string_bytes word) words.now) }
+    ensures within { IfOk result (λ command. IsInRange command) }
 {
     match words {
         [] => Err(0),
@@ -21,13 +22,17 @@ pub fn read_words(words: &[String]) -> Result<Command, u32>
 
 /// The same of the words of which the first is this name.
 fn read_named(name: &[u8], words: &[String]) -> Result<Command, u32>
-    ensures { result ≡ named name.now (map (λ word. string_bytes word) words.now) }
+    ensures said { result ≡ named name.now (map (λ word. string_bytes word) words.now) }
+    ensures within { IfOk result (λ command. IsInRange command) }
 {
     if is(name, b"replay") {
         return read_replay(words);
     }
     if is(name, b"streams") {
         return read_streams(words);
+    }
+    if is(name, b"capture") {
+        return read_capture(words);
     }
     if is(name, b"camera") {
         return read_camera(words);
@@ -43,7 +48,8 @@ fn read_named(name: &[u8], words: &[String]) -> Result<Command, u32>
 
 /// No word follows `replay`.
 fn read_replay(words: &[String]) -> Result<Command, u32>
-    ensures { result ≡ replay_of (map (λ word. string_bytes word) words.now) }
+    ensures said { result ≡ replay_of (map (λ word. string_bytes word) words.now) }
+    ensures within { IfOk result (λ command. IsInRange command) }
 {
     none_at(1, words)?;
     Ok(Command::Replay)
@@ -51,15 +57,29 @@ fn read_replay(words: &[String]) -> Result<Command, u32>
 
 /// No word follows `streams`.
 fn read_streams(words: &[String]) -> Result<Command, u32>
-    ensures { result ≡ streams_of (map (λ word. string_bytes word) words.now) }
+    ensures said { result ≡ streams_of (map (λ word. string_bytes word) words.now) }
+    ensures within { IfOk result (λ command. IsInRange command) }
 {
     none_at(1, words)?;
     Ok(Command::Streams)
 }
 
+/// A port, the most bytes of a payload and the bytes of a buffer follow `capture`.
+fn read_capture(words: &[String]) -> Result<Command, u32>
+    ensures said { result ≡ capture_of (map (λ word. string_bytes word) words.now) }
+    ensures within { IfOk result (λ command. IsInRange command) }
+{
+    let port = number_at(1, 65_535, 1, words)? as u16;
+    let p = number_at(528, 8964, 2, words)? as u32;
+    let bytes = number_at(1, 67_108_864, 3, words)? as u32;
+    none_at(4, words)?;
+    Ok(Command::Capture { port, p, bytes })
+}
+
 /// No word follows `camera`.
 fn read_camera(words: &[String]) -> Result<Command, u32>
-    ensures { result ≡ camera_of (map (λ word. string_bytes word) words.now) }
+    ensures said { result ≡ camera_of (map (λ word. string_bytes word) words.now) }
+    ensures within { IfOk result (λ command. IsInRange command) }
 {
     none_at(1, words)?;
     Ok(Command::Camera)
@@ -67,7 +87,8 @@ fn read_camera(words: &[String]) -> Result<Command, u32>
 
 /// A seed, a number of frames and three rates follow `make`.
 fn read_make(words: &[String]) -> Result<Command, u32>
-    ensures { result ≡ make_of (map (λ word. string_bytes word) words.now) }
+    ensures said { result ≡ make_of (map (λ word. string_bytes word) words.now) }
+    ensures within { IfOk result (λ command. IsInRange command) }
 {
     let Numbers {
         seed,
@@ -84,7 +105,8 @@ fn read_make(words: &[String]) -> Result<Command, u32>
 
 /// The same numbers follow `soak`, and then the word `short` or none.
 fn read_soak(words: &[String]) -> Result<Command, u32>
-    ensures { result ≡ soak_of (map (λ word. string_bytes word) words.now) }
+    ensures said { result ≡ soak_of (map (λ word. string_bytes word) words.now) }
+    ensures within { IfOk result (λ command. IsInRange command) }
 {
     let Numbers {
         seed,

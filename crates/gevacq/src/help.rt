@@ -12,6 +12,10 @@ gevacq streams
     Lists the image streams in a capture: reads a pcap or pcapng file from standard
     input and writes a line for each stream.
 
+gevacq capture <port> <p> <bytes>
+    Makes a replay script of the datagrams to this port in a capture, which it reads
+    in the same way: payloads of at most <p> bytes, and buffers of so many bytes.
+
 gevacq camera
     Runs a script of control messages on a simulated camera: reads it from
     standard input and writes what the camera answers and sends.
@@ -37,6 +41,9 @@ gevacq --help, gevacq -h
 gevacq --version
     Prints the name and the version.
 
+<port>                      1 to 65535
+<p>                         528 to 8964
+<bytes>                     1 to 67108864
 <seed>                      0 to 18446744073709551615
 <frames>                    0 to 100000, of `live` 1 to 1000
 <loss>, <repeat>, <swap>    0 to 1000, of a thousand packets
@@ -53,6 +60,7 @@ docs/FORMATS.md.
 pub(crate) const USAGE: &str = "\
 usage: gevacq replay
 usage: gevacq streams
+usage: gevacq capture <port> <p> <bytes>
 usage: gevacq camera
 usage: gevacq make <seed> <frames> <loss> <repeat> <swap>
 usage: gevacq soak <seed> <frames> <loss> <repeat> <swap> [short]

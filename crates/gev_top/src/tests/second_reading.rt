@@ -22,13 +22,48 @@ const WORDS_ALONE: [(Words, Command); 3] = [
     (&["camera"], Command::Camera),
 ];
 
+/// Lines of `capture`, and the command that each is.
+const CAPTURES: [(Words, Command); 2] = [
+    (
+        &["capture", "1", "528", "1"],
+        Command::Capture {
+            port: 1,
+            p: 528,
+            bytes: 1,
+        },
+    ),
+    (
+        &["capture", "65535", "8964", "67108864"],
+        Command::Capture {
+            port: 65_535,
+            p: 8964,
+            bytes: 67_108_864,
+        },
+    ),
+];
+
 /// Refused words: the place of the first that isn't understood, and what `clap` finds wrong.
-const REFUSED: [(Words, u32, ErrorKind); 16] = [
+const REFUSED: [(Words, u32, ErrorKind); 19] = [
     (&[], 0, ErrorKind::MissingSubcommand),
     (&["reply"], 0, ErrorKind::InvalidSubcommand),
     (&["Replay"], 0, ErrorKind::InvalidSubcommand),
     (&["replay", "replay"], 1, ErrorKind::UnknownArgument),
     (&["streams", "streams"], 1, ErrorKind::UnknownArgument),
+    (
+        &["capture", "49152", "528"],
+        3,
+        ErrorKind::MissingRequiredArgument,
+    ),
+    (
+        &["capture", "65536", "528", "4"],
+        1,
+        ErrorKind::ValueValidation,
+    ),
+    (
+        &["capture", "1", "8965", "4"],
+        2,
+        ErrorKind::ValueValidation,
+    ),
     (&["camera", "replay"], 1, ErrorKind::UnknownArgument),
     (&["make"], 1, ErrorKind::MissingRequiredArgument),
     (
@@ -127,6 +162,21 @@ fn with_numbers(alloc: Global, name: &'static str) -> Result<clap::Command<'stat
         .arg(number(alloc, "swap", 1000))
 }
 
+/// One number from the first of these to the second.
+fn number_from(alloc: Global, name: &'static str, least: u64, most: u64) -> Arg<'static> {
+    Arg::new(alloc, name)
+        .required(true)
+        .value_parser(ValueParser::Unsigned(least, most))
+}
+
+/// A command that wants a port, the most bytes of a payload, and those of a buffer.
+fn with_sizes(alloc: Global) -> Result<clap::Command<'static>, AllocError> {
+    clap::Command::new(alloc, "capture")
+        .arg(number_from(alloc, "port", 1, 65_535))?
+        .arg(number_from(alloc, "p", 528, 8964))?
+        .arg(number_from(alloc, "bytes", 1, 67_108_864))
+}
+
 /// The word `short`, or none.
 fn short_word(alloc: Global) -> Arg<'static> {
     Arg::new(alloc, "short").value_parser(ValueParser::Names(["short"].as_slice()))
@@ -139,6 +189,7 @@ fn matches_of(alloc: Global, words: Words) -> Result<ArgMatches<'static>, Error>
         .subcommand_required(true)
         .subcommand(clap::Command::new(alloc, "replay"))?
         .subcommand(clap::Command::new(alloc, "streams"))?
+        .subcommand(with_sizes(alloc)?)?
         .subcommand(clap::Command::new(alloc, "camera"))?
         .subcommand(with_numbers(alloc, "make")?)?
         .subcommand(with_numbers(alloc, "soak")?.arg(short_word(alloc))?)?;
@@ -159,6 +210,15 @@ fn found_numbers(found: &ArgMatches<'static>) -> Option<Numbers> {
     })
 }
 
+/// The command of a port and two sizes that was found.
+fn found_capture(found: &ArgMatches<'static>) -> Option<Command> {
+    Some(Command::Capture {
+        port: found.get_one::<u16>("port")?,
+        p: found.get_one::<u32>("p")?,
+        bytes: found.get_one::<u32>("bytes")?,
+    })
+}
+
 /// The command that was found.
 fn found_command(found: &ArgMatches<'static>) -> Option<Command> {
     let (name, inner) = found.subcommand()?;
@@ -167,6 +227,9 @@ fn found_command(found: &ArgMatches<'static>) -> Option<Command> {
     }
     if name == "streams" {
         return Some(Command::Streams);
+    }
+    if name == "capture" {
+        return found_capture(inner);
     }
     if name == "camera" {
         return Some(Command::Camera);
@@ -302,6 +365,7 @@ fn both_read(rt: &(impl Abort + AllocGlobal), table: &[(Words, Command)]) -> Res
 
 #[test]
 fn both_read_words_and_numbers(rt: HostRuntime) -> Result<(), Fail> {
+    both_read(&rt, CAPTURES.as_slice())?;
     both_read(&rt, made().as_slice())?;
     both_read(&rt, soaked().as_slice())
 }

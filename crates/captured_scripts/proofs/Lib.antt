@@ -1,0 +1,4 @@
+pub mod Telling
+pub mod Sitting
+pub mod Fitting
+pub mod Whole

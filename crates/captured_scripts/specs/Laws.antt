@@ -1,0 +1,31 @@
+-- What holds of the script of every capture.
+use Rattle.std.specs.Prelude.{◌≡◌, ℕ, ◌<◌, ◌≤◌, List, length}
+use Rattle.std.specs.List.{AllByRecursion}
+use Rattle.gev_script.specs.Spelling.{IsScriptLine}
+use Rattle.script_runs.specs.Verdicts.{outcome, whole}
+use Rattle.script_trace.specs.Standing.{replay_verdict}
+use Rattle.gev_capture.specs.Files.{Packet}
+use Rattle.gev_capture.specs.Sightings.{sightings}
+use Rattle.capture_script.specs.Script.{script_lines, capture_script}
+use Rattle.captured_scripts.specs.Datagrams.{datagrams_to, told_from}
+
+-- The script's `d` lines are the capture's datagrams to the port, in order; and of each the greatest moment of the
+-- `t` lines before it, 0 where there is none, is its moment.
+abbrev pub DatagramsAreTold : Type 0
+DatagramsAreTold =
+    (port p size : ℕ) (packets : List Packet) → told_from 0 (script_lines port p size (sightings packets)) ≡ datagrams_to port (sightings packets)
+
+-- the bytes of a packet are bytes
+abbrev pub HasBytes : Packet → Type 0
+HasBytes packet = AllByRecursion (λ b. b < 256) packet.bytes
+
+-- Each line of it is a line of the grammar; and where there are at most 4,294,967,295, it is a script for `replay`, none of
+-- whose lines is refused.
+pub record IsScript (port p size : ℕ) (packets : List Packet) : Type 0 where
+  pub lines : AllByRecursion IsScriptLine (script_lines port p size (sightings packets))
+  pub script : length (script_lines port p size (sightings packets)) ≤ 4294967295 → outcome replay_verdict (capture_script port p size (sightings packets)) ≡ whole
+
+-- So is each for payloads and buffers of sizes that a script may have.
+abbrev pub CapturesMakeScripts : Type 0
+CapturesMakeScripts =
+    (port p size : ℕ) (packets : List Packet) → 528 ≤ p → p ≤ 8964 → size ≤ 67108864 → AllByRecursion HasBytes packets → IsScript port p size packets
