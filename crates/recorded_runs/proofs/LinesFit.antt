@@ -37,7 +37,7 @@ all_digits (b ∷ bytes) all =
     let second : b % 16 < 16 = omega arith in
     rw (digit_below (b / 16) first, digit_below (b % 16) second) (all_digits bytes all.1)
 
-is_datagram : (b : ℕ) (bytes : List ℕ) → AllByRecursion (λ b. b < 256) (b ∷ bytes) → length (b ∷ bytes) ≤ 1600 → IsDatagram (encode_lower (b ∷ bytes))
+pub is_datagram : (b : ℕ) (bytes : List ℕ) → AllByRecursion (λ b. b < 256) (b ∷ bytes) → length (b ∷ bytes) ≤ 1600 → IsDatagram (encode_lower (b ∷ bytes))
 is_datagram b bytes all few =
     let len : length (encode_lower (b ∷ bytes)) ≡ 2 * length (b ∷ bytes) = length-encode_with lower_digits (b ∷ bytes) in
     let some : 1 ≤ length (encode_lower (b ∷ bytes)) = omega (arith, len) in

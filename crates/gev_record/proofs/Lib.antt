@@ -1,0 +1,9 @@
+pub mod Front
+pub mod Texts
+pub mod Draining
+pub mod Digits
+pub mod InUse
+pub mod Steps
+pub mod Hearing
+pub mod Answering
+pub mod Turning

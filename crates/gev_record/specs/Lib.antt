@@ -1,0 +1,4 @@
+pub mod Places
+pub mod Taped
+pub mod Writing
+pub mod Standing
