@@ -3,7 +3,7 @@ use Rattle.std.proofs.Common.{◌≡◌, ℕ, zero, suc, ◌+◌, ◌<◌, List,
 use Rattle.std.specs.Prelude.{slice_get, slice_set}
 use Rattle.gev_lanes.specs.declared.parts.LaneQueues.{LaneQueues}
 use Rattle.gev_lanes.specs.declared.parts.ReaderLane.{ReaderLane}
-use Rattle.gev_lanes.specs.Sides.{LaneEnd, IsReaderOf, AreReadersOf, IsLaneAt, AreLanesOf, IsNew, AreNew, Met, MetAt}
+use Rattle.gev_lanes.specs.Sides.{LaneEnd, IsReaderOf, AreReadersOf, IsLaneAt, AreLanesOf, HasRoom, HaveRoom, IsNew, AreNew, Met, MetAt}
 
 -- ---- members
 
@@ -106,3 +106,18 @@ new_lanes qs ss es all = lanes_from [] qs ss es all
 pub lanes_last : (qs : List LaneQueues) (es : List LaneEnd) (e : LaneEnd) → AreLanesOf qs (es ++ e ∷ []) → AreLanesOf qs es × IsLaneAt qs e
 lanes_last qs [] e all = (tt, all.0)
 lanes_last qs (y ∷ es) e all = let rest = lanes_last qs es e all.1 in ((all.0, rest.0), rest.1)
+
+-- ---- their room
+
+pub new_room : (number : ℕ) (qs : List LaneQueues) (ss : List ReaderLane) (es : List LaneEnd) → AreNew number qs ss es → HaveRoom qs
+new_room number [] [] [] all = tt
+new_room number [] [] (y ∷ es) all = absurd all
+new_room number [] (x ∷ ss) es all = absurd all
+new_room number (w ∷ qs) [] es all = absurd all
+new_room number (w ∷ qs) (x ∷ ss) [] all = absurd all
+new_room number (w ∷ qs) (x ∷ ss) (y ∷ es) all = (all.0.room, new_room (suc number) qs ss es all.1)
+
+pub room_at : (qs : List LaneQueues) (k : ℕ) (q : LaneQueues) → HaveRoom qs → slice_get qs k ≡ Some q → HasRoom q
+room_at [] k q all at = absurd (cc)
+room_at (w ∷ qs) zero q all at = let same : w ≡ q = cc in subst HasRoom same all.0
+room_at (w ∷ qs) (suc k) q all at = room_at qs k q all.1 at

@@ -1,1 +1,3 @@
 pub mod Sides
+pub mod Messages
+pub mod Acts

@@ -53,6 +53,10 @@ pub record HasRoom (q : LaneQueues) : Type 0 where
   pub cells : q.cells.capacity ≡ CELLS
   pub requests : q.requests.capacity ≡ CELLS
 
+abbrev pub HaveRoom : List LaneQueues → Type 0
+HaveRoom [] = ⊤
+HaveRoom (q ∷ qs) = HasRoom q × HaveRoom qs
+
 -- A new lane: 64 cells were given to the queue of free cells, as the lane's first, and nothing else was given or
 -- taken.
 pub record IsNew (q : LaneQueues) (s : ReaderLane) (e : LaneEnd) (number : ℕ) : Type 0 where

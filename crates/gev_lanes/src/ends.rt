@@ -12,10 +12,13 @@ pub struct Lanes {
 impl Model for Lanes {
     ghost use Rattle.std.specs.Prelude.{List};
     ghost use Rattle.gev_lanes.specs.declared.parts.LaneQueues.{LaneQueues};
+    ghost use Rattle.gev_lanes.specs.Sides.{HaveRoom};
 
     ghost Value = { List LaneQueues };
 
     ghost view = { λ l. l.queues.items };
+
+    ghost invariant = { λ l. HaveRoom l.queues.items };
 }
 
 /// The reader's ends of all queues.

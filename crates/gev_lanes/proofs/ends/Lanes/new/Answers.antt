@@ -1,6 +1,6 @@
 -- One lane more.
 use Rattle.std.proofs.Common.{◌+◌, [], ◌∷◌, ◌++◌, length, ap, ◌∙◌, length-append, arith}
-use Rattle.gev_lanes.proofs.News.{new_more, news_are, new_readers, new_lanes}
+use Rattle.gev_lanes.proofs.News.{new_more, news_are, new_readers, new_lanes, new_room}
 use Rattle.gev_lanes.proofs.ends.Lanes.new.Goals as goal
 
 pub lanes-preserved : goal.lanes-preserved
@@ -23,3 +23,6 @@ returns-clause-readers c = new_readers 0 c.lanes.queues.items c.lanes.sides.item
 
 pub returns-clause-lanes : goal.returns-clause-lanes
 returns-clause-lanes c = new_lanes c.lanes.queues.items c.lanes.sides.items c.lanes.ends.items c.lanes.invariant.new
+
+pub invariant_of-result : goal.invariant_of-result
+invariant_of-result c = new_room 0 c.lanes.queues.items c.lanes.sides.items c.lanes.ends.items c.lanes.invariant.new

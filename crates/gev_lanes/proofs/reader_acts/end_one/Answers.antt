@@ -1,0 +1,10 @@
+-- A free cell with the end was given.
+use Rattle.gev_lanes.specs.Messages.{ended}
+use Rattle.gev_lanes.proofs.Acting.{brought}
+use Rattle.gev_lanes.proofs.reader_acts.end_one.Goals as goal
+
+pub returns : goal.returns
+returns g c = record {
+  ends = brought (record { moment = c.args.moment; says = ended }) c.args.side.now c.wait_for_cell-free.result c.ending-cell.result
+      c.wait_for_cell-free.new.taker c.give_cell.new.giver c.ending-cell.ensures c.wait_for_cell-free.ensures.taken c.give_cell.ensures.given;
+}

@@ -1,0 +1,114 @@
+//! What the reader does at one lane's queues.
+
+ghost use Rattle.std.specs.Prelude.{◌≡◌, ◌≤◌, [], ◌∷◌, length, true, nat_lt, Some, IfSome, IfNone};
+ghost use Rattle.lane_queues.specs.Ends.{gave, took};
+ghost use Rattle.gev_lanes.specs.Sides.{IsReaderOf};
+ghost use Rattle.gev_lanes.specs.Messages.{heard, told};
+ghost use Rattle.gev_lanes.specs.Acts.{Brings, Tries, Hears, Ticks, Ends as BringsEnd, Asked};
+
+use crate::cell::Cell;
+use crate::parts::{LaneQueues, ReaderLane};
+use crate::saying::{ending, ticking, with_datagram};
+use lane_queues::{Giver, Line, Taker};
+use std::sync::Wait;
+
+/// Gives a cell; it's tried again while the queue is full.
+pub(crate) fn give_cell<R: Wait>(rt: &R, line: &Line<Cell>, giver: &mut Giver<Cell>, cell: Cell)
+    requires line { giver.old.line ≡ line.now.table }
+    ensures given { giver.new ≡ gave giver.old (cell ∷ []) }
+{
+    let mut kept = cell;
+    'tries: for _ in rt.forever() {
+        match line.give(rt, giver, kept) {
+            Ok(()) => return,
+            Err(back) => kept = back,
+        }
+    }
+    unreachable!()
+}
+
+/// Takes a cell; it's tried again while there is none.
+pub(crate) fn wait_for_cell<R: Wait>(rt: &R, line: &Line<Cell>, taker: &mut Taker<Cell>) -> Cell
+    requires line { taker.old.line ≡ line.now.table }
+    ensures taken { taker.new ≡ took taker.old (result ∷ []) }
+{
+    'tries: for _ in rt.forever() {
+        match line.take(rt, taker) {
+            Some(cell) => return cell,
+            None => {}
+        }
+    }
+    unreachable!()
+}
+
+/// Brings a datagram to the lane: whether a free cell was there.
+pub(crate) fn bring_one<R: Wait>(
+    rt: &R,
+    queues: &LaneQueues,
+    side: &mut ReaderLane,
+    moment: u64,
+    datagram: &[u8],
+) -> bool
+    requires side { IsReaderOf queues.now side.old }
+    requires size { length datagram.now ≤ 9000 }
+    ensures tries { Tries (record { moment = moment; says = heard datagram.now }) result side.old side.new }
+{
+    match queues.free.take(rt, &mut side.free) {
+        Some(free) => {
+            let cell = with_datagram(free, moment, datagram);
+            give_cell(rt, &queues.cells, &mut side.cells, cell);
+            side.last = moment;
+            true
+        }
+        None => false,
+    }
+}
+
+// Brings the moment alone: whether a free cell was there.
+fn bring_moment<R: Wait>(rt: &R, queues: &LaneQueues, side: &mut ReaderLane, moment: u64) -> bool
+    requires side { IsReaderOf queues.now side.old }
+    ensures tries { Tries (record { moment = moment; says = told }) result side.old side.new }
+{
+    match queues.free.take(rt, &mut side.free) {
+        Some(free) => {
+            let cell = ticking(free, moment);
+            give_cell(rt, &queues.cells, &mut side.cells, cell);
+            side.last = moment;
+            true
+        }
+        None => false,
+    }
+}
+
+/// Brings the moment, where the lane's last cell had a lower one.
+pub(crate) fn tick_one<R: Wait>(rt: &R, queues: &LaneQueues, side: &mut ReaderLane, moment: u64)
+    requires side { IsReaderOf queues.now side.old }
+    ensures ticks { Ticks moment side.old side.new }
+{
+    if side.last < moment {
+        bring_moment(rt, queues, side, moment);
+    }
+}
+
+/// Brings the end, once a free cell is there.
+pub(crate) fn end_one<R: Wait>(rt: &R, queues: &LaneQueues, side: &mut ReaderLane, moment: u64)
+    requires side { IsReaderOf queues.now side.old }
+    ensures ends { BringsEnd moment side.old side.new }
+{
+    let free = wait_for_cell(rt, &queues.free, &mut side.free);
+    let cell = ending(free, moment);
+    give_cell(rt, &queues.cells, &mut side.cells, cell);
+    side.last = moment;
+}
+
+/// Takes the oldest request of the lane, where there is one.
+pub(crate) fn ask_one<R: Wait>(
+    rt: &R,
+    queues: &LaneQueues,
+    side: &mut ReaderLane,
+) -> Option<[u8; 28]>
+    requires side { IsReaderOf queues.now side.old }
+    ensures asked { Asked result side.old side.new }
+{
+    queues.requests.take(rt, &mut side.requests)
+}

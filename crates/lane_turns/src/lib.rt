@@ -1,0 +1,17 @@
+//! What the reader of a live run does on its lanes in each turn: it brings what came to the block's lane and the
+//! moment to each lane, and takes the lanes' requests.
+//!
+//! `specs/Turns.antt` has the turn as a relation between the reader's ends before and after it.
+#![tactic(auto)]
+
+mod asking;
+mod ending;
+mod hearing;
+#[cfg(test)]
+mod tests;
+mod ticking;
+
+pub use asking::ask_lanes;
+pub use ending::end_lanes;
+pub use hearing::{hear_lanes, hear_received};
+pub use ticking::tick_lanes;
