@@ -5,9 +5,11 @@ use std::test::Fail;
 
 mod blocks;
 mod board;
+mod board_states;
 mod cameras;
 mod captures;
 mod faults;
+mod faults_of_commands;
 mod handles;
 mod large_images;
 mod making;
@@ -77,6 +79,7 @@ fn reports(rt: HostRuntime) -> Result<(), Fail> {
         waiting::FEW_BUFFERS,
         board::CALLS,
         board::STEPS,
+        board_states::STATES,
         handles::HANDLES,
         standard_ids::STANDARD_IDS,
         modes::MODES,
