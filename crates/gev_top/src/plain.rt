@@ -3,6 +3,7 @@ ghost use Rattle.std.specs.String.{string_bytes};
 ghost use Rattle.script_runs.specs.Verdicts.{IfTold};
 ghost use Rattle.gev_top.specs.declared.command.Command.{Command};
 ghost use Rattle.gev_top.specs.Answers.{Answers, IsDecided, ReadsSteady};
+ghost use Rattle.gev_top.specs.Completeness.{NoneRose, Completes};
 ghost use Rattle.gev_top.specs.Usage.{command_of, usage_fault, IsInRange};
 
 use crate::capturing::{capture, streams};
@@ -64,6 +65,11 @@ pub fn plain_top<S: Source, K: Sink>(
     // Where the source tells what it holds, its bytes decide, but for faults and want of memory.
     ensures exact { (command : Command) → command_of (map (λ word. string_bytes word) words.now) ≡ Ok command
         → IfTold (S.left source.old) (λ content. IsDecided command result content) }
+
+    // Where neither count of faults rose, each command comes to one of its own ends, or memory was wanting.
+    ensures complete { (command : Command) → command_of (map (λ word. string_bytes word) words.now) ≡ Ok command
+        → NoneRose (S.faults source.old) (S.faults source.new) → NoneRose (K.faults sink.old) (K.faults sink.new)
+        → Completes command (S.left source.old) result }
 
     // A count of faults changes only with the answer that tells of it; of a capture, that of the source may also
     // have changed where writing failed or memory ran out behind a read that failed.

@@ -5,10 +5,12 @@ use std::test::Fail;
 
 mod blocks;
 mod board;
+mod board_states;
 mod cameras;
 mod capture_scripts;
 mod captures;
 mod faults;
+mod faults_of_commands;
 mod handles;
 mod large_images;
 mod making;
@@ -78,6 +80,7 @@ fn reports(rt: HostRuntime) -> Result<(), Fail> {
         waiting::FEW_BUFFERS,
         board::CALLS,
         board::STEPS,
+        board_states::STATES,
         handles::HANDLES,
         standard_ids::STANDARD_IDS,
         modes::MODES,

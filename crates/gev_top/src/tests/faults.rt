@@ -12,7 +12,7 @@ const BEFORE_TAKE: &str = "announce 0.1\nqueue ok\nstart ok\n";
 fn a_read_fails(rt: HostRuntime) -> Result<(), Fail> {
     let alloc = rt.alloc();
     let words = word_list(alloc, &["replay"])?;
-    for piece in [13, 50] {
+    for piece in [7, 13, 50] {
         let reads = SCRIPT.len().div_ceil(piece) as u64;
         for failing in 1..=reads + 1 {
             let failing = [failing];

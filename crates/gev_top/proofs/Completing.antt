@@ -1,0 +1,111 @@
+-- A command whose counts of faults stayed has none of the answers that tell of a fault.
+use Rattle.std.proofs.Common.{◌≡◌, ℕ, List, Option, Ok, sym, subst, ◌∙◌}
+use Rattle.script_runs.specs.Verdicts.{IfTold}
+use Rattle.gev_world.specs.declared.soak_end.SoakEnd.{SoakEnd}
+use Rattle.gev_world.specs.declared.soak_end.SoakEnd.TheVariants as soaks
+use Rattle.gev_world.specs.Runs.{RunsSoak}
+use Rattle.world_machine.specs.State.{Run}
+use Rattle.gev_make.specs.MakeText.{make_text}
+use Rattle.gev_status.specs.declared.status.Status.{Status}
+use Rattle.gev_status.specs.declared.status.Status.TheVariants.{Done, Usage, BadScript, ReadFault, WriteFault, LinkFault, NoMemory, NoAnswer, Refused, TurnsSpent, BadCapture}
+use Rattle.gev_top.specs.declared.command.Command.{Command}
+use Rattle.gev_top.specs.declared.command.Command.TheVariants.{Replay, Streams, Capture, Camera, Make, Soak}
+use Rattle.gev_top.specs.Soaking.{status_after}
+use Rattle.gev_capture.specs.Sightings.{Sighting}
+use Rattle.capture_runs.specs.Ends.{RunEnds}
+use Rattle.capture_streams.specs.Texts.{streams_text, listed_text}
+use Rattle.capture_script.specs.Script.{capture_script, begun_script}
+use Rattle.gev_top.specs.Capturing.{IfCaptured}
+use Rattle.gev_top.specs.Usage.{Said}
+use Rattle.gev_top.specs.Answers.{Replays, Serves, Writes, Answers, IsDecided}
+use Rattle.gev_top.specs.Completeness.{NoneRose, EndsScript, EndsCapture, EndsText, EndsWorld, IsComplete, Completes}
+
+replayed : (status : Status) (left left_after : Option (List ℕ)) (reads reads_after : ℕ) (written written_after : Option (List ℕ)) (writes writes_after : ℕ)
+    → Replays status left left_after reads reads_after written written_after writes writes_after → NoneRose reads reads_after → NoneRose writes writes_after → EndsScript status
+replayed Done left left_after reads reads_after written written_after writes writes_after h none none_written = tt
+replayed (BadScript line kind) left left_after reads reads_after written written_after writes writes_after h none none_written = tt
+replayed NoMemory left left_after reads reads_after written written_after writes writes_after h none none_written = tt
+replayed ReadFault left left_after reads reads_after written written_after writes writes_after h none none_written = none h.holds.ends.0
+replayed WriteFault left left_after reads reads_after written written_after writes writes_after h none none_written = none_written h.holds.ends.0
+replayed (Usage place) left left_after reads reads_after written written_after writes writes_after h none none_written = h
+replayed (NoAnswer req) left left_after reads reads_after written written_after writes writes_after h none none_written = h
+replayed (Refused status) left left_after reads reads_after written written_after writes writes_after h none none_written = h
+replayed LinkFault left left_after reads reads_after written written_after writes writes_after h none none_written = h
+replayed (TurnsSpent turns frames) left left_after reads reads_after written written_after writes writes_after h none none_written = h
+replayed (BadCapture number kind) left left_after reads reads_after written written_after writes writes_after h none none_written = h
+
+served : (status : Status) (left left_after : Option (List ℕ)) (reads reads_after : ℕ) (written written_after : Option (List ℕ)) (writes writes_after : ℕ)
+    → Serves status left left_after reads reads_after written written_after writes writes_after → NoneRose reads reads_after → NoneRose writes writes_after → EndsScript status
+served Done left left_after reads reads_after written written_after writes writes_after h none none_written = tt
+served (BadScript line kind) left left_after reads reads_after written written_after writes writes_after h none none_written = tt
+served NoMemory left left_after reads reads_after written written_after writes writes_after h none none_written = tt
+served ReadFault left left_after reads reads_after written written_after writes writes_after h none none_written = none h.holds.ends.0
+served WriteFault left left_after reads reads_after written written_after writes writes_after h none none_written = none_written h.holds.ends.0
+served (Usage place) left left_after reads reads_after written written_after writes writes_after h none none_written = h
+served (NoAnswer req) left left_after reads reads_after written written_after writes writes_after h none none_written = h
+served (Refused status) left left_after reads reads_after written written_after writes writes_after h none none_written = h
+served LinkFault left left_after reads reads_after written written_after writes writes_after h none none_written = h
+served (TurnsSpent turns frames) left left_after reads reads_after written written_after writes writes_after h none none_written = h
+served (BadCapture number kind) left left_after reads reads_after written written_after writes writes_after h none none_written = h
+
+captured : (whole begun : List Sighting → List ℕ) (status : Status) (left left_after : Option (List ℕ)) (reads reads_after : ℕ) (written written_after : Option (List ℕ)) (writes writes_after : ℕ)
+    → IfCaptured (λ ending. RunEnds whole begun ending left left_after reads reads_after written written_after writes writes_after) status → NoneRose reads reads_after → NoneRose writes writes_after → EndsCapture status
+captured whole begun Done left left_after reads reads_after written written_after writes writes_after h none none_written = tt
+captured whole begun (BadCapture number kind) left left_after reads reads_after written written_after writes writes_after h none none_written = tt
+captured whole begun NoMemory left left_after reads reads_after written written_after writes writes_after h none none_written = tt
+captured whole begun ReadFault left left_after reads reads_after written written_after writes writes_after h none none_written = none h.0
+captured whole begun WriteFault left left_after reads reads_after written written_after writes writes_after h none none_written = none_written h.0
+captured whole begun (Usage place) left left_after reads reads_after written written_after writes writes_after h none none_written = h
+captured whole begun (BadScript line kind) left left_after reads reads_after written written_after writes writes_after h none none_written = h
+captured whole begun (NoAnswer req) left left_after reads reads_after written written_after writes writes_after h none none_written = h
+captured whole begun (Refused status) left left_after reads reads_after written written_after writes writes_after h none none_written = h
+captured whole begun LinkFault left left_after reads reads_after written written_after writes writes_after h none none_written = h
+captured whole begun (TurnsSpent turns frames) left left_after reads reads_after written written_after writes writes_after h none none_written = h
+
+made : (text : List ℕ) (status : Status) (written written_after : Option (List ℕ)) (writes writes_after : ℕ)
+    → Writes text status written written_after writes writes_after → NoneRose writes writes_after → EndsText status
+made text Done written written_after writes writes_after h none = tt
+made text NoMemory written written_after writes writes_after h none = tt
+made text WriteFault written written_after writes writes_after h none = none h.0
+made text ReadFault written written_after writes writes_after h none = h
+made text (Usage place) written written_after writes writes_after h none = h
+made text (BadScript line kind) written written_after writes writes_after h none = h
+made text (NoAnswer req) written written_after writes writes_after h none = h
+made text (Refused status) written written_after writes writes_after h none = h
+made text LinkFault written written_after writes writes_after h none = h
+made text (TurnsSpent turns frames) written written_after writes writes_after h none = h
+made text (BadCapture number kind) written written_after writes writes_after h none = h
+
+soaked : (end : SoakEnd) (run : Run) (written written_after : Option (List ℕ)) (writes writes_after : ℕ)
+    → RunsSoak end run written written_after writes writes_after → NoneRose writes writes_after → EndsWorld (status_after end)
+soaked soaks.Done run written written_after writes writes_after h none = tt
+soaked (soaks.NoAnswer req) run written written_after writes writes_after h none = tt
+soaked (soaks.Refused status) run written written_after writes writes_after h none = tt
+soaked soaks.NoMemory run written written_after writes writes_after h none = tt
+soaked soaks.WriteFault run written written_after writes writes_after h none = none h.wrote.1
+
+pub completes : (command : Command) (status : Status) (left left_after : Option (List ℕ)) (reads reads_after : ℕ) (written written_after : Option (List ℕ)) (writes writes_after : ℕ)
+    → Answers command status left left_after reads reads_after written written_after writes writes_after → NoneRose reads reads_after → NoneRose writes writes_after → IsComplete command status
+completes Replay status left left_after reads reads_after written written_after writes writes_after h none none_written =
+    replayed status left left_after reads reads_after written written_after writes writes_after h none none_written
+completes Streams status left left_after reads reads_after written written_after writes writes_after h none none_written =
+    captured streams_text listed_text status left left_after reads reads_after written written_after writes writes_after h none none_written
+completes (Capture port p bytes) status left left_after reads reads_after written written_after writes writes_after h none none_written =
+    captured (capture_script port p bytes) (begun_script port p bytes) status left left_after reads reads_after written written_after writes writes_after h none none_written
+completes Camera status left left_after reads reads_after written written_after writes writes_after h none none_written =
+    served status left left_after reads reads_after written written_after writes writes_after h none none_written
+completes (Make seed frames rates) status left left_after reads reads_after written written_after writes writes_after h none none_written =
+    made (make_text seed frames rates) status written written_after writes writes_after h.wrote none_written
+completes (Soak seed frames rates short) status left left_after reads reads_after written written_after writes writes_after h none none_written =
+    subst EndsWorld (sym h.wrote.is) (soaked h.wrote.end (record { seed = seed; frames = frames; rates = rates; short = short }) written written_after writes writes_after h.wrote.ran none_written)
+
+is_asked : (made asked : Command) (said : Said Command) → Ok made ≡ said → said ≡ Ok asked → made ≡ asked
+is_asked made asked said a b = let e : Ok made ≡ Ok asked = a ∙ b in cc
+
+-- the same of the command that the words said
+pub completed : (made asked : Command) (said : Said Command) (status : Status) (left left_after : Option (List ℕ)) (reads reads_after : ℕ) (written written_after : Option (List ℕ)) (writes writes_after : ℕ)
+    → Ok made ≡ said → said ≡ Ok asked → Answers made status left left_after reads reads_after written written_after writes writes_after
+    → IfTold left (λ content. IsDecided made status content) → NoneRose reads reads_after → NoneRose writes writes_after → Completes asked left status
+completed made asked said status left left_after reads reads_after written written_after writes writes_after a b h decided none none_written =
+    subst (λ (command : Command). Completes command left status) (is_asked made asked said a b)
+    (record { answer = completes made status left left_after reads reads_after written written_after writes writes_after h none none_written; decided = decided })

@@ -1,0 +1,73 @@
+-- Which answers a command has where nothing outside of it failed.
+use Rattle.std.specs.Prelude.{⊤, ℕ, List, Option}
+use Rattle.gev_links.specs.Faults.{Rose}
+use Rattle.script_runs.specs.Verdicts.{IfTold}
+use Rattle.gev_status.specs.declared.status.Status.{Status}
+use Rattle.gev_status.specs.declared.status.Status.TheVariants.{Done, BadScript, NoMemory, NoAnswer, Refused, TurnsSpent, BadCapture}
+use Rattle.gev_top.specs.declared.command.Command.{Command}
+use Rattle.gev_top.specs.declared.command.Command.TheVariants.{Replay, Streams, Capture, Camera, Make, Soak}
+use Rattle.gev_top.specs.Answers.{IsDecided}
+use Rattle.gev_top.specs.LiveWords.{Errand, plain, live}
+
+-- the count of faults didn't rise
+abbrev pub NoneRose : ℕ → ℕ → Type 0
+NoneRose old new = Rose old new → ⊥
+
+-- ---- the answers, by what is done; want of memory is one of each
+
+-- a script was run to its end, or to a line that is refused
+abbrev pub EndsScript : Status → Type 0
+EndsScript Done = ⊤
+EndsScript (BadScript line kind) = ⊤
+EndsScript NoMemory = ⊤
+EndsScript _ = ⊥
+
+-- a capture was read to its end, or to a record that is refused
+abbrev pub EndsCapture : Status → Type 0
+EndsCapture Done = ⊤
+EndsCapture (BadCapture number kind) = ⊤
+EndsCapture NoMemory = ⊤
+EndsCapture _ = ⊥
+
+-- a text was made
+abbrev pub EndsText : Status → Type 0
+EndsText Done = ⊤
+EndsText NoMemory = ⊤
+EndsText _ = ⊥
+
+-- a world's run came to its end, or to a command that had no answer or was refused
+abbrev pub EndsWorld : Status → Type 0
+EndsWorld Done = ⊤
+EndsWorld (NoAnswer req) = ⊤
+EndsWorld (Refused status) = ⊤
+EndsWorld NoMemory = ⊤
+EndsWorld _ = ⊥
+
+-- a live run handed out its frames or made its turns, or came to a command that had no answer or was refused
+abbrev pub EndsLive : Status → Type 0
+EndsLive Done = ⊤
+EndsLive (NoAnswer req) = ⊤
+EndsLive (Refused status) = ⊤
+EndsLive (TurnsSpent turns frames) = ⊤
+EndsLive NoMemory = ⊤
+EndsLive _ = ⊥
+
+-- ---- the commands, a row each
+
+abbrev pub IsComplete : Command → Status → Type 0
+IsComplete Replay = EndsScript
+IsComplete Streams = EndsCapture
+IsComplete (Capture port p bytes) = EndsCapture
+IsComplete Camera = EndsScript
+IsComplete (Make seed frames rates) = EndsText
+IsComplete (Soak seed frames rates short) = EndsWorld
+
+-- The command has one of its answers, and where the source told beforehand what it has left, that decides which one,
+-- but for want of memory. So a whole script is Done, and a whole capture.
+pub record Completes (command : Command) (left : Option (List ℕ)) (status : Status) : Type 0 where
+  pub answer : IsComplete command status
+  pub decided : IfTold left (λ content. IsDecided command status content)
+
+abbrev pub CompletesErrand : Errand → Option (List ℕ) → Status → Type 0
+CompletesErrand (plain command) left status = Completes command left status
+CompletesErrand (live n) left status = EndsLive status
