@@ -1,0 +1,3 @@
+pub mod Retiring
+pub mod Together
+pub mod Waiting

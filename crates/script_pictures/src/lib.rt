@@ -1,0 +1,11 @@
+//! The pictures of the buffers that a replay script's lines get: which look each has, and what it shows.
+//!
+//! `specs/Looks.antt` gives each entry of the output the look of the block that filled it, and `specs/Laws.antt`
+//! says that its picture is that block's.
+#![tactic(auto)]
+
+mod laws;
+#[cfg(test)]
+mod tests;
+
+pub use laws::waiting_pictures_are_true;
