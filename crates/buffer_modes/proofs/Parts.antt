@@ -1,6 +1,12 @@
 -- How the events of claims and fills are made up of those of their parts.
-use Rattle.std.proofs.Common.{◌≡◌, ℕ, ◌+◌, ◌<◌, Bool, true, false, List, [], ◌∷◌, ◌++◌, Some, None, refl, sym, ap, subst, ◌∙◌, inl, inr, arith, length-append}
+use Rattle.std.proofs.Common.{◌≡◌, ℕ, suc, ◌+◌, ◌<◌, Bool, true, false, List, [], ◌∷◌, ◌++◌, map, take, Some, None, refl, sym, ap, subst, ◌∙◌, inl, inr, arith, length-append, append-nil, append_assoc}
 use Rattle.std.specs.Prelude.{Option, slice_index_or}
+use Rattle.board_machine.specs.Machine.{Item, item}
+use Rattle.board_machine.specs.Places.{tail}
+use Rattle.board_model.specs.Plain.{PlainState, content_at}
+use Rattle.board_model.specs.Holdings.{WasFirst}
+use Rattle.buffer_modes.specs.declared.gone.Gone.{Gone}
+use Rattle.buffer_modes.specs.Gone.{gone_of, WasGone}
 use Rattle.gev_types.specs.Filling.{Filling}
 use Rattle.gev_types.specs.Limits.{place_count}
 use Rattle.gentl_types.specs.declared.word.Word.{Word}
@@ -166,3 +172,44 @@ fill_words b k i f false = refl
 
 pub words_stay : (b mid new : Board) (k i : ℕ) (f : Filling) (filled : Bool) → KeepsHeld b k mid → AddsEntry mid k (Fill i f filled) new → new.words ≡ b.words
 words_stay b mid new k i f filled held step = ap (λ (c : Board). c.words) step.after ∙ fill_words mid k i f filled ∙ held.words
+
+-- ---- what is gone
+
+some_same : (f g : Filling) → Some f ≡ Some g → f ≡ g
+some_same f g e = cc
+
+same_filling : (x : Option Filling) (f g : Filling) → x ≡ Some f → x ≡ Some g → f ≡ g
+same_filling x f g e d = some_same f g (sym e ∙ d)
+
+-- what was taken and pooled is gone from the output
+pub was_gone : (s mid : PlainState) (new : Board) (k i : ℕ) (buf : Filling) (gone : Gone) → WasFirst s i mid → AddsEntry s.board k (Take (Taken i)) mid.board → AddsEntry mid.board k (Pool i) new
+    → content_at mid i ≡ Some buf → gone ≡ record { place = i; block = buf.rec.block } → WasGone s.board.out gone new.out
+was_gone s mid new k i buf gone first took pool lies is =
+    let out : new.out ≡ tail s.board.out = ap (λ (b : Board). b.out) pool.after ∙ ap (λ (b : Board). b.out) took.after in
+    record {
+      entry = item i first.filling;
+      first = first.first ∙ ap (λ xs. item i first.filling ∷ xs) (sym out);
+      is = is ∙ ap (λ (f : Filling). record { place = i; block = f.rec.block }) (same_filling (content_at mid i) buf first.filling lies first.lies);
+    }
+
+-- what is gone so far, and what goes next: so many of the first
+pub gone_more : (before mid after : List Item) (now : List Gone) (one : Gone) (n : ℕ) → ((m : ℕ) → now ++ map gone_of (take m mid) ≡ map gone_of (take (n + m) before)) → WasGone mid one after
+    → (m : ℕ) → (now ++ one ∷ []) ++ map gone_of (take m after) ≡ map gone_of (take ((n + 1) + m) before)
+gone_more before mid after now one n so_far was m =
+    append_assoc now (one ∷ []) (map gone_of (take m after))
+    ∙ (ap (λ x. now ++ x ∷ map gone_of (take m after)) was.is
+    ∙ (ap (λ xs. now ++ map gone_of (take (suc m) xs)) (sym was.first)
+    ∙ (so_far (suc m) ∙ ap (λ k. map gone_of (take k before)) (plus n m))))
+  where
+    plus : (n m : ℕ) → n + suc m ≡ (n + 1) + m
+    plus n m = omega arith
+
+-- where no more goes
+pub gone_all : (before mid : List Item) (now : List Gone) (n : ℕ) → ((m : ℕ) → now ++ map gone_of (take m mid) ≡ map gone_of (take (n + m) before)) → now ≡ map gone_of (take n before)
+gone_all before mid now n so_far = sym (append-nil now) ∙ (ap (λ xs. now ++ map gone_of xs) (take_zero mid) ∙ (so_far 0 ∙ ap (λ k. map gone_of (take k before)) (plus n)))
+  where
+    plus : (n : ℕ) → n + 0 ≡ n
+    plus n = omega arith
+
+    take_zero : (xs : List Item) → [] ≡ take 0 xs
+    take_zero xs = refl

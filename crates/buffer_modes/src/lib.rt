@@ -5,9 +5,11 @@
 //! never handed out. No call takes memory.
 #![tactic(auto)]
 
+mod gone;
 mod plain;
 #[cfg(test)]
 mod tests;
 
+pub use gone::Gone;
 pub use mode_calls::Mode;
 pub use plain::{plain_claim_for, plain_fill_for};

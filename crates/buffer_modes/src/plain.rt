@@ -1,12 +1,15 @@
-ghost use Rattle.std.specs.Prelude.{◌≡◌, IfSome, length};
+ghost use Rattle.std.specs.Prelude.{◌≡◌, [], true, IfSome, is_some, length, map, take};
 ghost use Rattle.board_machine.specs.Machine.{word_at, IsActor, InHand};
 ghost use Rattle.board_machine.specs.Adding.{AddsOf};
 ghost use Rattle.board_calls.specs.Ends.{IfClosed, is_filled};
 ghost use Rattle.board_model.specs.Plain.{HasBuf, IsLifted};
-ghost use Rattle.board_model.specs.Holdings.{contents_after_fill};
+ghost use Rattle.board_model.specs.Holdings.{WasFirst, contents_after_fill};
 ghost use Rattle.mode_calls.specs.Modes.{ClaimsFor, FillsDropping};
 ghost use Rattle.buffer_modes.specs.Steps.{TakesOne, DropsOne, DropsSome, Drops, KeepsHeld};
+ghost use Rattle.buffer_modes.specs.Gone.{gone_of, WasGone};
 
+use crate::gone::Gone;
+use arrayvec::ArrayVec;
 use board_model::{FillEnd, PlainBoard, TakeEnd};
 use gev_types::{Buf, PLACES};
 use mode_calls::Mode;
@@ -17,6 +20,7 @@ fn take_waiting(board: &mut PlainBoard, actor: u8) -> Option<(u8, bool)>
     ensures entries { AddsOf board.old.board actor (TakesOne result) board.new.board }
     ensures in_hand { IfSome result (λ got. InHand board.new.board actor got.0) }
     ensures set_down { IfSome result (λ got. HasBuf board.new got.0) }
+    ensures first { IfSome result (λ got. WasFirst board.old got.0 board.new) }
     ensures contents { board.new.contents ≡ board.old.contents }
 {
     match board.take(actor) {
@@ -35,6 +39,7 @@ pub fn plain_claim_for(board: &mut PlainBoard, actor: u8, mode: Mode) -> Option<
     ensures entries { AddsOf board.old.board actor (ClaimsFor mode result) board.new.board }
     ensures in_hand { IfSome result (λ got. InHand board.new.board actor got.0) }
     ensures set_down { IfSome result (λ got. HasBuf board.new got.0) }
+    ensures first { IfSome result (λ got. got.1 ≡ true → WasFirst board.old got.0 board.new) }
     ensures contents { board.new.contents ≡ board.old.contents }
 {
     match board.claim(actor) {
@@ -47,73 +52,88 @@ pub fn plain_claim_for(board: &mut PlainBoard, actor: u8, mode: Mode) -> Option<
     }
 }
 
-/// Drops the buffer that waits longest, if one waits, and tells whether one did.
-fn drop_waiting(board: &mut PlainBoard, actor: u8) -> bool
+/// Drops the buffer that waits longest, if one waits, and tells which did.
+fn drop_waiting(board: &mut PlainBoard, actor: u8) -> Option<Gone>
     requires actor { IsActor board.old.board actor }
-    ensures entries { AddsOf board.old.board actor (DropsOne result) board.new.board }
+    ensures entries { AddsOf board.old.board actor (DropsOne (is_some result)) board.new.board }
+    ensures gone { IfSome result (λ gone. WasGone board.old.board.out gone board.new.board.out) }
     ensures held { KeepsHeld board.old.board actor board.new.board }
     ensures contents { board.new.contents ≡ board.old.contents }
 {
     match board.take(actor) {
         TakeEnd::Taken(place) => {
+            let block = board.buf(place).rec().block;
             board.pool(actor, place);
-            true
+            Some(Gone { place, block })
         }
-        TakeEnd::Empty => false,
-        TakeEnd::Closed => false,
+        TakeEnd::Empty => None,
+        TakeEnd::Closed => None,
     }
 }
 
-/// Drops each buffer that waits, oldest first, and tells how many.
-fn drop_all_waiting(board: &mut PlainBoard, actor: u8) -> u8
+/// Drops each buffer that waits, oldest first, and tells how many and which.
+fn drop_all_waiting(board: &mut PlainBoard, actor: u8, gone: &mut ArrayVec<Gone, 15>) -> u8
     requires actor { IsActor board.old.board actor }
+    requires none { gone.old.items ≡ [] }
     ensures entries { AddsOf board.old.board actor (Drops Mode.NewestOnly result) board.new.board }
+    ensures gone { gone.new.items ≡ map gone_of (take result board.old.board.out) }
     ensures held { KeepsHeld board.old.board actor board.new.board }
     ensures contents { board.new.contents ≡ board.old.contents }
 {
     for dropped in 0..PLACES {
-        if !drop_waiting(board, actor) {
-            return dropped;
+        match drop_waiting(board, actor) {
+            Some(one) => gone.push(one),
+            None => return dropped,
         }
     }
     PLACES
 }
 
-/// Drops what the mode drops before a fill, and tells how many.
-fn drop_before_fill(board: &mut PlainBoard, actor: u8, mode: Mode) -> u8
+/// Drops what the mode drops before a fill, and tells how many and which.
+fn drop_before_fill(
+    board: &mut PlainBoard,
+    actor: u8,
+    mode: Mode,
+    gone: &mut ArrayVec<Gone, 15>,
+) -> u8
     requires actor { IsActor board.old.board actor }
+    requires none { gone.old.items ≡ [] }
     ensures entries { AddsOf board.old.board actor (Drops mode result) board.new.board }
+    ensures gone { gone.new.items ≡ map gone_of (take result board.old.board.out) }
     ensures held { KeepsHeld board.old.board actor board.new.board }
     ensures contents { board.new.contents ≡ board.old.contents }
 {
     match mode {
         Mode::OldestFirst => 0,
         Mode::OldestFirstOverwrite => 0,
-        Mode::NewestOnly => drop_all_waiting(board, actor),
+        Mode::NewestOnly => drop_all_waiting(board, actor, gone),
     }
 }
 
 /// Puts a block's buffer, which was lifted from a place in hand, at the end of the output. With
 /// NewestOnly each buffer that waits is dropped before, oldest first, and put into the input pool.
 /// Where the close mark stands the buffer comes back, and its place stays in hand, lifted. The number is
-/// that of the dropped buffers.
+/// that of the dropped buffers, and `gone` gets them.
 pub fn plain_fill_for(
     board: &mut PlainBoard,
     actor: u8,
     mode: Mode,
     place: u8,
     buf: Buf,
+    gone: &mut ArrayVec<Gone, 15>,
 ) -> (FillEnd, u8)
     requires actor { IsActor board.old.board actor }
     requires in_hand { InHand board.old.board actor place }
     requires lifted { IsLifted board.old place }
     requires size { length buf.bytes ≡ (word_at board.old.board place).size }
+    requires none { gone.old.items ≡ [] }
     ensures entries { AddsOf board.old.board actor (FillsDropping mode result.1 place buf (is_filled result.0)) board.new.board }
     ensures contents { board.new.contents ≡ contents_after_fill board.old.contents place buf (is_filled result.0) }
     ensures back { IfClosed result.0 (λ back. back ≡ buf) }
     ensures in_hand { IfClosed result.0 (λ back. InHand board.new.board actor place) }
     ensures words { board.new.board.words ≡ board.old.board.words }
+    ensures gone { gone.new.items ≡ map gone_of (take result.1 board.old.board.out) }
 {
-    let dropped = drop_before_fill(board, actor, mode);
+    let dropped = drop_before_fill(board, actor, mode, gone);
     (board.fill(actor, place, buf), dropped)
 }

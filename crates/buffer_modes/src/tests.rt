@@ -1,4 +1,5 @@
 use crate::{Mode, plain_claim_for, plain_fill_for};
+use arrayvec::ArrayVec;
 use board_model::{FillEnd, PlainBoard, TakeEnd};
 use gentl_types::BufferId;
 use gev_types::{Buf, PLACES};
@@ -58,7 +59,10 @@ fn fill_for(
     assert!(rt; !board.has_buf(place));
     assert!(rt; place < PLACES);
     assert!(rt; buf.bytes().len() == board.word(place).size as usize);
-    plain_fill_for(board, actor, mode, place, buf)
+    let mut gone = ArrayVec::new();
+    let (end, count) = plain_fill_for(board, actor, mode, place, buf, &mut gone);
+    assert_eq!(rt; gone.len(), usize::from(count));
+    (end, count)
 }
 
 /// Claims and fills a place for each block in its mode, and compares the place, whether it was dropped

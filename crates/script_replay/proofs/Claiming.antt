@@ -1,18 +1,21 @@
 -- A datagram that wants a buffer: a place is claimed, the outcome is told, and the datagram is told again.
-use Rattle.std.proofs.Common.{◌≡◌, ◌≢◌, ◌⊎◌, ℕ, ◌<◌, Bool, List, [], ◌∷◌, ◌++◌, length, set, get_or, Option, Some, None, refl, sym, ap, subst, ◌∙◌, inl, inr, arith, append_assoc}
+use Rattle.std.proofs.Common.{◌≡◌, ◌≢◌, ◌⊎◌, ℕ, ◌<◌, Bool, true, false, if◌then◌else◌, is_some, List, [], ◌∷◌, ◌++◌, length, set, get_or, Option, Some, None, refl, sym, ap, subst, ◌∙◌, inl, inr, arith, append_assoc}
+use Rattle.std.specs.Prelude.{⊤}
 use Rattle.std.proofs.lemmas.List.{length-set}
 use Rattle.std.proofs.lemmas.Bool.{cases_eq}
 use Rattle.gev_types.specs.Filling.{Filling}
 use Rattle.board_machine.specs.declared.events.Entry.{Entry}
 use Rattle.board_machine.specs.declared.events.Event.{Event}
 use Rattle.gentl_types.specs.declared.word.Word.{Word}
-use Rattle.board_machine.specs.Machine.{Board, IsActor, InHand, word_at, vacant}
+use Rattle.board_machine.specs.Machine.{Board, Item, item, IsActor, InHand, word_at, vacant}
+use Rattle.board_machine.specs.Places.{tail}
 use Rattle.board_machine.specs.Adding.{entries_of, Adds, AddsOf}
 use Rattle.board_machine.specs.Histories.{RunsFrom}
 use Rattle.board_machine.specs.Owners.{IsCounted}
 use Rattle.board_machine.proofs.Adding.{adds_both, entries_of-append}
 use Rattle.board_machine.proofs.Runs.{stands_lists, run_owned}
 use Rattle.board_model.specs.Plain.{PlainState, lying, nothing, HasBuf}
+use Rattle.board_model.specs.Holdings.{WasFirst}
 use Rattle.board_model.proofs.CallsFill.{lying_within, lying_cleared}
 use Rattle.acquisition_machine.specs.declared.config.AcqConfig.{AcqConfig}
 use Rattle.acquisition_machine.specs.declared.need.Need.{Need}
@@ -37,14 +40,16 @@ use Rattle.script_trace.specs.Contents.{contents_of}
 use Rattle.script_trace.specs.StreamLines.{HeardAgain, Hears, outcome, told_twice, retired_by, tells}
 use Rattle.script_replay.specs.declared.fill_counts.FillCounts.{FillCounts}
 use Rattle.script_replay.specs.Boards.{LiesAsTold, IsLeftBy, IsReady}
-use Rattle.script_replay.specs.Acquiring.{IsAway, AreApart, AreAway, IsAtRest, FillsAll, Settled, Drives, Claims}
+use Rattle.script_replay.specs.Acquiring.{IsAway, AreApart, AreAway, IsAtRest, FillsAll, Settled, IsBehindTrace, DrivesAt, Drives, Claims}
+use Rattle.script_replay.specs.declared.got.Got.{Got}
+use Rattle.script_replay.specs.Telling.{claim_of, GaveWay, TellsClaim}
 use Rattle.script_replay.specs.Counting.{counted_claim, counted_in}
 use Rattle.script_replay.proofs.Counted.{counted-more, own_hands}
 use Rattle.script_replay.proofs.Dropping.{Keeps, contents_quiet, claims_keep, claims_apart, none_counted, some_counted}
 use Rattle.script_replay.proofs.Lines.{contents-append}
 use Rattle.script_replay.proofs.Places.{set_apart}
 use Rattle.script_replay.proofs.Retiring.{own_fills}
-use Rattle.script_replay.proofs.Driving.{settles_at, none_called, turned}
+use Rattle.script_replay.proofs.Driving.{settles_with, none_called, turned}
 
 -- ---- buffers beside a claimed one
 
@@ -125,20 +130,46 @@ beside_lies s new told i j beside away as_told = go (cases_eq i j) as_told
 well_owned : (s : PlainState) → IsReady s → IsCounted s.board
 well_owned s ready = subst IsCounted (sym ready.left.board.state) (run_owned ready.history ready.left.board.run)
 
+-- ---- what is told of a claim
+
+some_same : (f g : Filling) → Some f ≡ Some g → f ≡ g
+some_same f g e = cc
+
+gave_way : (s mid : PlainState) (place : ℕ) (was_dropped : Bool) (buf : Filling) (dropped : Option ℕ) → (was_dropped ≡ true → WasFirst s place mid) → lying mid.contents place ≡ Some buf
+    → dropped ≡ (if was_dropped then Some buf.rec.block else None) → GaveWay s.board.out place dropped
+gave_way s mid place was_dropped buf dropped first lies is = subst (λ (k : Option ℕ). GaveWay s.board.out place k) (sym is) (go was_dropped first)
+  where
+    go : (b : Bool) → (b ≡ true → WasFirst s place mid) → GaveWay s.board.out place (if b then Some buf.rec.block else None)
+    go false f = tt
+    go true f =
+        let was : WasFirst s place mid = f refl in
+        (item place was.filling, tail s.board.out, was.first, refl, ap (λ (x : Filling). x.rec.block) (some_same was.filling buf (sym was.lies ∙ lies)))
+
+same_claim : (place block : ℕ) (was_dropped : Bool) (dropped : Option ℕ) → dropped ≡ (if was_dropped then Some block else None) → (Some (place, was_dropped)) ≡ claim_of (Some (record { place = place; dropped = dropped }))
+same_claim place block was_dropped dropped is = ap (λ b. Some (place, b)) (go was_dropped) ∙ ap (λ d. Some (place, is_some d)) (sym is)
+  where
+    go : (b : Bool) → b ≡ is_some (if b then Some block else None)
+    go true = refl
+    go false = refl
+
 -- there was no place
-pub claims_none : (mode : Mode) (s new : PlainState) (m n : Machine) (a : FillCounts) → AddsOf s.board acquirer (ClaimsFor mode None) new.board → new.contents ≡ s.contents → Takes m n (claimed None) → Claims mode s m a new n a
+pub claims_none : (mode : Mode) (s new : PlainState) (m n : Machine) (a : FillCounts) → AddsOf s.board acquirer (ClaimsFor mode None) new.board → new.contents ≡ s.contents → Takes m n (claimed None) → TellsClaim None mode s m a new n a
 claims_none mode s new m n a called same takes =
     let keeps : Keeps s.board new.board = claims_keep mode None called.events s.board new.board called.kind called.adds in
     record {
-      claim = None;
-      events = called.events;
-      got = called.kind;
-      adds = called.adds;
-      actors = called.actors;
-      words = keeps.words;
-      takes = takes;
-      left = λ h left. claim_left mode None s new h called.events called.kind called.adds (λ i. none_lies s new (contents_of h) i keeps same (left.lies i)) left;
-      counted = none_counted mode a called.events called.kind;
+      is = refl;
+      gave_way = tt;
+      claims = record {
+        claim = None;
+        events = called.events;
+        got = called.kind;
+        adds = called.adds;
+        actors = called.actors;
+        words = keeps.words;
+        takes = takes;
+        left = λ h left. claim_left mode None s new h called.events called.kind called.adds (λ i. none_lies s new (contents_of h) i keeps same (left.lies i)) left;
+        counted = none_counted mode a called.events called.kind;
+      };
     }
 
 none_one : (s new : PlainState) (g : Given) → Keeps s.board new.board → new.contents ≡ s.contents → IsAway s g → IsAway new g
@@ -157,20 +188,26 @@ pub none_away : (mode : Mode) (s new : PlainState) (gs : List Given) → AddsOf 
 none_away mode s new gs called same away = none_all s new gs (claims_keep mode None called.events s.board new.board called.kind called.adds) same away
 
 -- a place was claimed, and its buffer lifted
-pub claims_some : (mode : Mode) (s mid new : PlainState) (m n : Machine) (a b : FillCounts) (place : ℕ) (was_dropped : Bool) (buf : Filling) → AddsOf s.board acquirer (ClaimsFor mode (Some (place, was_dropped))) mid.board → mid.contents ≡ s.contents
+pub claims_some : (mode : Mode) (s mid new : PlainState) (m n : Machine) (a b : FillCounts) (place : ℕ) (was_dropped : Bool) (buf : Filling) (dropped : Option ℕ) → AddsOf s.board acquirer (ClaimsFor mode (Some (place, was_dropped))) mid.board → mid.contents ≡ s.contents
     → InHand mid.board acquirer place → HasBuf mid place → length buf.bytes ≡ (word_at mid.board place).size → new.board ≡ mid.board → new.contents ≡ set mid.contents place nothing
-    → Takes m n (claimed (given_as (Some (place, buf)))) → b ≡ counted_claim a was_dropped → Claims mode s m a new n b
-claims_some mode s mid new m n a b place was_dropped buf called same has lies size board_same gone takes counted = record {
-  claim = Some (place, was_dropped);
-  events = called.events;
-  got = called.kind;
-  adds = adds;
-  actors = λ k is. subst (λ (c : Board). IsActor c k) (sym board_same) (called.actors k is);
-  words = ap (λ (c : Board). c.words) board_same ∙ keeps.words;
-  takes = subst (λ (k : ℕ). Takes m n (claimed (Some (record { place = place; size = k })))) (size ∙ ap (λ (ws : List Word). (get_or ws place vacant).size) keeps.words) takes;
-  left = λ h left. claim_left mode (Some (place, was_dropped)) s new h called.events called.kind adds
-      (λ i. beside_lies s new (contents_of h) i place (claimed_beside s mid new place keeps same board_same gone) away (left.lies i)) left;
-  counted = some_counted mode a b place was_dropped called.events called.kind counted;
+    → Takes m n (claimed (given_as (Some (place, buf)))) → b ≡ counted_claim a was_dropped
+    → (was_dropped ≡ true → WasFirst s place mid) → lying mid.contents place ≡ Some buf → dropped ≡ (if was_dropped then Some buf.rec.block else None)
+    → TellsClaim (Some (record { place = place; dropped = dropped })) mode s m a new n b
+claims_some mode s mid new m n a b place was_dropped buf dropped called same has lies size board_same gone takes counted first content told = record {
+  is = same_claim place buf.rec.block was_dropped dropped told;
+  gave_way = gave_way s mid place was_dropped buf dropped first content told;
+  claims = record {
+    claim = Some (place, was_dropped);
+    events = called.events;
+    got = called.kind;
+    adds = adds;
+    actors = λ k is. subst (λ (c : Board). IsActor c k) (sym board_same) (called.actors k is);
+    words = ap (λ (c : Board). c.words) board_same ∙ keeps.words;
+    takes = subst (λ (k : ℕ). Takes m n (claimed (Some (record { place = place; size = k })))) (size ∙ ap (λ (ws : List Word). (get_or ws place vacant).size) keeps.words) takes;
+    left = λ h left. claim_left mode (Some (place, was_dropped)) s new h called.events called.kind adds
+        (λ i. beside_lies s new (contents_of h) i place (claimed_beside s mid new place keeps same board_same gone) away (left.lies i)) left;
+    counted = some_counted mode a b place was_dropped called.events called.kind counted;
+  };
 }
   where
     keeps : Keeps s.board mid.board
@@ -215,26 +252,69 @@ settled_by mode s new m mid n a b i takes keeps none all = record { retired = wa
 abbrev pub HearsIn : AcqConfig → Mode → List ℕ → Trace → Part → Type 0
 HearsIn c mode bytes t part = t.mode ≡ mode → Hears c t bytes (asked_by (turn c t.inputs (datagram bytes)).need) part
 
+-- the same, and something of the part
+abbrev pub HearsAnd : AcqConfig → Mode → List ℕ → (Trace → Part → Type 0) → Trace → Part → Type 0
+HearsAnd c mode bytes Also t part = HearsIn c mode bytes t part × Also t part
+
 -- A datagram that wants no buffer.
+pub hears_with : (mode : Mode) (s new : PlainState) (m n : Machine) (a b : FillCounts) (bytes : List ℕ) (need : Need) (settled : Settled mode (datagram bytes) s m a new n b) → ((q : List Input) → Stands m q → (turn (config_of m) q (datagram bytes)).need ≡ Some need) → asked_by (Some need) ≡ None
+    → (Also : Trace → Part → Type 0) (t : Trace) → IsBehindTrace t s m → Also t (tells t [] (datagram bytes) settled.all.events []) → DrivesAt (HearsAnd (config_of m) mode bytes Also) 0 a [] new n b t
+hears_with mode s new m n a b bytes need settled answer none Also t behind also =
+    settles_with mode s s new m n a b [] (datagram bytes) settled.retired [] [] (HearsAnd (config_of m) mode bytes Also) t settled.all
+    (λ filled. (
+      λ same. subst (λ (wanted : Option ℕ). Hears (config_of m) t bytes wanted (tells t [] (datagram bytes) settled.all.events [])) (sym (ap asked_by (answer t.inputs behind.inputs) ∙ none))
+          (record { events = settled.all.events; filled = subst (λ (k : Mode). FillsInMode k (retired_by (config_of m) t.inputs (datagram bytes)) settled.all.events) (sym same) filled; is = refl }),
+      also,
+    ))
+    (none_called s) settled.turned refl behind
+
+-- the first of two facts of a part
+pub drives_first : (Line Also : Trace → Part → Type 0) (idle : ℕ) (a : FillCounts) (said : List ℕ) (new : PlainState) (n : Machine) (b : FillCounts) (t : Trace) → DrivesAt (λ u part. Line u part × Also u part) idle a said new n b t → DrivesAt Line idle a said new n b t
+drives_first Line Also idle a said new n b t did = record {
+  part = did.part;
+  spells = did.spells.0;
+  runs = did.runs;
+  fills = did.fills;
+  handles = did.handles;
+  idles = did.idles;
+  text = did.text;
+  mode = did.mode;
+  told_mode = did.told_mode;
+  none_taken = did.none_taken;
+  behind = did.behind;
+  counted = did.counted;
+}
+
 pub hears_at : (mode : Mode) (s new : PlainState) (m n : Machine) (a b : FillCounts) (bytes : List ℕ) (need : Need) → Settled mode (datagram bytes) s m a new n b → ((q : List Input) → Stands m q → (turn (config_of m) q (datagram bytes)).need ≡ Some need) → asked_by (Some need) ≡ None
     → Drives (HearsIn (config_of m) mode bytes) 0 s m a [] new n b
 hears_at mode s new m n a b bytes need settled answer none t behind =
-    settles_at mode s s new m n a b [] (datagram bytes) settled.retired [] [] (HearsIn (config_of m) mode bytes) t
-    (λ es filled same. subst (λ (wanted : Option ℕ). Hears (config_of m) t bytes wanted (tells t [] (datagram bytes) es [])) (sym (ap asked_by (answer t.inputs behind.inputs) ∙ none))
-    (record { events = es; filled = subst (λ (k : Mode). FillsInMode k (retired_by (config_of m) t.inputs (datagram bytes)) es) (sym same) filled; is = refl }))
-    (none_called s) settled.all settled.turned refl behind
+    drives_first (HearsIn (config_of m) mode bytes) (λ u part. ⊤) 0 a [] new n b t
+    (hears_with mode s new m n a b bytes need settled answer none (λ u part. ⊤) t behind tt)
 
 -- what the receiver was told of a datagram that wants a buffer
 twice : (q : List Input) (i j k : Input) → ((q ++ i ∷ []) ++ j ∷ []) ++ k ∷ [] ≡ q ++ i ∷ j ∷ k ∷ []
 twice q i j k = append_assoc (q ++ i ∷ []) (j ∷ []) (k ∷ []) ∙ append_assoc q (i ∷ []) (j ∷ k ∷ [])
 
+-- what a datagram that wants a buffer adds
+abbrev pub heard_part : Trace → List ℕ → List Event → Option ℕ → Part
+heard_part t bytes events got = record {
+  entries = entries_of acquirer events;
+  inputs = told_twice t bytes got;
+  handles = t.handles;
+  idle = 0;
+  text = [];
+  mode = t.mode;
+  told_mode = t.told_mode;
+}
+
 -- A datagram that wants a buffer.
-pub hears_twice : (mode : Mode) (s given_up given new : PlainState) (m first held n : Machine) (a b k c : FillCounts) (bytes : List ℕ) (block : ℕ) → Settled mode (datagram bytes) s m a given_up first b → Claims mode given_up first b given held k
-    → Settled mode (datagram bytes) given held k new n c → ((q : List Input) → Stands m q → (turn (config_of m) q (datagram bytes)).need ≡ Some (Buffer block))
-    → Drives (HearsIn (config_of m) mode bytes) 0 s m a [] new n c
-hears_twice mode s given_up given new m first held n a b k c bytes block settled claims again answer t behind = record {
+pub hears_twice_with : (mode : Mode) (s given_up given new : PlainState) (m first held n : Machine) (a b k c : FillCounts) (bytes : List ℕ) (block : ℕ) (settled : Settled mode (datagram bytes) s m a given_up first b) (claims : Claims mode given_up first b given held k)
+    (again : Settled mode (datagram bytes) given held k new n c) → ((q : List Input) → Stands m q → (turn (config_of m) q (datagram bytes)).need ≡ Some (Buffer block))
+    → (Also : Trace → Part → Type 0) (t : Trace) → IsBehindTrace t s m → Also t (heard_part t bytes (settled.all.events ++ (claims.events ++ again.all.events)) (place_of claims.claim))
+    → DrivesAt (HearsAnd (config_of m) mode bytes Also) 0 a [] new n c t
+hears_twice_with mode s given_up given new m first held n a b k c bytes block settled claims again answer Also t behind also = record {
   part = part;
-  spells = λ same. subst (λ (wanted : Option ℕ). Hears (config_of m) t bytes wanted part) (sym (ap asked_by (answer t.inputs behind.inputs))) (heard same);
+  spells = (λ same. subst (λ (wanted : Option ℕ). Hears (config_of m) t bytes wanted part) (sym (ap asked_by (answer t.inputs behind.inputs))) (heard same), also);
   runs = runs_three;
   fills = own_fills (contents_of t.entries) (one ++ (get ++ two));
   handles = refl;
@@ -263,15 +343,7 @@ hears_twice mode s given_up given new m first held n a b k c bytes block settled
     got = place_of claims.claim
 
     part : Part
-    part = record {
-      entries = entries_of acquirer (one ++ (get ++ two));
-      inputs = told_twice t bytes got;
-      handles = t.handles;
-      idle = 0;
-      text = [];
-      mode = t.mode;
-      told_mode = t.told_mode;
-    }
+    part = heard_part t bytes (one ++ (get ++ two)) got
 
     same_words : (claim : Option ℕ) → outcome given_up.board claim ≡ outcome (board t) claim
     same_words None = refl
@@ -332,6 +404,13 @@ hears_twice mode s given_up given new m first held n a b k c bytes block settled
       filled = in_mode t.mode again.retired _ two same second_retired again.all.filled;
       is = refl;
     }
+
+pub hears_twice : (mode : Mode) (s given_up given new : PlainState) (m first held n : Machine) (a b k c : FillCounts) (bytes : List ℕ) (block : ℕ) → Settled mode (datagram bytes) s m a given_up first b → Claims mode given_up first b given held k
+    → Settled mode (datagram bytes) given held k new n c → ((q : List Input) → Stands m q → (turn (config_of m) q (datagram bytes)).need ≡ Some (Buffer block))
+    → Drives (HearsIn (config_of m) mode bytes) 0 s m a [] new n c
+hears_twice mode s given_up given new m first held n a b k c bytes block settled claims again answer t behind =
+    drives_first (HearsIn (config_of m) mode bytes) (λ u part. ⊤) 0 a [] new n c t
+    (hears_twice_with mode s given_up given new m first held n a b k c bytes block settled claims again answer (λ u part. ⊤) t behind tt)
 
 -- after the outcome was told, the datagram asks for no buffer
 pub asks_no_more : {mode : Mode} {a b k : FillCounts} (s given_up given : PlainState) (m first held : Machine) (bytes : List ℕ) (block : ℕ) (q : List Input) (again : Need) → IsConfig (config_of m) → Stands m q → Settled mode (datagram bytes) s m a given_up first b → Claims mode given_up first b given held k

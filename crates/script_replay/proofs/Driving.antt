@@ -57,13 +57,13 @@ turned m mid n i takes keeps none = record {
   config = keeps.config ∙ takes.config;
 }
 
--- The line settles.
-pub settles_at : (mode : Mode) (s mid new : PlainState) (m n : Machine) (a b : FillCounts) (calls : List Event) (i : Input) (xs : List Retired) (text said : List ℕ) (Line : Trace → Part → Type 0) (t : Trace)
-    → ((es : List Event) → FillsInMode mode (retired_by (config_of m) t.inputs i) es → Line t (tells t calls i es text))
-    → Called s calls mid → FillsAll mode xs mid a new b → Turned m n i xs → said ≡ text → IsBehindTrace t s m → DrivesAt Line 0 a said new n b t
-settles_at mode s mid new m n a b calls i xs text said Line t spells called all goes is behind = record {
+-- The line settles, and these are its fills.
+pub settles_with : (mode : Mode) (s mid new : PlainState) (m n : Machine) (a b : FillCounts) (calls : List Event) (i : Input) (xs : List Retired) (text said : List ℕ) (Line : Trace → Part → Type 0) (t : Trace) (all : FillsAll mode xs mid a new b)
+    → (FillsInMode mode (retired_by (config_of m) t.inputs i) all.events → Line t (tells t calls i all.events text))
+    → Called s calls mid → Turned m n i xs → said ≡ text → IsBehindTrace t s m → DrivesAt Line 0 a said new n b t
+settles_with mode s mid new m n a b calls i xs text said Line t all spells called goes is behind = record {
   part = tells t calls i all.events text;
-  spells = spells all.events (subst (λ (ys : List Retired). FillsInMode mode ys all.events) (goes.fills t.inputs behind.inputs) all.filled);
+  spells = spells (subst (λ (ys : List Retired). FillsInMode mode ys all.events) (goes.fills t.inputs behind.inputs) all.filled);
   runs = runs-append (board t) (entries_of caller calls) (entries_of acquirer all.events) first second;
   fills = fills-append (contents_of t.entries) (entries_of caller calls) (entries_of acquirer all.events) (quiet_fills (contents_of t.entries) caller calls called.quiet) (own_fills (contents_of t.entries) all.events);
   handles = refl;
@@ -89,6 +89,13 @@ settles_at mode s mid new m n a b calls i xs text said Line t spells called all 
 
     second : RunsFrom (after_from (board t) (entries_of caller calls)) (entries_of acquirer all.events)
     second = subst (λ (b : Board). RunsFrom b (entries_of acquirer all.events)) (called.adds.after ∙ ap (λ (b : Board). after_from b (entries_of caller calls)) behind.board.board.state) all.adds.runs
+
+-- The line settles.
+pub settles_at : (mode : Mode) (s mid new : PlainState) (m n : Machine) (a b : FillCounts) (calls : List Event) (i : Input) (xs : List Retired) (text said : List ℕ) (Line : Trace → Part → Type 0) (t : Trace)
+    → ((es : List Event) → FillsInMode mode (retired_by (config_of m) t.inputs i) es → Line t (tells t calls i es text))
+    → Called s calls mid → FillsAll mode xs mid a new b → Turned m n i xs → said ≡ text → IsBehindTrace t s m → DrivesAt Line 0 a said new n b t
+settles_at mode s mid new m n a b calls i xs text said Line t spells called all goes is behind =
+    settles_with mode s mid new m n a b calls i xs text said Line t all (spells all.events) called goes is behind
 
 -- ---- at rest again
 

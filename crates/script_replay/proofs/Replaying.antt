@@ -1,5 +1,6 @@
 -- A line adds its part to the trace that what a script runs on stands behind.
 use Rattle.std.proofs.Common.{◌≡◌, ◌≢◌, ℕ, ◌+◌, ◌-◌, ◌^◌, ◌==◌, min, Bool, true, false, codes, eq-eqb, ne_eqb, List, [], ◌∷◌, ◌++◌, length, refl, sym, ap, subst, ◌∙◌, arith, append-nil, Option, Result, Ok, Err, OnOk}
+use Rattle.std.specs.Prelude.{⊤}
 use Rattle.std.specs.List.{count_by}
 use Rattle.gev_script.specs.Lines as line
 use Rattle.gev_script.specs.Lines.{ScriptLine}
@@ -184,27 +185,52 @@ call_goes l old said board keeps acts_so ready lifted =
 abbrev driven : Running → PlainState → Machine → FillCounts → ℕ → Running
 driven old board acq counts idle = record old { board = board; acq = acq; counts = counts; idle = idle }
 
+-- with what else is known of its part
+pub drives_with : (l : ScriptLine) (Line Also : Trace → Part → Type 0) (idle : ℕ) (old : Running) (said : List ℕ) (new_board : PlainState) (acq : Machine) (counts : FillCounts) (t : Trace) → StandsAt old t
+    → ((part : Part) → Line t part → Spells (config_of old.acq) t l part) → DrivesAt (λ u part. Line u part × Also u part) idle old.counts said new_board acq counts t
+    → (at : AddsAt (config_of old.acq) l said (driven old new_board acq counts (min (old.idle + idle) (2 ^ 64 - 1))) t) × Also t at.part
+drives_with l Line Also idle old said new_board acq counts t stands spells did =
+    let filled = filled_on old.counts counts t.entries did.part.entries (counted_so old t stands) did.counted in (
+      record {
+        part = did.part;
+        adds = record { spells = spells did.part did.spells.0; runs = did.runs; fills = did.fills };
+        text = sym did.text;
+        stands = record {
+          behind = did.behind;
+          handles = stands.handles ∙ sym did.handles;
+          fills = filled.fills;
+          complete = filled.complete;
+          dropped = filled.dropped_is;
+          taken = still old.taken (length (handed_out t.entries)) stands.taken ∙ taken_on old.taken 0 t.entries did.part.entries stands.taken (ap length did.none_taken);
+          idle = ap (λ k. min (old.idle + k) (2 ^ 64 - 1)) (sym did.idles) ∙ more old.idle t.idle did.part.idle stands.idle;
+          mode = stands.mode ∙ sym did.mode;
+          told_mode = stands.told_mode ∙ sym did.told_mode;
+        };
+      },
+      did.spells.1,
+    )
+
+drives_also : (Line : Trace → Part → Type 0) (idle : ℕ) (a : FillCounts) (said : List ℕ) (new : PlainState) (n : Machine) (b : FillCounts) (t : Trace) → DrivesAt Line idle a said new n b t → DrivesAt (λ u part. Line u part × ⊤) idle a said new n b t
+drives_also Line idle a said new n b t did = record {
+  part = did.part;
+  spells = (did.spells, tt);
+  runs = did.runs;
+  fills = did.fills;
+  handles = did.handles;
+  idles = did.idles;
+  text = did.text;
+  mode = did.mode;
+  told_mode = did.told_mode;
+  none_taken = did.none_taken;
+  behind = did.behind;
+  counted = did.counted;
+}
+
 drives_add : (l : ScriptLine) (Line : Trace → Part → Type 0) (idle : ℕ) (old : Running) (said : List ℕ) (new_board : PlainState) (acq : Machine) (counts : FillCounts) (t : Trace) → StandsAt old t
     → ((part : Part) → Line t part → Spells (config_of old.acq) t l part) → DrivesAt Line idle old.counts said new_board acq counts t
     → AddsAt (config_of old.acq) l said (driven old new_board acq counts (min (old.idle + idle) (2 ^ 64 - 1))) t
 drives_add l Line idle old said new_board acq counts t stands spells did =
-    let filled = filled_on old.counts counts t.entries did.part.entries (counted_so old t stands) did.counted in
-    record {
-      part = did.part;
-      adds = record { spells = spells did.part did.spells; runs = did.runs; fills = did.fills };
-      text = sym did.text;
-      stands = record {
-        behind = did.behind;
-        handles = stands.handles ∙ sym did.handles;
-        fills = filled.fills;
-        complete = filled.complete;
-        dropped = filled.dropped_is;
-        taken = still old.taken (length (handed_out t.entries)) stands.taken ∙ taken_on old.taken 0 t.entries did.part.entries stands.taken (ap length did.none_taken);
-        idle = ap (λ k. min (old.idle + k) (2 ^ 64 - 1)) (sym did.idles) ∙ more old.idle t.idle did.part.idle stands.idle;
-        mode = stands.mode ∙ sym did.mode;
-        told_mode = stands.told_mode ∙ sym did.told_mode;
-      };
-    }
+    (drives_with l Line (λ u part. ⊤) idle old said new_board acq counts t stands spells (drives_also Line idle old.counts said new_board acq counts t did)).0
 
 pub drives_go : (l : ScriptLine) (Line : Trace → Part → Type 0) (idle : ℕ) (old : Running) (said : List ℕ) (new_board : PlainState) (acq : Machine) (counts : FillCounts) → IsReplaying old
     → Drives Line idle old.board old.acq old.counts said new_board acq counts

@@ -1,5 +1,5 @@
 -- Buffers that the acquisition fills into the output, or lays.
-use Rattle.std.proofs.Common.{◌≡◌, ◌≢◌, ◌⊎◌, ℕ, ◌<◌, ◌≤◌, Bool, true, false, if◌then◌else◌, List, [], ◌∷◌, ◌++◌, length, map, set, get_or, Option, Some, refl, sym, ap, subst, ◌∙◌, inl, inr, arith, append-nil, append_assoc}
+use Rattle.std.proofs.Common.{◌≡◌, ◌≢◌, ◌⊎◌, ℕ, ◌<◌, ◌≤◌, Bool, true, false, if◌then◌else◌, List, [], ◌∷◌, ◌++◌, length, map, take, set, get_or, Option, Some, refl, sym, ap, subst, ◌∙◌, inl, inr, arith, append-nil, append_assoc}
 use Rattle.std.proofs.lemmas.List.{get_or-set_same, length-set, set_past}
 use Rattle.std.proofs.lemmas.Bool.{cases_eq, cases_lt}
 use Rattle.gev_types.specs.Filling.{Filling}
@@ -33,6 +33,8 @@ use Rattle.acq_core.specs.declared.machine.Machine.{Machine}
 use Rattle.acq_core.specs.Receiver.{buffers, KeepsBlocks}
 use Rattle.acq_core.specs.Waiting.{waiting_fills, waiting_requests}
 use Rattle.buffer_modes.specs.Steps.{KeepsHeld}
+use Rattle.buffer_modes.specs.declared.gone.Gone.{Gone}
+use Rattle.buffer_modes.specs.Gone.{gone_of}
 use Rattle.mode_calls.specs.declared.mode.Mode.{Mode}
 use Rattle.mode_calls.specs.Modes.{DropsFor, FillsDropping}
 use Rattle.script_trace.specs.Trace.{acquirer}
@@ -41,6 +43,7 @@ use Rattle.script_trace.specs.Contents.{contents_of, contents_from, FillsFrom, F
 use Rattle.script_replay.specs.declared.fill_counts.FillCounts.{FillCounts}
 use Rattle.script_replay.specs.Boards.{LiesAsTold, IsLeftBy, IsReady}
 use Rattle.script_replay.specs.Acquiring.{IsAway, AreApart, AreAway, FillsOne, with_board, CountsOne, FillsAll}
+use Rattle.script_replay.specs.Telling.{TellsOne}
 use Rattle.script_replay.specs.Counting.{with_fill, with_dropped, counted_in}
 use Rattle.script_replay.proofs.Counted.{counted-more}
 use Rattle.script_replay.proofs.Dropping.{drops_keep, drops_actors, drops_count, away_held, left_held}
@@ -160,49 +163,59 @@ parts_of mode count i f filled b new called =
       };
     }
 
-pub one_filled : (mode : Mode) (x : Retired) (s new : PlainState) (a mid b : FillCounts) (count : ℕ) (end : FillEnd) → end ≡ Filled → AddsOf s.board acquirer (FillsDropping mode count x.place x.buf (is_filled end)) new.board
-    → new.contents ≡ contents_after_fill s.contents x.place x.buf (is_filled end) → mid ≡ with_dropped a count → b ≡ with_fill mid x.buf.rec.complete → CountsOne mode x s a new b
-one_filled mode x s new a mid b count end is called_so contents_so dropped_is counted =
+pub one_filled : (mode : Mode) (x : Retired) (s new : PlainState) (a mid b : FillCounts) (count : ℕ) (end : FillEnd) (gone : List Gone) → end ≡ Filled → AddsOf s.board acquirer (FillsDropping mode count x.place x.buf (is_filled end)) new.board
+    → new.contents ≡ contents_after_fill s.contents x.place x.buf (is_filled end) → mid ≡ with_dropped a count → b ≡ with_fill mid x.buf.rec.complete
+    → gone ≡ map gone_of (take count s.board.out) → TellsOne mode x s a new b true gone
+one_filled mode x s new a mid b count end gone is called_so contents_so dropped_is counted gone_is =
     let called : AddsOf s.board acquirer (FillsDropping mode count x.place x.buf true) new.board =
     subst (λ (e : FillEnd). AddsOf s.board acquirer (FillsDropping mode count x.place x.buf (is_filled e)) new.board) is called_so in
     let p : Parts mode count x.place x.buf true s.board new.board = parts_of mode count x.place x.buf true s.board new.board called in
     record {
-      dropped = p.dropped;
-      front = p.front;
-      drops = p.drops;
-      mid = p.mid;
-      adds = p.adds;
       one = record {
-        filled = true;
-        adds = adds_one p.mid new.board acquirer (Fill x.place x.buf true) p.step;
-        contents = contents_so ∙ ap (λ (e : FillEnd). contents_after_fill s.contents x.place x.buf (is_filled e)) is;
+        dropped = p.dropped;
+        front = p.front;
+        drops = p.drops;
+        mid = p.mid;
+        adds = p.adds;
+        one = record {
+          filled = true;
+          adds = adds_one p.mid new.board acquirer (Fill x.place x.buf true) p.step;
+          contents = contents_so ∙ ap (λ (e : FillEnd). contents_after_fill s.contents x.place x.buf (is_filled e)) is;
+        };
+        counted = counted ∙ ap (λ (c : FillCounts). with_fill c x.buf.rec.complete) (dropped_is ∙ ap (with_dropped a) (sym p.counted));
       };
-      counted = counted ∙ ap (λ (c : FillCounts). with_fill c x.buf.rec.complete) (dropped_is ∙ ap (with_dropped a) (sym p.counted));
+      filled = refl;
+      gone = gone_is ∙ ap (λ n. map gone_of (take n s.board.out)) (sym p.counted);
     }
 
 -- the close mark stood: set down, and laid
-pub one_laid : (mode : Mode) (x : Retired) (s mid down new : PlainState) (a b : FillCounts) (count : ℕ) (end : FillEnd) (back : Filling) → end ≡ Closed back → AddsOf s.board acquirer (FillsDropping mode count x.place x.buf (is_filled end)) mid.board
+pub one_laid : (mode : Mode) (x : Retired) (s mid down new : PlainState) (a b : FillCounts) (count : ℕ) (end : FillEnd) (back : Filling) (gone : List Gone) → end ≡ Closed back → AddsOf s.board acquirer (FillsDropping mode count x.place x.buf (is_filled end)) mid.board
     → mid.contents ≡ contents_after_fill s.contents x.place x.buf (is_filled end) → IfClosed end (λ came. came ≡ x.buf)
-    → down.board ≡ mid.board → down.contents ≡ set mid.contents x.place (Some back) → AddsEntry down.board acquirer (Lay x.place) new.board → new.contents ≡ down.contents → b ≡ with_dropped a count → CountsOne mode x s a new b
-one_laid mode x s mid down new a b count end back closed called_so contents_so came put contents lay same_too counted =
+    → down.board ≡ mid.board → down.contents ≡ set mid.contents x.place (Some back) → AddsEntry down.board acquirer (Lay x.place) new.board → new.contents ≡ down.contents → b ≡ with_dropped a count
+    → gone ≡ map gone_of (take count s.board.out) → TellsOne mode x s a new b false gone
+one_laid mode x s mid down new a b count end back gone closed called_so contents_so came put contents lay same_too counted gone_is =
     let called : AddsOf s.board acquirer (FillsDropping mode count x.place x.buf false) mid.board =
     subst (λ (e : FillEnd). AddsOf s.board acquirer (FillsDropping mode count x.place x.buf (is_filled e)) mid.board) closed called_so in
     let same : mid.contents ≡ s.contents = contents_so ∙ ap (λ (e : FillEnd). contents_after_fill s.contents x.place x.buf (is_filled e)) closed in
     let is : back ≡ x.buf = subst (λ (e : FillEnd). IfClosed e (λ f. f ≡ x.buf)) closed came in
     let p : Parts mode count x.place x.buf false s.board mid.board = parts_of mode count x.place x.buf false s.board mid.board called in
     record {
-      dropped = p.dropped;
-      front = p.front;
-      drops = p.drops;
-      mid = p.mid;
-      adds = p.adds;
       one = record {
-        filled = false;
-        adds = adds_after p.mid mid.board new.board acquirer (Fill x.place x.buf false) (Lay x.place ∷ []) p.step
-            (adds_one mid.board new.board acquirer (Lay x.place) (subst (λ (b : Board). AddsEntry b acquirer (Lay x.place) new.board) put lay));
-        contents = same_too ∙ contents ∙ ap (λ c. set c x.place (Some back)) same ∙ ap (λ (f : Filling). set s.contents x.place (Some f)) is;
+        dropped = p.dropped;
+        front = p.front;
+        drops = p.drops;
+        mid = p.mid;
+        adds = p.adds;
+        one = record {
+          filled = false;
+          adds = adds_after p.mid mid.board new.board acquirer (Fill x.place x.buf false) (Lay x.place ∷ []) p.step
+              (adds_one mid.board new.board acquirer (Lay x.place) (subst (λ (b : Board). AddsEntry b acquirer (Lay x.place) new.board) put lay));
+          contents = same_too ∙ contents ∙ ap (λ c. set c x.place (Some back)) same ∙ ap (λ (f : Filling). set s.contents x.place (Some f)) is;
+        };
+        counted = counted ∙ ap (with_dropped a) (sym p.counted);
       };
-      counted = counted ∙ ap (with_dropped a) (sym p.counted);
+      filled = refl;
+      gone = gone_is ∙ ap (λ n. map gone_of (take n s.board.out)) (sym p.counted);
     }
 
 -- what a refused fill leaves

@@ -6,3 +6,4 @@ pub mod Counting
 pub mod Acquiring
 pub mod Replays
 pub mod Widely
+pub mod Telling

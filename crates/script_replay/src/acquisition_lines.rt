@@ -135,7 +135,7 @@ pub fn hear(
 {
     match settle(board, acq, counts, mode, bytes) {
         Need::Buffer(_block) => {
-            give_claimed(board, acq, counts, mode);
+            let _got = give_claimed(board, acq, counts, mode);
             let _again = settle(board, acq, counts, mode, bytes);
         }
         Need::Done => {}

@@ -50,7 +50,7 @@ pub fn begin(alloc: Global, config: AcqConfig) -> Result<Running, NoMemory>
 }
 
 /// Runs the first line, which has to be a header.
-pub(crate) fn first_line(alloc: Global, line: &[u8]) -> Result<Script, Stop>
+pub fn first_line(alloc: Global, line: &[u8]) -> Result<Script, Stop>
     requires short { length line.now ≤ 20000 }
     ensures { MatchResult result (λ r. Begins line.now r) (λ stop. IfRefused stop (λ kind. IsNoHeader line.now kind)) }
 {

@@ -22,7 +22,7 @@ fn spelled_byte(high: u8, low: u8) -> u8
 }
 
 /// Writes the bytes that the hex digits spell.
-pub(crate) fn decode(digits: &[u8], bytes: &mut [u8])
+pub fn decode(digits: &[u8], bytes: &mut [u8])
     requires spelled { IsOk (decode_of digits.now) }
     requires room { length digits.now ≡ 2 * length bytes.old }
     ensures { decode_of digits.now ≡ Ok bytes.new }

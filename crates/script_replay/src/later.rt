@@ -20,7 +20,7 @@ use script_runs::{Ran, Stop};
 use std::alloc::Global;
 
 /// Whether the word that a line begins with is of a header, or of the other script's lines.
-fn is_out_of_place(name: Result<Name, ScriptKind>) -> bool
+pub fn is_out_of_place(name: Result<Name, ScriptKind>) -> bool
     ensures { result ≡ is_out_of_place name }
 {
     match name {
@@ -98,7 +98,7 @@ fn run_said(
 }
 
 /// Runs a line behind the first, given without its line feed, and adds its report to the empty `out`.
-pub(crate) fn later_line(
+pub fn later_line(
     alloc: Global,
     script: &mut Script,
     room: &mut Vec<u8>,

@@ -43,7 +43,7 @@ fn is_narrow(resend: Resend) -> bool
 }
 
 /// Adds the line of a request, in the standard form.
-fn line_standard(alloc: Global, command: &[u8; 28], out: &mut Vec<u8>) -> Result<(), NoMemory>
+pub fn line_standard(alloc: Global, command: &[u8; 28], out: &mut Vec<u8>) -> Result<(), NoMemory>
     ensures { OnOk result (out.new.items ≡ out.old.items ++ request_line (standard_form command.now)) }
 {
     let resend = asked_by(command);

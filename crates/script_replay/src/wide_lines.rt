@@ -45,7 +45,7 @@ fn hear_bytes(running: &mut Running, bytes: &[u8])
 }
 
 /// Whether a datagram is to be widened.
-fn is_standard(version: u8, run: u8, top: u64, bytes: &[u8]) -> bool
+pub fn is_standard(version: u8, run: u8, top: u64, bytes: &[u8]) -> bool
     ensures { result ≡ is_standard_at version run top bytes.now }
 {
     version == 2
@@ -165,7 +165,7 @@ fn run_any(
 }
 
 /// Forgets the greatest block where the stream was started.
-fn note_start(widening: &mut Widening, before: u8, after: u8)
+pub fn note_start(widening: &mut Widening, before: u8, after: u8)
     ensures { widening.new ≡ (if is_started_at before after then record widening.old { widener = 0 } else widening.old) }
 {
     if before != 1 && after == 1 {

@@ -5,16 +5,16 @@ use Rattle.script_replay.proofs.acquisition_lines.hear.Goals as goal
 
 pub returns-in-Buffer-clause-drives : goal.returns-in-Buffer-clause-drives
 returns-in-Buffer-clause-drives c =
-    hears_twice c.args.mode c.args.board.now c.settle.new.board c.give_claimed.new.board c.settle-again.new.board c.args.acq.now c.settle.new.acq c.give_claimed.new.acq c.settle-again.new.acq c.args.counts.now c.settle.new.counts c.give_claimed.new.counts c.settle-again.new.counts c.args.bytes.now c.in-Buffer._block
-    c.in-Buffer.ensures.settled c.give_claimed.ensures.claims c.settle-again.ensures.settled c.in-Buffer.ensures.need
+    hears_twice c.args.mode c.args.board.now c.settle.new.board c.give_claimed-got.new.board c.settle-again.new.board c.args.acq.now c.settle.new.acq c.give_claimed-got.new.acq c.settle-again.new.acq c.args.counts.now c.settle.new.counts c.give_claimed-got.new.counts c.settle-again.new.counts c.args.bytes.now c.in-Buffer._block
+    c.in-Buffer.ensures.settled c.give_claimed-got.ensures.claims c.settle-again.ensures.settled c.in-Buffer.ensures.need
 
 pub returns-in-Buffer-clause-rest : goal.returns-in-Buffer-clause-rest
 returns-in-Buffer-clause-rest c =
-    hear_rests_again c.args.board.now c.settle.new.board c.give_claimed.new.board c.settle-again.new.board c.args.acq.now c.settle.new.acq c.give_claimed.new.acq c.settle-again.new.acq c.args.bytes.now c.requires.rest
-    c.in-Buffer.ensures.settled c.give_claimed.ensures.claims c.settle-again.ensures.settled c.settle-again.ensures.ready c.settle-again.ensures.no_fill c.settle-again.ensures.no_request
+    hear_rests_again c.args.board.now c.settle.new.board c.give_claimed-got.new.board c.settle-again.new.board c.args.acq.now c.settle.new.acq c.give_claimed-got.new.acq c.settle-again.new.acq c.args.bytes.now c.requires.rest
+    c.in-Buffer.ensures.settled c.give_claimed-got.ensures.claims c.settle-again.ensures.settled c.settle-again.ensures.ready c.settle-again.ensures.no_fill c.settle-again.ensures.no_request
     (c.settle-again.ensures.asked
-    ∙ asks_no_more c.args.board.now c.settle.new.board c.give_claimed.new.board c.args.acq.now c.settle.new.acq c.give_claimed.new.acq c.args.bytes.now c.in-Buffer._block c.requires.rest.inputs c.settle-again.result c.requires.rest.config
-    c.requires.rest.stands c.in-Buffer.ensures.settled c.give_claimed.ensures.claims c.in-Buffer.ensures.need c.settle-again.ensures.need)
+    ∙ asks_no_more c.args.board.now c.settle.new.board c.give_claimed-got.new.board c.args.acq.now c.settle.new.acq c.give_claimed-got.new.acq c.args.bytes.now c.in-Buffer._block c.requires.rest.inputs c.settle-again.result c.requires.rest.config
+    c.requires.rest.stands c.in-Buffer.ensures.settled c.give_claimed-got.ensures.claims c.in-Buffer.ensures.need c.settle-again.ensures.need)
     c.settle-again.ensures.away
 
 pub returns-in-Done-clause-drives : goal.returns-in-Done-clause-drives
