@@ -5,7 +5,5 @@
 #![tactic(auto)]
 
 mod laws;
-#[cfg(test)]
-mod tests;
 
-pub use laws::waiting_pictures_are_true;
+pub use laws::{places_tell_looks, taken_pictures_are_true, waiting_pictures_are_true};
