@@ -1,0 +1,79 @@
+-- The picture of a frame without padding.
+use Rattle.std.proofs.Common.{rules, ◌≡◌, ◌⊎◌, inl, inr, ℕ, zero, suc, ◌+◌, ◌*◌, ◌/◌, ◌<◌, ◌≤◌, List, [], ◌∷◌, ◌++◌, length, take, drop, true, false, refl, ap, sym, ◌∙◌, arith}
+use Rattle.std.specs.Prelude.{◌==◌, ◌||◌, Ok, Err}
+use Rattle.std.proofs.lemmas.Bool.{or_cases, eqb-true, cond-false, false_from_ne_true}
+use Rattle.std.proofs.lemmas.List.{take_all, length-drop}
+use Rattle.std.proofs.Math.Seq.{take-suc, take-add}
+use Rattle.gev_types.specs.FrameSize.{bits_per_pixel}
+use Rattle.frame_pictures.specs.declared.look.Look.{Look}
+use Rattle.frame_pictures.specs.declared.samples.Samples.TheVariants.{Grey8}
+use Rattle.frame_pictures.specs.declared.no_picture.NoPicture.TheVariants.{NoPixels}
+use Rattle.frame_pictures.specs.Pictures.{head_text, byte_at, row_text, row_step, rows_text, drawing, drawn_as}
+use Rattle.frame_pictures.specs.Laws.{PlainFramesAreTheirPixels, PixelsAreAsWideAsTheirFormat, frame_look}
+
+whole_bytes : (m : ℕ) → (m * 8 + 7) / 8 ≡ m
+whole_bytes m = omega arith
+
+add-mul-one : (n w : ℕ) → suc n * w ≡ n * w + w
+add-mul-one n w = omega arith
+
+step_of : (look : Look) → look.padding ≡ 0 → row_step Grey8 look ≡ look.width
+step_of look tight = let one : look.width * 1 ≡ look.width = omega arith in omega (arith, one, tight)
+
+-- a row of grey bytes is what lies there
+grey_row : (row : List ℕ) (n : ℕ) → n ≤ length row → row_text Grey8 row n ≡ take n row
+grey_row row zero fits = refl
+grey_row row (suc n) fits =
+    let same : n * 1 ≡ n = omega arith in
+    ap (λ t. t ++ byte_at row (n * 1) ∷ []) (grey_row row n (omega arith))
+    ∙ ap (λ j. take n row ++ byte_at row j ∷ []) same
+    ∙ sym (take-suc row n 0 (omega arith))
+
+-- and so are rows without padding
+grey_rows : (look : Look) (image : List ℕ) (n : ℕ) → look.padding ≡ 0 → n * look.width ≤ length image → rows_text Grey8 look image n ≡ take (n * look.width) image
+grey_rows look image zero tight fits = let none : 0 * look.width ≡ 0 = omega arith in ap (λ m. take m image) (sym none)
+grey_rows look image (suc n) tight fits =
+    let step : n * row_step Grey8 look ≡ n * look.width = ap (λ m. n * m) (step_of look tight) in
+    let more : suc n * look.width ≡ n * look.width + look.width = add-mul-one n look.width in
+    let left : look.width ≤ length (drop (n * look.width) image) = omega (arith, length-drop (n * look.width) image, more) in
+    ap (λ t. t ++ row_text Grey8 (drop (n * row_step Grey8 look) image) look.width) (grey_rows look image n tight (omega (arith, more)))
+    ∙ ap (λ m. take (n * look.width) image ++ row_text Grey8 (drop m image) look.width) step
+    ∙ ap (λ t. take (n * look.width) image ++ t) (grey_row (drop (n * look.width) image) look.width left)
+    ∙ sym (take-add (n * look.width) look.width image)
+    ∙ ap (λ m. take m image) (sym more)
+
+-- how long the pixels are
+length_of : (width rows bits padding_x padding_y len : ℕ) → bits ≡ 8 → padding_x ≡ 0 → padding_y ≡ 0
+    → len ≡ (width * rows * bits + 7) / 8 + padding_x * rows + padding_y → len ≡ rows * width
+length_of width rows bits padding_x padding_y len wide tight_x tight_y is =
+    let pixels : ℕ = width * rows in
+    let eights : pixels * bits ≡ pixels * 8 = ap (λ m. pixels * m) wide in
+    let none : padding_x * rows ≡ 0 * rows = ap (λ m. m * rows) tight_x in
+    let whole : (pixels * 8 + 7) / 8 ≡ pixels = whole_bytes pixels in
+    let bytes : (pixels * bits + 7) / 8 ≡ pixels = ap (λ m. (m + 7) / 8) eights ∙ whole in
+    let swapped : width * rows ≡ rows * width = omega arith in
+    omega (arith, is, bytes, none, tight_y, swapped)
+
+-- A frame with a pixel has a column and a row.
+some_pixels : (width rows : ℕ) → 0 < rows * width → (width == 0 || rows == 0) ≡ false
+some_pixels width rows some = false_from_ne_true (width == 0 || rows == 0) (λ e. go (or_cases (width == 0) (rows == 0) e)) where
+  go : ((width == 0) ≡ true) ⊎ ((rows == 0) ≡ true) → ⊥
+  go (inl e) = let none : rows * width ≡ rows * 0 = ap (λ m. rows * m) (eqb-true width 0 e) in omega (arith, none)
+  go (inr e) = let none : rows * width ≡ 0 * width = ap (λ m. m * width) (eqb-true rows 0 e) in omega (arith, none)
+
+pub wide_as_format : PixelsAreAsWideAsTheirFormat
+wide_as_format pixel s e = search rules
+
+pub plain_frames_are_their_pixels : PlainFramesAreTheirPixels
+plain_frames_are_their_pixels frame valid tight_x tight_y format =
+    let look : Look = frame_look frame in
+    let len : length frame.pixels ≡ frame.rows * frame.size_x = length_of frame.size_x frame.rows (bits_per_pixel frame.pixel) frame.padding_x frame.padding_y (length frame.pixels)
+    (wide_as_format frame.pixel Grey8 format) tight_x tight_y valid.size in
+    let some : (frame.size_x == 0 || frame.rows == 0) ≡ false = some_pixels frame.size_x frame.rows (omega (arith, len, valid.in_limits.0)) in
+    ap (λ o. drawn_as o look (take (length frame.pixels) frame.pixels)) format
+    ∙ cond-false (frame.size_x == 0 || frame.rows == 0) (Err NoPixels) (Ok (drawing Grey8 look (take (length frame.pixels) frame.pixels))) some
+    ∙ ap (λ (image : List ℕ). Ok (drawing Grey8 look image)) (take_all (length frame.pixels) frame.pixels (omega arith))
+    ∙ ap (λ (t : List ℕ). Ok (head_text Grey8 frame.size_x frame.rows ++ t))
+    (grey_rows look frame.pixels frame.rows tight_x (omega (arith, len))
+    ∙ ap (λ m. take m frame.pixels) (sym len)
+    ∙ take_all (length frame.pixels) frame.pixels (omega arith))

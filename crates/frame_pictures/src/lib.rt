@@ -1,0 +1,21 @@
+//! Pictures of frames: which buffer has one, and its text as a PNM file.
+//!
+//! `specs/Looks.antt` says how the picture lies in a buffer, `specs/Formats.antt` which pixel formats are
+//! drawn, and `specs/Pictures.antt` has the picture as a text. The laws say of it, in words of their own, that
+//! it's the frame's.
+#![tactic(auto)]
+
+mod formats;
+pub mod laws;
+mod look;
+mod looks;
+mod no_picture;
+mod samples;
+#[cfg(test)]
+mod tests;
+
+pub use formats::{pixel_bytes, samples_of};
+pub use look::Look;
+pub use looks::look_of;
+pub use no_picture::NoPicture;
+pub use samples::Samples;

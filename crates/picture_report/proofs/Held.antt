@@ -1,0 +1,172 @@
+-- Text of which a front was written and the rest is held back.
+use Rattle.std.proofs.Common.{◌≡◌, ℕ, zero, suc, ◌+◌, ◌-◌, ◌*◌, ◌≤◌, List, [], ◌++◌, drop, Option, Some, None, Result, Ok, Err, refl, ap, sym, ◌∙◌, subst, append_assoc, append-nil, arith}
+use Rattle.std.specs.Prelude.{OnErr}
+use Rattle.std.proofs.lemmas.List.{drop-drop}
+use Rattle.gev_links.specs.Told.{Appends, WritesFront}
+use Rattle.frame_pictures.specs.declared.look.Look.{Look}
+use Rattle.frame_pictures.specs.declared.samples.Samples.{Samples}
+use Rattle.frame_pictures.specs.Formats.{pixel_bytes}
+use Rattle.frame_pictures.specs.Pictures.{pixel_text, row_text, row_step, rows_text}
+use Rattle.picture_report.specs.Writing.{HoldsBack}
+
+Appends-same : (w : Option (List ℕ)) → Appends w w []
+Appends-same None = refl
+Appends-same (Some w) = ap (λ (l : List ℕ). Some l) (sym (append-nil w))
+
+Appends-append : (w x y : Option (List ℕ)) (xs ys : List ℕ) → Appends w x xs → Appends x y ys → Appends w y (xs ++ ys)
+Appends-append None x y xs ys g h = subst (λ (v : Option (List ℕ)). Appends v y ys) g h
+Appends-append (Some w) x y xs ys g h =
+    let last : Appends (Some (w ++ xs)) y ys = subst (λ (v : Option (List ℕ)). Appends v y ys) g h in
+    last ∙ ap (λ (t : List ℕ). Some t) (append_assoc w xs ys)
+
+-- nothing is written yet
+pub held_all : (w : Option (List ℕ)) (text : List ℕ) → HoldsBack w w text text
+held_all w text = record { front = []; parts = refl; appended = Appends-same w }
+
+-- all that was held back is written
+pub held_none : (w x : Option (List ℕ)) (text : List ℕ) → Appends w x text → HoldsBack w x text []
+held_none w x text a = record { front = text; parts = sym (append-nil text); appended = a }
+
+-- some of what was held back is written
+pub held_less : (w x y : Option (List ℕ)) (text held held_after : List ℕ) → HoldsBack w x text held → HoldsBack x y held held_after → HoldsBack w y text held_after
+held_less w x y text held held_after d e = record {
+  front = d.front ++ e.front;
+  parts = d.parts ∙ ap (λ (t : List ℕ). d.front ++ t) e.parts ∙ sym (append_assoc d.front e.front held_after);
+  appended = Appends-append w x y d.front e.front d.appended e.appended;
+}
+
+-- more text is held back
+pub held_more : (w x : Option (List ℕ)) (text held more : List ℕ) → HoldsBack w x text held → HoldsBack w x (text ++ more) (held ++ more)
+held_more w x text held more d = record {
+  front = d.front;
+  parts = ap (λ (t : List ℕ). t ++ more) d.parts ∙ append_assoc d.front held more;
+  appended = d.appended;
+}
+
+-- of a text whose begin was dealt with so a front is written
+pub held_front : (w x y : Option (List ℕ)) (text held more whole : List ℕ) (rest : List ℕ) → HoldsBack w x text held → WritesFront x y (held ++ more)
+    → whole ≡ (text ++ more) ++ rest → WritesFront w y whole
+held_front w x y text held more whole rest d e is = record {
+  front = d.front ++ e.front;
+  rest = e.rest ++ rest;
+  parts =
+      is
+      ∙ ap (λ (t : List ℕ). t ++ rest)
+      (ap (λ (t : List ℕ). t ++ more) d.parts ∙ append_assoc d.front held more ∙ ap (λ (t : List ℕ). d.front ++ t) e.parts
+      ∙ sym (append_assoc d.front e.front e.rest))
+      ∙ append_assoc (d.front ++ e.front) e.rest rest;
+  appended = Appends-append w x y d.front e.front d.appended e.appended;
+}
+
+-- the rest is written
+pub held_whole : (w x y : Option (List ℕ)) (text held : List ℕ) → HoldsBack w x text held → Appends x y held → Appends w y text
+held_whole w x y text held d e = subst (λ (t : List ℕ). Appends w y t) (sym d.parts) (Appends-append w x y d.front held d.appended e)
+
+-- ---- rows and their begins
+
+pub record Begins (short long : List ℕ) : Type 0 where
+  pub rest : List ℕ
+  pub is : long ≡ short ++ rest
+
+row_more : (s : Samples) (row : List ℕ) (n k : ℕ) → Begins (row_text s row n) (row_text s row (n + k))
+row_more s row n zero = let same : n + 0 ≡ n = omega arith in
+    record { rest = []; is = ap (row_text s row) same ∙ sym (append-nil (row_text s row n)) }
+row_more s row n (suc k) =
+    let same : n + suc k ≡ suc (n + k) = omega arith in
+    let b = row_more s row n k in
+    record {
+      rest = b.rest ++ pixel_text s row ((n + k) * pixel_bytes s);
+      is =
+          ap (row_text s row) same
+          ∙ ap (λ (t : List ℕ). t ++ pixel_text s row ((n + k) * pixel_bytes s)) b.is
+          ∙ append_assoc (row_text s row n) b.rest (pixel_text s row ((n + k) * pixel_bytes s));
+    }
+
+pub row_begins : (s : Samples) (row : List ℕ) (n m : ℕ) → n ≤ m → Begins (row_text s row n) (row_text s row m)
+row_begins s row n m few = let same : n + (m - n) ≡ m = omega arith in subst (λ k. Begins (row_text s row n) (row_text s row k)) same (row_more s row n (m - n))
+
+rows_more : (s : Samples) (look : Look) (image : List ℕ) (n k : ℕ) → Begins (rows_text s look image n) (rows_text s look image (n + k))
+rows_more s look image n zero = let same : n + 0 ≡ n = omega arith in
+    record { rest = []; is = ap (rows_text s look image) same ∙ sym (append-nil (rows_text s look image n)) }
+rows_more s look image n (suc k) =
+    let same : n + suc k ≡ suc (n + k) = omega arith in
+    let b = rows_more s look image n k in
+    let last : List ℕ = row_text s (drop ((n + k) * row_step s look) image) look.width in
+    record {
+      rest = b.rest ++ last;
+      is = ap (rows_text s look image) same ∙ ap (λ (t : List ℕ). t ++ last) b.is ∙ append_assoc (rows_text s look image n) b.rest last;
+    }
+
+pub rows_begin : (s : Samples) (look : Look) (image : List ℕ) (n m : ℕ) → n ≤ m → Begins (rows_text s look image n) (rows_text s look image m)
+rows_begin s look image n m few =
+    let same : n + (m - n) ≡ m = omega arith in
+    subst (λ k. Begins (rows_text s look image n) (rows_text s look image k)) same (rows_more s look image n (m - n))
+
+-- ---- answers
+
+pub on_err : {A E : Type 0} (r : Result A E) (P : Type 0) → P → OnErr r P
+on_err (Ok a) P p = tt
+on_err (Err e) P p = p
+
+-- writing failed before a row was whole
+pub row_front : (w x y : Option (List ℕ)) (s : Samples) (row before held : List ℕ) (n m : ℕ) → n ≤ m
+    → HoldsBack w x (before ++ row_text s row n) held → WritesFront x y held → WritesFront w y (before ++ row_text s row m)
+row_front w x y s row before held n m few h f =
+    let b = row_begins s row n m few in
+    held_front w x y (before ++ row_text s row n) held [] (before ++ row_text s row m) b.rest h
+    (subst (λ (t : List ℕ). WritesFront x y t) (sym (append-nil held)) f)
+    (ap (λ (t : List ℕ). before ++ t) b.is ∙ sym (append_assoc before (row_text s row n) b.rest)
+    ∙ ap (λ (t : List ℕ). t ++ b.rest) (sym (append-nil (before ++ row_text s row n))))
+
+-- one pixel more
+pub row_more_held : (w x y : Option (List ℕ)) (s : Samples) (row before held held_now held_after : List ℕ) (n j : ℕ) → j ≡ n * pixel_bytes s
+    → HoldsBack w x (before ++ row_text s row n) held → HoldsBack x y held held_now → held_after ≡ held_now ++ pixel_text s row j
+    → HoldsBack w y (before ++ row_text s row (n + 1)) held_after
+row_more_held w x y s row before held held_now held_after n j at h less is =
+    let same : n + 1 ≡ suc n = omega arith in
+    let more = held_more w y (before ++ row_text s row n) held_now (pixel_text s row j) (held_less w x y (before ++ row_text s row n) held held_now h less) in
+    subst (λ (t : List ℕ). HoldsBack w y t held_after)
+    (append_assoc before (row_text s row n) (pixel_text s row j)
+    ∙ ap (λ i. before ++ (row_text s row n ++ pixel_text s row i)) at
+    ∙ ap (λ i. before ++ row_text s row i) (sym same))
+    (subst (λ (t : List ℕ). HoldsBack w y ((before ++ row_text s row n) ++ pixel_text s row j) t) (sym is) more)
+
+-- writing failed in a row
+pub rows_front : (w x y : Option (List ℕ)) (s : Samples) (look : Look) (image row before held : List ℕ) (n m : ℕ) → n + 1 ≤ m
+    → row ≡ drop (n * row_step s look) image
+    → HoldsBack w x (before ++ rows_text s look image n) held → WritesFront x y (held ++ row_text s row look.width) → WritesFront w y (before ++ rows_text s look image m)
+rows_front w x y s look image row before held n m few at h f =
+    let b = rows_begin s look image (suc n) m (omega (arith, few)) in
+    let here : List ℕ = row_text s (drop (n * row_step s look) image) look.width in
+    held_front w x y (before ++ rows_text s look image n) held here (before ++ rows_text s look image m) b.rest h
+    (subst (λ (t : List ℕ). WritesFront x y (held ++ row_text s t look.width)) at f)
+    (ap (λ (t : List ℕ). before ++ t) b.is ∙ sym (append_assoc before (rows_text s look image n ++ here) b.rest)
+    ∙ ap (λ (t : List ℕ). t ++ b.rest) (sym (append_assoc before (rows_text s look image n) here)))
+
+-- one row more
+pub rows_more_held : (w x y : Option (List ℕ)) (s : Samples) (look : Look) (image row before held held_after : List ℕ) (n : ℕ)
+    → row ≡ drop (n * row_step s look) image
+    → HoldsBack w x (before ++ rows_text s look image n) held → HoldsBack x y (held ++ row_text s row look.width) held_after
+    → HoldsBack w y (before ++ rows_text s look image (n + 1)) held_after
+rows_more_held w x y s look image row before held held_after n at h more =
+    let same : n + 1 ≡ suc n = omega arith in
+    subst (λ (t : List ℕ). HoldsBack w y t held_after)
+    (append_assoc before (rows_text s look image n) (row_text s row look.width)
+    ∙ ap (λ (t : List ℕ). before ++ (rows_text s look image n ++ row_text s t look.width)) at
+    ∙ ap (λ i. before ++ rows_text s look image i) (sym same))
+    (held_less w x y ((before ++ rows_text s look image n) ++ row_text s row look.width) (held ++ row_text s row look.width) held_after
+    (held_more w x (before ++ rows_text s look image n) held (row_text s row look.width) h) more)
+
+-- what lies behind a row
+pub next_row : (image rest : List ℕ) (n step : ℕ) → rest ≡ drop (n * step) image → drop step rest ≡ drop ((n + 1) * step) image
+next_row image rest n step at =
+    let more : n * step + step ≡ (n + 1) * step = omega arith in
+    ap (λ (t : List ℕ). drop step t) at ∙ drop-drop step (n * step) image ∙ ap (λ m. drop m image) more
+
+-- writing what was still held back failed
+pub last_front : {A E : Type 0} (r : Result A E) (w x y : Option (List ℕ)) (text held slice whole : List ℕ) → HoldsBack w x text held → slice ≡ held → text ≡ whole
+    → OnErr r (WritesFront x y slice) → OnErr r (WritesFront w y whole)
+last_front (Ok a) w x y text held slice whole h same is f = tt
+last_front (Err e) w x y text held slice whole h same is f =
+    held_front w x y text held [] whole [] h (subst (λ (t : List ℕ). WritesFront x y t) (same ∙ sym (append-nil held)) f)
+    (sym is ∙ sym (append-nil text) ∙ sym (append-nil (text ++ [])))

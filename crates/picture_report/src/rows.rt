@@ -1,0 +1,97 @@
+//! Rows of pixels, on their way to a sink.
+
+ghost use Rattle.std.specs.Prelude.{◌≡◌, ◌≤◌, ◌+◌, ◌++◌, drop, OnOk, OnErr};
+ghost use Rattle.std.specs.Vec.{vec_len, vec_capacity};
+ghost use Rattle.gev_links.specs.Faults.{Rose};
+ghost use Rattle.gev_links.specs.Told.{WritesFront};
+ghost use Rattle.frame_pictures.specs.Pictures.{row_step, row_text, rows_text};
+ghost use Rattle.picture_report.specs.Writing.{HoldsBack};
+
+use crate::pixels::add_pixel;
+use frame_pictures::{Look, Samples, pixel_bytes};
+use gev_links::{Failed, Sink, write_all};
+
+/// Bytes of the piece from which a picture is written.
+pub const PIECE: usize = 65_536;
+
+/// Writes the piece where it has no room for a pixel.
+fn make_room<K: Sink>(piece: &mut Vec<u8>, sink: &mut K) -> Result<(), Failed>
+    requires { 65536 ≤ vec_capacity piece.old }
+    ensures held { OnOk result (HoldsBack (K.written sink.old) (K.written sink.new) piece.old.items piece.new.items) }
+    ensures room { OnOk result (vec_len piece.new + 3 ≤ vec_capacity piece.new) }
+    ensures capacity { 65536 ≤ vec_capacity piece.new }
+    ensures no_fault { OnOk result (K.faults sink.new ≡ K.faults sink.old) }
+    ensures front { OnErr result (WritesFront (K.written sink.old) (K.written sink.new) piece.old.items) }
+    ensures failed { OnErr result (Rose (K.faults sink.old) (K.faults sink.new)) }
+{
+    if piece.len() + 3 <= PIECE {
+        return Ok(());
+    }
+    write_all(sink, piece.as_slice())?;
+    piece.clear();
+    Ok(())
+}
+
+/// Adds so many pixels of the row that begins with these bytes, and writes the piece as often as it's full.
+fn write_row<K: Sink>(
+    samples: Samples,
+    row: &[u8],
+    width: u32,
+    piece: &mut Vec<u8>,
+    sink: &mut K,
+) -> Result<(), Failed>
+    requires { 65536 ≤ vec_capacity piece.old }
+    ensures held { OnOk result (HoldsBack (K.written sink.old) (K.written sink.new) (piece.old.items ++ row_text samples row.now width) piece.new.items) }
+    ensures capacity { 65536 ≤ vec_capacity piece.new }
+    ensures no_fault { OnOk result (K.faults sink.new ≡ K.faults sink.old) }
+    ensures front { OnErr result (WritesFront (K.written sink.old) (K.written sink.new) (piece.old.items ++ row_text samples row.now width)) }
+    ensures failed { OnErr result (Rose (K.faults sink.old) (K.faults sink.new)) }
+{
+    let size = usize::from(pixel_bytes(samples));
+    for x in 0..width {
+        make_room(piece, sink)?;
+        add_pixel(samples, row, x as usize * size, piece);
+    }
+    Ok(())
+}
+
+/// The bytes behind the first `count`; none, where there are no more.
+fn behind(bytes: &[u8], count: usize) -> &[u8]
+    ensures { result.now ≡ drop count bytes.now }
+{
+    if count < bytes.len() {
+        &bytes[count..]
+    } else {
+        &[]
+    }
+}
+
+/// How many bytes lie between the begin of one row and that of the next.
+fn row_step(samples: Samples, look: Look) -> usize
+    ensures { result ≡ row_step samples look }
+{
+    look.width as usize * usize::from(pixel_bytes(samples)) + usize::from(look.padding)
+}
+
+/// Adds the rows of an image of these bytes, from the top, and writes the piece as often as it's full.
+pub fn write_rows<K: Sink>(
+    samples: Samples,
+    look: Look,
+    image: &[u8],
+    piece: &mut Vec<u8>,
+    sink: &mut K,
+) -> Result<(), Failed>
+    requires { 65536 ≤ vec_capacity piece.old }
+    ensures held { OnOk result (HoldsBack (K.written sink.old) (K.written sink.new) (piece.old.items ++ rows_text samples look image.now look.rows) piece.new.items) }
+    ensures no_fault { OnOk result (K.faults sink.new ≡ K.faults sink.old) }
+    ensures front { OnErr result (WritesFront (K.written sink.old) (K.written sink.new) (piece.old.items ++ rows_text samples look image.now look.rows)) }
+    ensures failed { OnErr result (Rose (K.faults sink.old) (K.faults sink.new)) }
+{
+    let step = row_step(samples, look);
+    let mut rest = image;
+    for _row in 0..look.rows {
+        write_row(samples, rest, look.width, piece, sink)?;
+        rest = behind(rest, step);
+    }
+    Ok(())
+}

@@ -1,0 +1,3 @@
+pub mod Looks
+pub mod Laws
+pub mod Places
