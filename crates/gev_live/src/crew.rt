@@ -31,7 +31,7 @@ use std::sync::Wait;
 use std::thread;
 use std::thread::Threads;
 
-/// The reader and the application, each as a thread.
+/// The reader, and the application as a thread beside it.
 fn read_and_apply<
     R: Threads + Wait + Sync,
     L: Link + Send + Drop,
@@ -72,8 +72,15 @@ fn read_and_apply<
     ensures applies { AppliesAndStops frames (C.told app_clock) (C.told result.1.clock) lines.items result.1.lines.items result.1.answer taker result.1.pass }
     ensures application { Works is_applications taker result.1.pass × SameHands taker result.1.pass }
 {
-    thread::join(
+    // Where no thread can be made the first call is the last: an application that ran before the reader would wait
+    // for ever.
+    let (applied, read_done) = thread::join(
         rt,
+        move || -> ApplicationWork<C>
+            requires { taker.table ≡ board_id board.now }
+            ensures { AppliesAndStops frames (C.told app_clock) (C.told result.clock) lines.items result.lines.items result.answer taker result.pass
+                × Works is_applications taker result.pass × SameHands taker result.pass }
+        { work_application(rt, alloc, board, taker, app_clock, gate, frames, lines) },
         move || -> ReadDone<S, L, C>
             requires { (reader.table ≡ board_id board.now) × IsEmptyHanded reader × Stands acq [] × HasSubmittedNone client × (waiting_fills acq ≡ []) × (waiting_requests acq ≡ []) × (buffers acq ≡ [])
                 × (vec_len journal + turns ≤ vec_capacity journal) }
@@ -89,12 +96,8 @@ fn read_and_apply<
                 journal, turns,
             )
         },
-        move || -> ApplicationWork<C>
-            requires { taker.table ≡ board_id board.now }
-            ensures { AppliesAndStops frames (C.told app_clock) (C.told result.clock) lines.items result.lines.items result.answer taker result.pass
-                × Works is_applications taker result.pass × SameHands taker result.pass }
-        { work_application(rt, alloc, board, taker, app_clock, gate, frames, lines) },
-    )
+    );
+    (read_done, applied)
 }
 
 /// The camera's worker as a thread beside the reader and the application.
