@@ -3,14 +3,13 @@ use Rattle.std.proofs.Common.{◌≡◌, ℕ, zero, suc, ◌+◌, ◌≤◌, Boo
 use Rattle.std.specs.Prelude.{slice_get, nat_lt, MatchBool}
 use Rattle.std.proofs.lemmas.List.{append-nil, map-append}
 use Rattle.gev_control.specs.Controlled.{listed}
-use Rattle.lane_queues.specs.Ends.{GiverEnd, TakerEnd, gave, took, BeginsWith}
+use Rattle.lane_queues.specs.Ends.{GiverEnd, TakerEnd, gave, took}
 use Rattle.gev_lanes.specs.declared.cell.Cell.{Cell}
 use Rattle.gev_lanes.specs.declared.parts.ReaderLane.{ReaderLane}
-use Rattle.gev_lanes.specs.Sides.{CELLS}
-use Rattle.gev_lanes.specs.Messages.{Says, Message, heard, told, ended, message_of, messages, GoOn}
-use Rattle.gev_lanes.specs.Acts.{Brings, LeavesOut, Tries, TriesTo, Hears, Ticks}
-use Rattle.lane_turns.specs.Turns.{ReaderTurn, part_of, Each, Asks, AsksEach, TakesLanesTurn, TakesLanesTurns}
-use Rattle.lane_laws.specs.Brought.{IsSublist, datagram_in, datagrams_in, parts_of, heard_at, news_of, Brought, LaneTurn, LaneTurns}
+use Rattle.gev_lanes.specs.Messages.{Message, heard, told, ended, message_of, messages, GoOn}
+use Rattle.gev_lanes.specs.Acts.{Brings, Tries, TriesTo, Hears, Ticks}
+use Rattle.lane_turns.specs.Turns.{ReaderTurn, part_of, Each, Asks, AsksEach, TakesLanesTurn}
+use Rattle.lane_laws.specs.Brought.{IsSublist, datagram_in, datagrams_in, parts_of, heard_at, news_of, Brought, LaneTurn}
 use Rattle.lane_laws.specs.Laws.{LanesTakeTurns, TurnsBring, LanesTakeAll, FirstCellsAreBrought}
 
 -- ---- lists
