@@ -1,0 +1,17 @@
+//! Packets that are asked for.
+
+ghost use Rattle.std.specs.Prelude.{◌≡◌, ◌∷◌, [], OnOk};
+ghost use Rattle.acquisition_notes.specs.Notes.{asks};
+ghost use Rattle.script_tape.specs.Tells.{Tells};
+
+use gev_types::NoMemory;
+use gvcp_aux::Resend;
+use note_tape::Told;
+
+/// Tells a request, in the round of this number of its block.
+pub fn tell_asked(tape: &mut Vec<Told>, resend: Resend, round: u8) -> Result<(), NoMemory>
+    ensures { OnOk result (Tells tape.old.items tape.new.items (asks resend.block (resend.first, resend.last) round ∷ [])) }
+{
+    tape.push(Told::Asked(resend, round))?;
+    Ok(())
+}

@@ -1,0 +1,17 @@
+//! What an acquisition's calls answer, told on a tape: what became of a datagram, which blocks were never opened,
+//! how a block retired, and what was asked for.
+//!
+//! Each call says which of the notes of `acquisition_notes` it tells.
+#![tactic(auto)]
+
+mod asked;
+mod gaps;
+mod heard;
+mod laws;
+#[cfg(test)]
+mod tests;
+
+pub use asked::tell_asked;
+pub use gaps::{tell_done, tell_dropped, tell_gap};
+pub use heard::tell_need;
+pub use laws::rounds_are_told;
