@@ -26,10 +26,10 @@ AllGo ls = AllByRecursion Goes ls
 
 -- ---- the bytes of a datagram
 
-abbrev AreSmall : List ℕ → Type 0
+abbrev pub AreSmall : List ℕ → Type 0
 AreSmall bytes = AllByRecursion (λ b. b < 256) bytes
 
-small_drop : (n : ℕ) (bytes : List ℕ) → AreSmall bytes → AreSmall (drop n bytes)
+pub small_drop : (n : ℕ) (bytes : List ℕ) → AreSmall bytes → AreSmall (drop n bytes)
 small_drop zero bytes all = all
 small_drop (suc n) [] all = tt
 small_drop (suc n) (b ∷ bytes) all = small_drop n bytes all.1
@@ -39,7 +39,7 @@ small_take zero bytes all = tt
 small_take (suc n) [] all = tt
 small_take (suc n) (b ∷ bytes) all = (all.0, small_take n bytes all.1)
 
-small_at : (bytes : List ℕ) → AreSmall bytes → (i : ℕ) → slice_index bytes i < 256
+pub small_at : (bytes : List ℕ) → AreSmall bytes → (i : ℕ) → slice_index bytes i < 256
 small_at [] all i = lit< tt
 small_at (b ∷ bytes) all zero = all.0
 small_at (b ∷ bytes) all (suc i) = small_at bytes all.1 i
@@ -50,7 +50,7 @@ data SmallIn : Option (List ℕ) → Type 0 where
   some : (bytes : List ℕ) → AreSmall bytes → SmallIn (Some bytes)
 
 -- of the bytes of a datagram
-data SmallSeen : Seen → Type 0 where
+pub data SmallSeen : Seen → Type 0 where
   is_other : SmallSeen other
   is_fragment : SmallSeen fragment
   is_cut : SmallSeen cut
@@ -106,7 +106,7 @@ small_ip_in : (o : Option (List ℕ)) → SmallIn o → SmallSeen (network_seen 
 small_ip_in None all = is_other
 small_ip_in (Some ip) (some bytes all) = small_ip ip all
 
-small_seen : (link : ℕ) (bytes : List ℕ) → AreSmall bytes → SmallSeen (contents.seen link bytes)
+pub small_seen : (link : ℕ) (bytes : List ℕ) → AreSmall bytes → SmallSeen (contents.seen link bytes)
 small_seen link bytes all = small_ip_in (network link bytes) (small_network link bytes all)
 
 all_if : (b : Bool) (x y : List ScriptLine) → AllGo x → AllGo y → AllGo (if b then x else y)

@@ -26,10 +26,10 @@ use Rattle.captured_scripts.proofs.Fitting.{AllGo, taking_goes, packets_go}
 
 -- ---- what a spelled line is
 
-read_is : (l : ScriptLine) → Sits l → line_of (spelling l) ≡ Ok l
+pub read_is : (l : ScriptLine) → Sits l → line_of (spelling l) ≡ Ok l
 read_is l sits = ap line_of_words (words_split l sits.is_line) ∙ words_are l sits.is_line
 
-kind_none : (l : ScriptLine) → Sits l → is_out_of_place (name_of_words (words_in l)) ≡ false → later_kind (spelling l) ≡ None
+pub kind_none : (l : ScriptLine) → Sits l → is_out_of_place (name_of_words (words_in l)) ≡ false → later_kind (spelling l) ≡ None
 kind_none l sits e =
     ap (λ (ws : List (List ℕ)). if is_out_of_place (name_of_words ws) then Some kinds.Word else kind_of_read (line_of (spelling l))) (words_split l sits.is_line)
     ∙ ap (λ (b : Bool). if b then Some kinds.Word else kind_of_read (line_of (spelling l))) e
@@ -91,16 +91,16 @@ all_lines (l ∷ ls) all = (all.0.is_line, all_lines ls all.1)
 -- ---- the whole script
 
 -- the lines between header and end
-abbrev between : ℕ → Scripted → List ScriptLine → List ScriptLine
+abbrev pub between : ℕ → Scripted → List ScriptLine → List ScriptLine
 between size last ls =
     line.announce size ∷ line.announce size ∷ line.announce size ∷ line.flush 3 ∷ line.start ∷ (ls ++ with_takes (line.stop 0) (stopped last.p last.played))
 
-between_goes : (size : ℕ) (last : Scripted) (ls : List ScriptLine) → size ≤ 67108864 → AllGo ls → AllGo (between size last ls)
+pub between_goes : (size : ℕ) (last : Scripted) (ls : List ScriptLine) → size ≤ 67108864 → AllGo ls → AllGo (between size last ls)
 between_goes size last ls small all =
     let one = announce_goes size small in
     (one, (one, (one, (flush_goes, (start_goes, all_append Goes ls (with_takes (line.stop 0) (stopped last.p last.played)) all (stop_goes, taking_goes (stopped last.p last.played).filled))))))
 
-lines_are : (p size : ℕ) (last : Scripted) (ls : List ScriptLine)
+pub lines_are : (p size : ℕ) (last : Scripted) (ls : List ScriptLine)
     → (header_line p ∷ line.announce size ∷ line.announce size ∷ line.announce size ∷ line.flush 3 ∷ line.start ∷ [] ++ ls) ++ closing_lines last
     ≡ header_line p ∷ (between size last ls ++ line.end_of_script ∷ [])
 lines_are p size last ls =

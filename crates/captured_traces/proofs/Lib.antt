@@ -1,0 +1,16 @@
+pub mod Desk
+pub mod Holding
+pub mod Stages
+pub mod StageLines
+pub mod TurnLines
+pub mod ClaimLines
+pub mod Begins
+pub mod Wideness
+pub mod Walking
+pub mod Alike
+pub mod Steps
+pub mod Heard
+pub mod Widened
+pub mod Ends
+pub mod Packets
+pub mod Replayed
