@@ -3,3 +3,4 @@ pub mod Errands
 pub mod Answered
 pub mod Replaying
 pub mod Promised
+pub mod Completing

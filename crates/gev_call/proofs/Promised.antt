@@ -9,7 +9,7 @@ use Rattle.gev_top.specs.declared.live_numbers.LiveNumbers.{LiveNumbers}
 use Rattle.gev_live.specs.Told.{Told}
 use Rattle.gev_live.specs.LiveRun.{RunsLive}
 use Rattle.live_promises.proofs.Keeping.{live_runs_keep}
-use Rattle.gev_call.specs.Runs.{IsUntold, AreListed, told_by, numbers_of, RunsOver}
+use Rattle.gev_call.specs.Runs.{IsUntold, told_by, numbers_of, RunsOver}
 
 -- three members that came back to an empty list are the list
 all_back : {A : Type 0} (old new : Option (List A)) (a b d : A) → ComeBack old new (a ∷ b ∷ d ∷ []) → old ≡ Some [] → new ≡ Some (a ∷ b ∷ d ∷ [])

@@ -8,6 +8,7 @@ ghost use Rattle.gev_links.specs.Links.{IsBlank};
 ghost use Rattle.gev_links.specs.PortsState.{IsNew};
 ghost use Rattle.gev_binding.specs.Bound.{ComeBack, RaisesBy};
 ghost use Rattle.gev_top.specs.LiveWords.{IsInRange};
+ghost use Rattle.gev_top.specs.Completeness.{NoneRose, EndsLive};
 ghost use Rattle.gev_call.specs.Runs.{RunsOver, RunsNothing};
 
 use buffer_words::{Board, Pass};
@@ -102,6 +103,7 @@ fn run_over<R: Threads + Wait + Sync, K: Sink, P: Ports, G: Gate + Sync>(
     ensures links_steady { result ≢ Status.LinkFault → P.faults ports.new ≡ P.faults ports.old }
     ensures writes_steady { result ≢ Status.WriteFault → K.faults sink.new ≡ K.faults sink.old }
     ensures understood { (place : ℕ) → result ≢ Status.Usage place }
+    ensures complete { NoneRose (K.faults sink.old) (K.faults sink.new) → result ≢ Status.LinkFault → EndsLive result }
 {
     match Board::new(alloc) {
         Ok(made) => {
@@ -156,6 +158,7 @@ pub fn run_live<R: Threads + Wait + Sync, K: Sink, P: Ports, G: Gate + Sync>(
     ensures links_steady { result ≢ Status.LinkFault → P.faults ports.new ≡ P.faults ports.old }
     ensures writes_steady { result ≢ Status.WriteFault → K.faults sink.new ≡ K.faults sink.old }
     ensures understood { (place : ℕ) → result ≢ Status.Usage place }
+    ensures complete { NoneRose (K.faults sink.old) (K.faults sink.new) → result ≢ Status.LinkFault → EndsLive result }
 {
     match bind_three(ports) {
         Ok(links) => {

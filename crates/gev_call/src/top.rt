@@ -10,7 +10,8 @@ ghost use Rattle.gev_top.specs.declared.command.Command.{Command};
 ghost use Rattle.gev_top.specs.declared.command.Command.TheVariants as commands;
 ghost use Rattle.gev_top.specs.declared.live_numbers.LiveNumbers.{LiveNumbers};
 ghost use Rattle.gev_top.specs.Answers.{Answers, IsDecided, ReadsSteady};
-ghost use Rattle.gev_top.specs.LiveWords.{plain, live, errand_of, errand_fault};
+ghost use Rattle.gev_top.specs.LiveWords.{Errand, plain, live, errand_of, errand_fault};
+ghost use Rattle.gev_top.specs.Completeness.{NoneRose, CompletesErrand};
 ghost use Rattle.gev_call.specs.Runs.{RunsOver, RunsNothing};
 ghost use Rattle.gev_call.specs.Replayed.{ReplaysByHeadline};
 
@@ -78,6 +79,11 @@ pub fn gevacq_top<R: Threads + Wait + Sync, S: Source, K: Sink, P: Ports, G: Gat
     ensures none { (n : LiveNumbers) → errand_of (map (λ word. string_bytes word) words.now) ≡ Ok (live n) → kept.new ≡ None
         → RunsNothing result (K.written sink.old) (K.written sink.new) (K.faults sink.old) (K.faults sink.new) }
     ensures few_binds { P.binds ports.new ≤ P.binds ports.old + 3 }
+
+    // Where no count of faults rose, each command comes to one of its own ends, or memory was wanting.
+    ensures complete { (errand : Errand) → errand_of (map (λ word. string_bytes word) words.now) ≡ Ok errand
+        → NoneRose (S.faults source.old) (S.faults source.new) → NoneRose (K.faults sink.old) (K.faults sink.new)
+        → NoneRose (P.faults ports.old) (P.faults ports.new) → CompletesErrand errand (S.left source.old) result }
 
     // A count of faults changes only with the answer that tells of it; of a capture, that of the source may also
     // have changed where writing failed or memory ran out behind a read that failed.

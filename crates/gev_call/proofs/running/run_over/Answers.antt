@@ -3,6 +3,7 @@ use Rattle.std.proofs.Common.{arith}
 use Rattle.gev_call.proofs.Counted.{one_rose}
 use Rattle.gev_call.proofs.Promised.{ran_over}
 use Rattle.gev_call.proofs.Answered.{links_kept, link_failed, writes_kept}
+use Rattle.gev_call.proofs.Completing.{run_ends}
 use Rattle.gev_call.proofs.running.run_over.Goals as goal
 
 pub returns-in-Ok-clause-live : goal.returns-in-Ok-clause-live
@@ -34,3 +35,6 @@ returns-in-Ok-clause-links_steady g c =
 
 pub returns-in-Ok-clause-writes_steady : goal.returns-in-Ok-clause-writes_steady
 returns-in-Ok-clause-writes_steady g c = λ other. writes_kept _ _ _ _ _ _ _ _ _ _ _ c.live_over-status.ensures.live other
+
+pub returns-in-Ok-clause-complete : goal.returns-in-Ok-clause-complete
+returns-in-Ok-clause-complete g c = λ none other. run_ends _ _ _ _ _ _ _ _ _ _ _ c.live_over-status.ensures.live none other

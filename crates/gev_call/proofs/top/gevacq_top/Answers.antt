@@ -1,9 +1,10 @@
--- The words ask for no live run, and what they ask for is done.
-use Rattle.std.proofs.Common.{map, sym, ◌∙◌}
+-- The words ask for no live run, and what they ask for is done; or they ask for one.
+use Rattle.std.proofs.Common.{Some, map, ap, sym, ◌∙◌}
 use Rattle.std.specs.String.{string_bytes}
 use Rattle.gev_call.proofs.Errands.{fault_same, command_is, never_live, never_links}
 use Rattle.gev_top.specs.declared.command.Command.TheVariants as commands
 use Rattle.gev_call.proofs.Replaying.{by_headline}
+use Rattle.gev_call.proofs.Completing.{plain_completes, live_completes}
 use Rattle.gev_call.proofs.top.gevacq_top.Goals as goal
 
 pub returns-in-None-clause-usage : goal.returns-in-None-clause-usage
@@ -49,3 +50,16 @@ returns-in-None-clause-headline g c =
     λ is.
     by_headline c.plain_top.result _ _ _ _ _ _ _ _
     (c.plain_top.ensures.cause commands.Replay (command_is (map (λ word. string_bytes word) c.args.words.now) commands.Replay (sym c.in-None.ensures.said) is))
+
+pub returns-in-None-clause-complete : goal.returns-in-None-clause-complete
+returns-in-None-clause-complete g c =
+    λ errand is none none_written none_failed.
+    plain_completes (map (λ word. string_bytes word) c.args.words.now) (g.S.Source.left c.args.source.now) c.plain_top.result (sym c.in-None.ensures.said)
+    (λ command said. c.plain_top.ensures.complete command said none none_written) errand is
+
+pub returns-in-Ok-clause-complete : goal.returns-in-Ok-clause-complete
+returns-in-Ok-clause-complete g c =
+    λ errand is none none_written none_failed.
+    live_completes (map (λ word. string_bytes word) c.args.words.now) c.in-Ok.numbers (g.S.Source.left c.args.source.now) c.run_live.result
+    (sym c.in-Some.ensures.said ∙ ap (λ said. Some said) c.in-Ok.is)
+    (c.run_live.ensures.complete none_written (λ failed. none_failed (c.run_live.ensures.link_fault failed))) errand is
