@@ -12,7 +12,7 @@ import time
 # The command lines that are run, by what they read. Of a report the lines that begin with `# ` are notes.
 OF_REPLAY_SCRIPTS = ["replay"]
 OF_CAMERA_SCRIPTS = ["camera"]
-OF_CAPTURES = ["streams"]
+OF_CAPTURES = ["streams", "capture 49152 1464 4096"]
 # Those that read nothing. The numbers of make and soak are drawn anew, and of all now and then a word is changed.
 OF_NOTHING = ["make 1 3 50 50 50", "soak 1 3 50 50 50", "soak 1 3 50 0 0 short", "live 1 2 2 1 3"]
 
