@@ -14,7 +14,7 @@ use gentl_types::{BufferId, GcError};
 use gev_links::{MemoryClock, OpenGate};
 use gev_types::{Buf, PLACES, Record};
 use input_pool::claim;
-use output_queue::{FillEnd, fill};
+use output_queue::{FillEnd, TakeEnd, close, fill, take};
 use std::alloc::Global;
 use std::process::Abort;
 use std::sync::Wait;
@@ -34,17 +34,20 @@ enum Call {
     /// A borrow, and where it was granted a number of the loan, and the return.
     LoanInfo(BufferId, u32),
     Close,
+    /// The mark of a close alone: nothing is taken back.
+    Mark,
     /// A wait of no time, and where a buffer was taken its return.
     Get,
     Kill,
     Work(Work),
 }
 
-/// A call of the worker: on the pool, or on the buffer that it claimed.
+/// A call of the worker: on the pool, on the output, or on the buffer that it claimed or took.
 #[derive(Clone, Copy, Debug)]
 enum Work {
     Claim,
     Fill,
+    Take,
     Lay,
 }
 
@@ -58,8 +61,10 @@ enum Answer {
     /// The place of a taken buffer, and its record.
     Taken(u8, Record),
     Claimed(Option<u8>),
-    /// A fill found the stream closed.
+    /// A fill or a take found the stream closed.
     Closed,
+    /// A take found no buffer.
+    Empty,
     /// There is no claimed buffer.
     NothingClaimed,
 }
@@ -91,6 +96,10 @@ fn call_plain(
         }
         Call::Close => {
             board.ds_close(0);
+            Ok(Answer::Done)
+        }
+        Call::Mark => {
+            board.close(0);
             Ok(Answer::Done)
         }
         Call::Kill => {
@@ -148,7 +157,16 @@ fn fill_plain(rt: &impl Abort, board: &mut PlainBoard, actor: u8, place: u8) -> 
     }
 }
 
-/// A call of the worker, as this actor, which has claimed this place.
+/// The answer of a take.
+fn taken(end: TakeEnd) -> Answer {
+    match end {
+        TakeEnd::Taken(place) => Answer::Claimed(Some(place)),
+        TakeEnd::Empty => Answer::Empty,
+        TakeEnd::Closed => Answer::Closed,
+    }
+}
+
+/// A call of the worker, as this actor, which has this place.
 fn work_plain(
     rt: &impl Abort,
     board: &mut PlainBoard,
@@ -159,6 +177,7 @@ fn work_plain(
     assert!(rt; board.is_actor(actor));
     match (work, claimed) {
         (Work::Claim, _) => Answer::Claimed(board.claim(actor)),
+        (Work::Take, _) => taken(board.take(actor)),
         (Work::Fill, Some(place)) => fill_plain(rt, board, actor, place),
         (Work::Lay, Some(place)) => {
             assert!(rt; board.holds(actor, place));
@@ -198,6 +217,10 @@ fn call_shared<R: Wait>(
         Call::Get => get_shared(rt, board, pass),
         Call::Close => {
             ds_close(board, pass);
+            Ok(Answer::Done)
+        }
+        Call::Mark => {
+            close(board, pass);
             Ok(Answer::Done)
         }
         Call::Kill => {
@@ -240,7 +263,24 @@ fn fill_shared<R: Wait>(rt: &R, board: &Board, pass: &mut Pass, place: u8) -> Op
     }
 }
 
-/// A call of the worker, which has claimed this place.
+/// Takes a buffer from the output, which is then the worker's.
+fn take_shared<R: Wait>(rt: &R, board: &Board, pass: &mut Pass, claimed: &mut Option<u8>) -> Answer
+    requires table { pass.old.table ≡ board_id board.now }
+    ensures table { pass.new.table ≡ pass.old.table }
+    ensures holds { IfSome claimed.new (λ place. IsWhole pass.new place) }
+{
+    *claimed = None;
+    match take(rt, board, pass) {
+        TakeEnd::Taken(place) => {
+            *claimed = Some(place);
+            Answer::Claimed(*claimed)
+        }
+        TakeEnd::Empty => Answer::Empty,
+        TakeEnd::Closed => Answer::Closed,
+    }
+}
+
+/// A call of the worker, which has this place.
 fn work_shared<R: Wait>(
     rt: &R,
     board: &Board,
@@ -258,6 +298,7 @@ fn work_shared<R: Wait>(
             *claimed = claim(rt, board, pass);
             Answer::Claimed(*claimed)
         }
+        (Work::Take, _) => take_shared(rt, board, pass, claimed),
         (Work::Fill, Some(place)) => {
             *claimed = fill_shared(rt, board, pass, place);
             match *claimed {
@@ -397,4 +438,48 @@ fn both_boards_close_alike(rt: HostRuntime) -> Result<(), Fail> {
         (Call::Revoke(id(0, 1)), Ok(Answer::Revoked(3))),
     ];
     run_calls(&rt, rt.alloc(), &rows)
+}
+
+/// The worker gets the buffer of place 0 to where these rows leave it. There a queue and a revoke are refused, and
+/// after a flush the revoke is answered so; and on boards that were closed instead the worker's next call so.
+fn check_state<R: Wait + Abort>(
+    rt: &R,
+    alloc: Global,
+    steps: &[(Call, Result<Answer, i32>)],
+    revoked: Result<Answer, i32>,
+    next: (Call, Result<Answer, i32>),
+) -> Result<(), Fail> {
+    let begin = [announce(0, 1), (Call::Queue(id(0, 1)), Ok(Answer::Done))];
+    let mut rows = Vec::new(alloc);
+    rows.extend_from_slice(&begin)?;
+    rows.extend_from_slice(steps)?;
+    rows.push((Call::Revoke(id(0, 1)), Err(-1022)))?;
+    rows.push((Call::Queue(id(0, 1)), Err(-1004)))?;
+    rows.push((Call::Flush(4), Ok(Answer::Done)))?;
+    rows.push((Call::Revoke(id(0, 1)), revoked))?;
+    run_calls(rt, alloc, &rows)?;
+    let mut rows = Vec::new(alloc);
+    rows.extend_from_slice(&begin)?;
+    rows.extend_from_slice(steps)?;
+    rows.push((Call::Mark, Ok(Answer::Done)))?;
+    rows.push(next)?;
+    run_calls(rt, alloc, &rows)
+}
+
+// A buffer in the pool, in the worker's hands after a claim, in the output, and in the worker's hands after a take. What
+// the worker has isn't taken back, and a close lets it give that back.
+#[test]
+fn both_boards_answer_alike_in_each_state(rt: HostRuntime) -> Result<(), Fail> {
+    let alloc = rt.alloc();
+    let claims = (Call::Work(Work::Claim), Ok(Answer::Claimed(Some(0))));
+    let fills = (Call::Work(Work::Fill), Ok(Answer::Done));
+    let takes = (Call::Work(Work::Take), Ok(Answer::Claimed(Some(0))));
+    let lays = (Call::Work(Work::Lay), Ok(Answer::Done));
+    let fill_closed = (Call::Work(Work::Fill), Ok(Answer::Closed));
+    let take_closed = (Call::Work(Work::Take), Ok(Answer::Closed));
+    let (back, busy) = (Ok(Answer::Revoked(3)), Err(-1022));
+    check_state(&rt, alloc, &[], back, claims)?;
+    check_state(&rt, alloc, &[claims], busy, fill_closed)?;
+    check_state(&rt, alloc, &[claims, fills], back, take_closed)?;
+    check_state(&rt, alloc, &[claims, fills, takes], busy, lays)
 }
