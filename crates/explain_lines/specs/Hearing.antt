@@ -9,7 +9,6 @@ use Rattle.board_model.specs.Plain.{PlainState}
 use Rattle.gvsp_wire.specs.Reading.{packet_of}
 use Rattle.acquisition_machine.specs.declared.config.AcqConfig.{AcqConfig}
 use Rattle.acquisition_machine.specs.declared.need.Need.{Need}
-use Rattle.acquisition_machine.specs.Blocks.{Retirement}
 use Rattle.acquisition_machine.specs.Machine.{Input, request_bytes, datagram, tick}
 use Rattle.acquisition_machine.specs.Runs.{turn}
 use Rattle.acquisition_machine.specs.Runs.{After as StateAfter}
