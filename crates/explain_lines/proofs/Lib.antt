@@ -1,0 +1,9 @@
+pub mod Marks
+pub mod Dropped
+pub mod Tapes
+pub mod Filling
+pub mod Retiring
+pub mod Requests
+pub mod Datagrams
+pub mod Noted
+pub mod Streams
