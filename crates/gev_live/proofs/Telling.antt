@@ -27,7 +27,9 @@ use Rattle.gev_reader.proofs.Strict.{part_lays_nothing}
 use Rattle.gev_live.specs.Told.{Told, reader_side, live_config, live_camera}
 use Rattle.gev_live.specs.History.{live_size, LiveHistory}
 use Rattle.gev_live.specs.Endings.{taken_of, status_by, EndsSo}
-use Rattle.gev_live.specs.LiveRun.{Numbers, LiveRun, RunsLive}
+use Rattle.gev_acq.specs.declared.turn.Turn.{Turn}
+use Rattle.gev_live.specs.LiveRun.{Numbers, LiveRun, NeverRan, RunsLive}
+use Rattle.gev_live.specs.Journal.{JournaledRun, RunsWithJournal}
 use Rattle.gev_live.specs.Ran.{RanCrew}
 use Rattle.gev_live.proofs.Quiet.{one_size, takes_by}
 use Rattle.gev_live.proofs.CameraPart.{camera_part}
@@ -131,6 +133,19 @@ ran_live n camera stream answer o e served read taken lines written written_afte
         (home_own r.two r.three r.d r.worked_d r.back u u.seen r.crew.third (third_in u.seen) r.crew.ended_run)
         (takes_by r.d.number live_size n.buffers history.prepared history.since u.seen history.prepares history.begins history.hands)
 
+-- with the journal that the reader gave back
+pub ran_with_journal : (n : Numbers) (camera stream : Address) (answer : Status) (o e : Told) (served : ServeEnd) (read : AcqEnd) (taken : Result ℕ memory.NoMemory) (lines : List ℕ)
+    (written written_after : Option (List ℕ)) (faults faults_after : ℕ) (s u : Token) (journal : List Turn)
+    → SawOnly (Prepares live_size n.buffers) s
+    → ((ran : RanCrew live_config (live_camera n.seed) camera stream o e n.frames n.turns served read taken lines s u) × (ran.journal ≡ journal))
+    → EndsSo (status_by served read n.frames n.turns taken) answer (lines ++ live_line n.frames (taken_of taken)) written written_after faults faults_after
+    → JournaledRun n camera stream answer o e written written_after faults faults_after u.seen journal
+unfolding ran_live
+ran_with_journal n camera stream answer o e served read taken lines written written_after faults faults_after s u journal saw (ran, is) ends = record {
+  run = ran_live n camera stream answer o e served read taken lines written written_after faults faults_after s u saw ran ends;
+  journal_is = is;
+}
+
 pub ends_as : (first second status : Status) (lines : List ℕ) (frames taken count : ℕ) (written written_after : Option (List ℕ)) (faults faults_after : ℕ) → first ≡ second → taken ≡ count
     → EndsSo first status (lines ++ live_line frames taken) written written_after faults faults_after → EndsSo second status (lines ++ live_line frames count) written written_after faults faults_after
 ends_as first second status lines frames taken count written written_after faults faults_after e f ends =
@@ -154,9 +169,9 @@ runs_alone n camera stream answer o e written written_after faults faults_after 
 runs_alone n camera stream answer o e written written_after faults faults_after h (inr none) = none.alone
 
 -- memory was wanting before anything was done
-pub none_begun : (n : Numbers) (camera stream : Address) (o : Told) (written : Option (List ℕ)) (faults : ℕ) (h : List Entry) → 1 ≤ n.buffers → h ≡ []
-    → RunsLive n camera stream NoMemory o o written written faults faults h
-none_begun n camera stream o written faults h some none = inr (record {
+pub never_begun : (n : Numbers) (o : Told) (written : Option (List ℕ)) (faults : ℕ) (h : List Entry) → 1 ≤ n.buffers → h ≡ []
+    → NeverRan n NoMemory o o written written faults faults h
+never_begun n o written faults h some none = record {
   wanted = refl;
   events = [];
   short = record { ids = []; fewer = some; prepared = []; each = refl; last = []; looks = inl refl; is = refl };
@@ -165,4 +180,10 @@ none_begun n camera stream o written faults h some none = inr (record {
   untold = refl;
   unwritten = refl;
   no_fault = refl;
-})
+}
+
+-- a run is one also where nobody asks for the journal
+pub without_journal : (n : Numbers) (camera stream : Address) (answer : Status) (o e : Told) (written written_after : Option (List ℕ)) (faults faults_after : ℕ) (h : List Entry) (journal : List Turn)
+    → RunsWithJournal n camera stream answer o e written written_after faults faults_after h journal → RunsLive n camera stream answer o e written written_after faults faults_after h
+without_journal n camera stream answer o e written written_after faults faults_after h journal (inl noted) = inl noted.run
+without_journal n camera stream answer o e written written_after faults faults_after h journal (inr never) = inr never.0

@@ -4,4 +4,5 @@ pub mod Told
 pub mod Endings
 pub mod Parts
 pub mod LiveRun
+pub mod Journal
 pub mod Ran

@@ -15,4 +15,4 @@ mod tools;
 
 pub use ends::Ends;
 pub use finishing::{finish, status_by, taken_of};
-pub use live::live_over;
+pub use live::{live_over, live_with_journal};

@@ -13,13 +13,15 @@ ghost use Rattle.gev_serve.specs.Wires.{wire};
 ghost use Rattle.gev_crew.specs.Prepared.{SawOnly, Prepares};
 ghost use Rattle.gev_live.specs.History.{live_size};
 ghost use Rattle.gev_live.specs.Told.{AreNew};
-ghost use Rattle.gev_live.specs.LiveRun.{LiveRun, RunsLive};
+ghost use Rattle.gev_live.specs.LiveRun.{RunsLive};
+ghost use Rattle.gev_live.specs.Journal.{JournaledRun, RunsWithJournal};
 
 use crate::ends::Ends;
 use crate::finishing::{finish, status_by, taken_of};
 use crate::running::{CrewDone, run_crew};
 use crate::tools::{Tools, make_tools};
 use buffer_words::{Board, Pass};
+use gev_acq::Turn;
 use gev_crew::prepare;
 use gev_links::{Clock, Gate, Link, Sink};
 use gev_status::Status;
@@ -50,7 +52,7 @@ fn run_prepared<
     ends: Ends<L, S, C>,
     gate: &G,
     sink: &mut K,
-) -> (Status, Ends<L, S, C>)
+) -> (Status, Ends<L, S, C>, Vec<Turn>)
     requires table { pass.old.table ≡ board_id board.now }
     requires first { pass.old.number ≡ 0 }
     requires childless { born (own pass.old) ≡ [] }
@@ -58,7 +60,7 @@ fn run_prepared<
     ensures table { pass.new.table ≡ pass.old.table }
     ensures hands { SameHands pass.old pass.new }
     ensures live { (buffers : ℕ) → SawOnly (Prepares live_size buffers) pass.old
-        → LiveRun (record { seed = seed; frames = frames; buffers = buffers; turns = turns }) (L.address ends.camera) (S.address ends.stream) result.0
+        → JournaledRun (record { seed = seed; frames = frames; buffers = buffers; turns = turns }) (L.address ends.camera) (S.address ends.stream) result.0
         (record {
           camera = wire (L.received ends.camera) (L.sent ends.camera) (L.faults ends.camera);
           stream = wire (S.received ends.stream) (S.sent ends.stream) (S.faults ends.stream);
@@ -75,7 +77,7 @@ fn run_prepared<
           host_clock = C.told result.1.host_clock;
           app_clock = C.told result.1.app_clock;
         })
-        (K.written sink.old) (K.written sink.new) (K.faults sink.old) (K.faults sink.new) pass.new.seen }
+        (K.written sink.old) (K.written sink.new) (K.faults sink.old) (K.faults sink.new) pass.new.seen result.2.items }
 {
     let CrewDone {
         ends,
@@ -83,17 +85,18 @@ fn run_prepared<
         read,
         taken,
         lines,
+        journal,
     } = run_crew(
         rt, alloc, board, pass, seed, tools, ends, gate, turns, frames,
     );
     let first = status_by(served, read, frames, turns, &taken);
     let count = taken_of(&taken);
     let status = finish(alloc, sink, first, lines, frames, count);
-    (status, ends)
+    (status, ends, journal)
 }
 
-// Makes what the workers work with, prepares the board, and runs the workers.
-fn run_over<
+/// The run of `live_over`, with the journal of its reader: an entry for each turn, in order.
+pub fn live_with_journal<
     R: Threads + Wait + Sync,
     L: Link + Send + Drop,
     S: Link + Send + Drop,
@@ -113,7 +116,7 @@ fn run_over<
     ends: Ends<L, S, C>,
     gate: &G,
     sink: &mut K,
-) -> (Status, Ends<L, S, C>)
+) -> (Status, Ends<L, S, C>, Vec<Turn>)
     requires table { pass.old.table ≡ board_id board.now }
     requires first { pass.old.number ≡ 0 }
     requires unseen { pass.old.seen ≡ [] }
@@ -122,7 +125,7 @@ fn run_over<
     requires lanes { _lanes ≡ 1 }
     ensures table { pass.new.table ≡ pass.old.table }
     ensures hands { SameHands pass.old pass.new }
-    ensures live { RunsLive (record { seed = seed; frames = frames; buffers = buffers; turns = turns }) (L.address ends.camera) (S.address ends.stream) result.0
+    ensures live { RunsWithJournal (record { seed = seed; frames = frames; buffers = buffers; turns = turns }) (L.address ends.camera) (S.address ends.stream) result.0
         (record {
           camera = wire (L.received ends.camera) (L.sent ends.camera) (L.faults ends.camera);
           stream = wire (S.received ends.stream) (S.sent ends.stream) (S.faults ends.stream);
@@ -139,16 +142,16 @@ fn run_over<
           host_clock = C.told result.1.host_clock;
           app_clock = C.told result.1.app_clock;
         })
-        (K.written sink.old) (K.written sink.new) (K.faults sink.old) (K.faults sink.new) pass.new.seen }
+        (K.written sink.old) (K.written sink.new) (K.faults sink.old) (K.faults sink.new) pass.new.seen result.2.items }
 {
     match make_tools(alloc, seed, turns) {
         Ok(tools) => match prepare(alloc, board, pass, BUFFER_SIZE, buffers) {
             Ok(()) => run_prepared(
                 rt, alloc, board, pass, seed, frames, turns, tools, ends, gate, sink,
             ),
-            Err(_) => (Status::NoMemory, ends),
+            Err(_) => (Status::NoMemory, ends, Vec::new(alloc)),
         },
-        Err(_) => (Status::NoMemory, ends),
+        Err(_) => (Status::NoMemory, ends, Vec::new(alloc)),
     }
 }
 
@@ -214,7 +217,8 @@ pub fn live_over<
         → Rose (L.faults ends.camera) (L.faults result.1.camera) ⊎ Rose (S.faults ends.stream) (S.faults result.1.stream) ⊎ Rose (L.faults ends.control) (L.faults result.1.control) }
     ensures writes_steady { result.0 ≢ Status.WriteFault → K.faults sink.new ≡ K.faults sink.old }
 {
-    run_over(
+    let (status, ends, _journal) = live_with_journal(
         rt, alloc, board, pass, seed, frames, buffers, _lanes, turns, ends, gate, sink,
-    )
+    );
+    (status, ends)
 }

@@ -12,6 +12,7 @@ use crate::crew::work_crew;
 use crate::ends::Ends;
 use crate::tools::Tools;
 use buffer_words::{Board, Pass};
+use gev_acq::Turn;
 use gev_control::AcqEnd;
 use gev_crew::{ApplicationWork, CameraWork};
 use gev_links::{Clock, Gate, Link};
@@ -34,6 +35,8 @@ pub(crate) struct CrewDone<L, S, C> {
     pub(crate) taken: Result<u32, NoMemory>,
     /// Their lines.
     pub(crate) lines: Vec<u8>,
+    /// The reader's turns.
+    pub(crate) journal: Vec<Turn>,
 }
 
 /// Splits a pass off for each worker, runs the workers, and joins the passes.
@@ -61,7 +64,7 @@ pub(crate) fn run_crew<
     requires tools { AreNew seed turns tools.camera tools.acq tools.client tools.journal.items (vec_capacity tools.journal) tools.lines.items }
     ensures table { pass.new.table ≡ pass.old.table }
     ensures hands { SameHands pass.old pass.new }
-    ensures ran { RanCrew live_config (live_camera seed) (L.address ends.camera) (S.address ends.stream)
+    ensures ran { (ran : RanCrew live_config (live_camera seed) (L.address ends.camera) (S.address ends.stream)
         (record {
           camera = wire (L.received ends.camera) (L.sent ends.camera) (L.faults ends.camera);
           stream = wire (S.received ends.stream) (S.sent ends.stream) (S.faults ends.stream);
@@ -78,7 +81,7 @@ pub(crate) fn run_crew<
           host_clock = C.told result.ends.host_clock;
           app_clock = C.told result.ends.app_clock;
         })
-        frames turns result.served result.read result.taken result.lines.items pass.old pass.new }
+        frames turns result.served result.read result.taken result.lines.items pass.old pass.new) × (ran.journal ≡ result.journal.items) }
 {
     pass.witness();
     let watcher = board.split(pass);
@@ -100,7 +103,7 @@ pub(crate) fn run_crew<
         stream,
         control,
         clock: host_clock,
-        journal: _journal,
+        journal,
         end: read,
     } = told;
     let ApplicationWork {
@@ -126,5 +129,6 @@ pub(crate) fn run_crew<
         read,
         taken,
         lines,
+        journal,
     }
 }

@@ -2,11 +2,13 @@
 use Rattle.std.proofs.Common.{◌≡◌, ℕ, zero, suc, ◌+◌, ◌<◌, ◌≤◌, nat_lt, Bool, true, false, List, [], ◌∷◌, ◌++◌, length, map, take, Option, Some, None, if◌then◌else◌, refl, sym, ap, subst, ◌∙◌, arith, length-append}
 use Rattle.std.specs.List.{AllByRecursion}
 use Rattle.std.proofs.lemmas.Bool.{ltb-true, ltb-false}
-use Rattle.std.proofs.lemmas.List.{take-append-le}
+use Rattle.std.proofs.lemmas.List.{take-append-le, length-take}
 use Rattle.gev_types.specs.declared.peer.Peer.{Peer}
 use Rattle.gev_links.specs.Links.{Answer, came}
 use Rattle.gev_links.specs.Moments.{Tells}
+use Rattle.recorded_runs.specs.Marks.{IsReceived}
 use Rattle.gev_record.specs.declared.kept.Kept.{Kept}
+use Rattle.gev_record.specs.declared.kept.Kept.TheVariants.{Nothing, Came}
 use Rattle.gev_record.specs.Taped.{datagram_of, front_of, KeepsFront, kept_on, shown, Fits}
 
 map-append : {A B : Type 0} (f : A → B) (xs ys : List A) → map f (xs ++ ys) ≡ map f xs ++ map f ys
@@ -94,3 +96,9 @@ pub front_told : (was told told_after : Option (List Answer)) (n : ℕ) (front r
 front_told was told told_after n front rest peer same few tells =
     subst (λ w. Tells w told_after (came (take n (front ++ rest)) peer)) same
     (subst (λ l. Tells told told_after (came l peer)) (sym (take-append-le n front rest few)) tells)
+
+-- what fits was received so
+pub all_received : (ks : List Kept) → AllByRecursion Fits ks → AllByRecursion IsReceived (map shown ks)
+all_received [] all = tt
+all_received (Nothing ∷ ks) all = (tt, all_received ks all.1)
+all_received (Came bytes len ∷ ks) all = ((all.0.1, (let few = length-take len bytes in let short = all.0.0 in omega (arith, few, short))), all_received ks all.1)

@@ -1,5 +1,6 @@
 -- What a tape keeps of what its link told.
-use Rattle.std.specs.Prelude.{◌≡◌, ⊤, ℕ, ◌≤◌, nat_lt, List, [], ◌∷◌, ◌++◌, length, map, take, Option, Some, None, if◌then◌else◌}
+use Rattle.std.specs.Prelude.{◌≡◌, ⊤, ℕ, ◌<◌, ◌≤◌, nat_lt, List, [], ◌∷◌, ◌++◌, length, map, take, Option, Some, None, if◌then◌else◌}
+use Rattle.std.specs.List.{AllByRecursion}
 use Rattle.gev_links.specs.Links.{Answer, nothing, failed, came}
 use Rattle.gev_record.specs.declared.kept.Kept.{Kept}
 use Rattle.gev_record.specs.declared.kept.Kept.TheVariants.{Nothing, Came}
@@ -29,7 +30,7 @@ shown (Came bytes len) = Some (take len bytes)
 
 abbrev pub Fits : Kept → Type 0
 Fits Nothing = ⊤
-Fits (Came bytes len) = len ≤ 1600
+Fits (Came bytes len) = (len ≤ 1600) × AllByRecursion (λ b. b < 256) (take len bytes)
 
 -- A tape: its link, how many receives it keeps, and what those gave that were made.
 pub record TapeState (L : Type 0) : Type 0 where

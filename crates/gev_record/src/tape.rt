@@ -1,7 +1,9 @@
 ghost use Rattle.std.specs.Prelude.{◌≡◌, ◌≤◌, ℕ, [], length, vec_capacity, map, get_or, Option, Some, None, IfOk, IfSome, IfErr, OnOk, OnErr, option_map};
 ghost use Rattle.gev_links.specs.Faults.{Rose};
 ghost use Rattle.gev_links.specs.Links.{IsBlank};
-ghost use Rattle.gev_record.specs.Taped.{kept_on};
+ghost use Rattle.std.specs.List.{AllByRecursion};
+ghost use Rattle.recorded_runs.specs.Marks.{IsReceived};
+ghost use Rattle.gev_record.specs.Taped.{KeepsFront, kept_on, shown, Fits};
 
 use crate::kept::{Kept, ROOM};
 use gev_links::{Failed, Link};
@@ -60,6 +62,14 @@ impl<L: Link> Tape<L> {
         self.kept.len()
     }
 
+    /// What it keeps, for a proof: what the first receives of its link gave, datagrams of at most 1,600 bytes.
+    pub fn witness(&self)
+        ensures front { KeepsFront self.now.turns (L.received self.now.inner) self.now.kept }
+        ensures received { AllByRecursion IsReceived self.now.kept }
+    {
+        let _ = &self.inner;
+    }
+
     /// The datagram of a receive, which are numbered from 0; None where none came, where the receive failed, and
     /// where it wasn't kept.
     pub fn datagram(&self, turn: u32) -> Option<&[u8]>
@@ -78,6 +88,20 @@ impl<L: Link> Tape<L> {
             Some(Kept::Nothing) => None,
             None => None,
         }
+    }
+}
+
+/// A datagram that came, as it is kept.
+fn came(bytes: &[u8]) -> Kept
+    requires short { length bytes.now ≤ 1600 }
+    ensures shown { shown result ≡ Some bytes.now }
+    ensures fits { Fits result }
+{
+    let mut kept = [0; ROOM];
+    kept[..bytes.len()].copy_from_slice(bytes);
+    Kept::Came {
+        bytes: kept,
+        len: bytes.len(),
     }
 }
 
@@ -109,9 +133,7 @@ impl<L: Link> Link for Tape<L> {
         let room = out.len().min(ROOM);
         match self.inner.recv(&mut out[..room]) {
             Ok(Some((len, peer))) => {
-                let mut bytes = [0; ROOM];
-                bytes[..len].copy_from_slice(&out[..len]);
-                keep(&mut self.kept, self.turns, Kept::Came { bytes, len });
+                keep(&mut self.kept, self.turns, came(&out[..len]));
                 Ok(Some((len, peer)))
             }
             Ok(None) => {

@@ -1,7 +1,7 @@
 use Rattle.std.proofs.Common.{sym, subst}
 use Rattle.gev_live.specs.Endings.{IsAnswer}
 use Rattle.gev_live.proofs.Statuses.{all_answers}
-use Rattle.gev_live.proofs.Telling.{ran_live, ends_as}
+use Rattle.gev_live.proofs.Telling.{ran_with_journal, ends_as}
 use Rattle.gev_live.proofs.live.run_prepared.Goals as goal
 
 pub finish-status-requires : goal.finish-status-requires
@@ -10,5 +10,5 @@ finish-status-requires g c = record {
 }
 
 pub returns-clause-live : goal.returns-clause-live
-returns-clause-live g c = λ buffers saw. ran_live _ _ _ _ _ _ c.run_crew-ends.result.served c.run_crew-ends.result.read c.run_crew-ends.result.taken c.run_crew-ends.result.lines.items _ _ _ _ c.args.pass.now _ saw c.run_crew-ends.ensures.ran
+returns-clause-live g c = λ buffers saw. ran_with_journal _ _ _ _ _ _ c.run_crew-ends.result.served c.run_crew-ends.result.read c.run_crew-ends.result.taken c.run_crew-ends.result.lines.items _ _ _ _ c.args.pass.now _ _ saw c.run_crew-ends.ensures.ran
     (ends_as _ _ _ _ _ _ _ _ _ _ _ c.status_by-first.ensures c.taken_of-count.ensures c.finish-status.ensures.ends)
