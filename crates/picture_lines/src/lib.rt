@@ -12,6 +12,8 @@ mod hearing;
 mod laws;
 mod lines;
 mod looks;
+#[cfg(test)]
+mod tests;
 
 pub use datagrams::datagram;
 pub use laws::{other_lines_note_nothing, tables_stand};
