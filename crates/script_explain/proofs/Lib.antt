@@ -1,0 +1,3 @@
+pub mod Silent
+pub mod Started
+pub mod States
