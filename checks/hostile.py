@@ -10,7 +10,7 @@ import tempfile
 import time
 
 # The command lines that are run, by what they read. Of a report the lines that begin with `# ` are notes.
-OF_REPLAY_SCRIPTS = ["replay"]
+OF_REPLAY_SCRIPTS = ["replay", "explain"]
 OF_CAMERA_SCRIPTS = ["camera"]
 OF_CAPTURES = ["streams", "capture 49152 1464 4096"]
 # Those that read nothing. The numbers of make and soak are drawn anew, and of all now and then a word is changed.

@@ -150,6 +150,21 @@ fn other_words_bind_nothing(rt: HostRuntime) -> Result<(), Fail> {
         0,
         false,
     )?;
+    let explained = "\
+# 2 0 blocks opened=0 complete=0 incomplete=0 unbuffered=0 open=0 absent=0 dropped=0
+end taken=0 fills=0 complete=0 underrun=0 requests=0 foreign=0 late=0 repeat=0 misfit=0 starved=0 notice=0 idle=0
+";
+    check_words(
+        &rt,
+        rt.alloc(),
+        &["explain"],
+        script,
+        &mut ports,
+        Status::Done,
+        explained,
+        0,
+        false,
+    )?;
     let rows: [(&[&str], u32); 9] = [
         (&[], 0),
         (&["lives"], 0),

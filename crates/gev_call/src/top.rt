@@ -14,6 +14,7 @@ ghost use Rattle.gev_top.specs.LiveWords.{Errand, plain, live, errand_of, errand
 ghost use Rattle.gev_top.specs.Completeness.{NoneRose, CompletesErrand};
 ghost use Rattle.gev_call.specs.Runs.{RunsOver, RunsNothing};
 ghost use Rattle.gev_call.specs.Replayed.{ReplaysByHeadline};
+ghost use Rattle.gev_call.specs.Explained.{ExplainsByHeadline};
 
 use crate::running::run_live;
 use buffer_words::{Board, Pass};
@@ -26,7 +27,7 @@ use std::thread::Threads;
 
 /// Does what the words say. This is what `main` calls.
 ///
-/// `replay`, `streams`, `capture`, `camera`, `make` and `soak` do what `plain_top` says; they make no use of the
+/// `replay`, `explain`, `streams`, `capture`, `camera`, `make` and `soak` do what `plain_top` says; they make no use of the
 /// ports, and nothing is kept.
 ///
 /// `live` with a seed, a number of frames, of buffers, of lanes and of turns runs a camera, a receiver and an
@@ -59,9 +60,12 @@ pub fn gevacq_top<R: Threads + Wait + Sync, S: Source, K: Sink, P: Ports, G: Gat
         (K.written sink.old) (K.written sink.new) (K.faults sink.old) (K.faults sink.new) }
     ensures exact { (command : Command) → errand_of (map (λ word. string_bytes word) words.now) ≡ Ok (plain command)
         → IfTold (S.left source.old) (λ content. IsDecided command result content) }
-    // Behind each line the trace of a replay keeps the headline.
+    // Behind each line the trace of a replay keeps the headline, and so does that of an explanation.
     ensures headline { errand_of (map (λ word. string_bytes word) words.now) ≡ Ok (plain commands.Replay)
         → ReplaysByHeadline result (S.left source.old) (S.left source.new) (S.faults source.old) (S.faults source.new)
+        (K.written sink.old) (K.written sink.new) (K.faults sink.old) (K.faults sink.new) }
+    ensures explained { errand_of (map (λ word. string_bytes word) words.now) ≡ Ok (plain commands.Explain)
+        → ExplainsByHeadline result (S.left source.old) (S.left source.new) (S.faults source.old) (S.faults source.new)
         (K.written sink.old) (K.written sink.new) (K.faults sink.old) (K.faults sink.new) }
     ensures plain_ports { (command : Command) → errand_of (map (λ word. string_bytes word) words.now) ≡ Ok (plain command)
         → (P.binds ports.new ≡ P.binds ports.old) × (P.links ports.new ≡ P.links ports.old) × (P.clocks ports.new ≡ P.clocks ports.old)

@@ -9,13 +9,14 @@ use Rattle.gev_make.specs.MakeText.{make_text}
 use Rattle.gev_status.specs.declared.status.Status.{Status}
 use Rattle.gev_status.specs.declared.status.Status.TheVariants.{Done, Usage, BadScript, ReadFault, WriteFault, LinkFault, NoMemory, NoAnswer, Refused, TurnsSpent, BadCapture}
 use Rattle.gev_top.specs.declared.command.Command.{Command}
-use Rattle.gev_top.specs.declared.command.Command.TheVariants.{Replay, Streams, Capture, Camera, Make, Soak}
+use Rattle.gev_top.specs.declared.command.Command.TheVariants.{Replay, Explain, Streams, Capture, Camera, Make, Soak}
 use Rattle.gev_top.specs.Soaking.{status_after}
 use Rattle.gev_capture.specs.Sightings.{Sighting}
 use Rattle.capture_runs.specs.Ends.{RunEnds}
 use Rattle.capture_streams.specs.Texts.{streams_text, listed_text}
 use Rattle.capture_script.specs.Script.{capture_script, begun_script}
 use Rattle.gev_top.specs.Capturing.{IfCaptured}
+use Rattle.gev_top.specs.Explained.{Explains}
 use Rattle.gev_top.specs.Usage.{Said}
 use Rattle.gev_top.specs.Answers.{Replays, Serves, Writes, Answers, IsDecided}
 use Rattle.gev_top.specs.Completeness.{NoneRose, EndsScript, EndsCapture, EndsText, EndsWorld, IsComplete, Completes}
@@ -33,6 +34,20 @@ replayed (Refused status) left left_after reads reads_after written written_afte
 replayed LinkFault left left_after reads reads_after written written_after writes writes_after h none none_written = h
 replayed (TurnsSpent turns frames) left left_after reads reads_after written written_after writes writes_after h none none_written = h
 replayed (BadCapture number kind) left left_after reads reads_after written written_after writes writes_after h none none_written = h
+
+explained : (status : Status) (left left_after : Option (List ℕ)) (reads reads_after : ℕ) (written written_after : Option (List ℕ)) (writes writes_after : ℕ)
+    → Explains status left left_after reads reads_after written written_after writes writes_after → NoneRose reads reads_after → NoneRose writes writes_after → EndsScript status
+explained Done left left_after reads reads_after written written_after writes writes_after h none none_written = tt
+explained (BadScript line kind) left left_after reads reads_after written written_after writes writes_after h none none_written = tt
+explained NoMemory left left_after reads reads_after written written_after writes writes_after h none none_written = tt
+explained ReadFault left left_after reads reads_after written written_after writes writes_after h none none_written = none h.run.holds.ends.0
+explained WriteFault left left_after reads reads_after written written_after writes writes_after h none none_written = none_written h.run.holds.ends.0
+explained (Usage place) left left_after reads reads_after written written_after writes writes_after h none none_written = h
+explained (NoAnswer req) left left_after reads reads_after written written_after writes writes_after h none none_written = h
+explained (Refused status) left left_after reads reads_after written written_after writes writes_after h none none_written = h
+explained LinkFault left left_after reads reads_after written written_after writes writes_after h none none_written = h
+explained (TurnsSpent turns frames) left left_after reads reads_after written written_after writes writes_after h none none_written = h
+explained (BadCapture number kind) left left_after reads reads_after written written_after writes writes_after h none none_written = h
 
 served : (status : Status) (left left_after : Option (List ℕ)) (reads reads_after : ℕ) (written written_after : Option (List ℕ)) (writes writes_after : ℕ)
     → Serves status left left_after reads reads_after written written_after writes writes_after → NoneRose reads reads_after → NoneRose writes writes_after → EndsScript status
@@ -88,6 +103,8 @@ pub completes : (command : Command) (status : Status) (left left_after : Option 
     → Answers command status left left_after reads reads_after written written_after writes writes_after → NoneRose reads reads_after → NoneRose writes writes_after → IsComplete command status
 completes Replay status left left_after reads reads_after written written_after writes writes_after h none none_written =
     replayed status left left_after reads reads_after written written_after writes writes_after h none none_written
+completes Explain status left left_after reads reads_after written written_after writes writes_after h none none_written =
+    explained status left left_after reads reads_after written written_after writes writes_after h none none_written
 completes Streams status left left_after reads reads_after written written_after writes writes_after h none none_written =
     captured streams_text listed_text status left left_after reads reads_after written written_after writes writes_after h none none_written
 completes (Capture port p bytes) status left left_after reads reads_after written written_after writes writes_after h none none_written =

@@ -72,9 +72,9 @@ appends_none None = refl
 appends_none (Some bytes) = ap (λ u. Some u) (sym (append-nil bytes))
 
 -- nothing was read or written, for want of memory
-pub unbegun : {M : Type 0} (moves : Running M) (refuses : Refusing M) (Keeps : M → Type 0) (Says : List ℕ → M → Type 0) (first : M) → IsKept moves Keeps Says first
-    → (left : Option (List ℕ)) (reads : ℕ) (written : Option (List ℕ)) (writes : ℕ) → Ends moves refuses Keeps Says first endings.NoMemory left left reads reads written written writes writes
-unbegun moves refuses Keeps Says first kept left reads written writes = record {
+pub run_unbegun : {M : Type 0} (moves : Running M) (refuses : Refusing M) (first : M) (left : Option (List ℕ)) (reads : ℕ) (written : Option (List ℕ)) (writes : ℕ)
+    → RunEnds moves refuses first endings.NoMemory left left reads reads written written writes writes
+run_unbegun moves refuses first left reads written writes = record {
   now = first;
   lines = [];
   rest = [];
@@ -84,8 +84,13 @@ unbegun moves refuses Keeps Says first kept left reads written writes = record {
   counted = omega arith;
   few = omega arith;
   ran = (refl, refl);
-  holds = record { keeps = kept.so_far [] [] first tt (refl, refl); said = kept.said [] [] first (refl, refl); ends = appends_none written };
+  holds = appends_none written;
 }
+
+pub unbegun : {M : Type 0} (moves : Running M) (refuses : Refusing M) (Keeps : M → Type 0) (Says : List ℕ → M → Type 0) (first : M) → IsKept moves Keeps Says first
+    → (left : Option (List ℕ)) (reads : ℕ) (written : Option (List ℕ)) (writes : ℕ) → Ends moves refuses Keeps Says first endings.NoMemory left left reads reads written written writes writes
+unbegun moves refuses Keeps Says first kept left reads written writes =
+    ends_well moves refuses Keeps Says first kept endings.NoMemory left left reads reads written written writes writes (run_unbegun moves refuses first left reads written writes)
 
 answers : (ending : Ending) (found : Outcome) → runs.AnswersContent ending found → AnswersContent (status_of ending) found
 answers endings.Done whole h = h

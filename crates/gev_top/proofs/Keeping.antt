@@ -20,7 +20,7 @@ pub record IsKept {M : Type 0} (runs : Running M) (Keeps : M → Type 0) (Says :
       → RunsLines runs first 0 lines text new → Says text new
 
 -- the lines before, with one more
-lines_more : {M : Type 0} (runs : Running M) (m mid new : M) (n k : ℕ) (lines : List (List ℕ)) (text line report : List ℕ) → n + length lines + 1 ≡ k
+pub lines_more : {M : Type 0} (runs : Running M) (m mid new : M) (n k : ℕ) (lines : List (List ℕ)) (text line report : List ℕ) → n + length lines + 1 ≡ k
     → RunsLines runs m n lines text mid → runs mid k line GoesOn report new → RunsLines runs m n (lines ++ line ∷ []) (text ++ report) new
 lines_more runs m mid new n k [] text line report at (silent, is) run =
     let on : n + 1 ≡ k = let a = at in omega (arith, a) in

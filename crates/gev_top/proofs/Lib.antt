@@ -1,5 +1,7 @@
 pub mod Keeping
 pub mod Endings
+pub mod Bettering
 pub mod Kept
+pub mod ExplainedRuns
 pub mod Captured
 pub mod Completing

@@ -11,8 +11,9 @@ use Rattle.gev_make.specs.MakeText.{make_text}
 use Rattle.gev_status.specs.declared.status.Status.{Status}
 use Rattle.gev_status.specs.declared.status.Status.TheVariants.{Done, Usage, BadScript, ReadFault, WriteFault, LinkFault, NoMemory, NoAnswer, Refused, TurnsSpent, BadCapture}
 use Rattle.gev_top.specs.declared.command.Command.{Command}
-use Rattle.gev_top.specs.declared.command.Command.TheVariants.{Replay, Streams, Capture, Camera, Make, Soak}
+use Rattle.gev_top.specs.declared.command.Command.TheVariants.{Replay, Explain, Streams, Capture, Camera, Make, Soak}
 use Rattle.gev_top.specs.Scripts.{Ends, IfEnded, AnswersContent}
+use Rattle.gev_top.specs.Explained.{Explains}
 use Rattle.gev_top.specs.Soaking.{Soaks}
 use Rattle.gev_top.specs.Capturing.{ListsStreams, ScriptsCapture, IsCaptureRead, AnswersCapture}
 
@@ -63,6 +64,7 @@ pub record Makes (text : List ℕ) (status : Status) (left left_after : Option (
 -- stood in the sink, and the numbers are the counts of faults of both
 abbrev pub Answers : Command → Status → Option (List ℕ) → Option (List ℕ) → ℕ → ℕ → Option (List ℕ) → Option (List ℕ) → ℕ → ℕ → Type 0
 Answers Replay = Replays
+Answers Explain = Explains
 Answers Streams = ListsStreams
 Answers (Capture port p bytes) = ScriptsCapture port p bytes
 Answers Camera = Serves
@@ -74,6 +76,7 @@ Answers (Soak seed frames rates short) = Soaks (record { seed = seed; frames = f
 -- writing failed and that memory ran out.
 abbrev pub ReadsSteady : Command → Status → ℕ → ℕ → Type 0
 ReadsSteady Replay status reads reads_after = status ≢ ReadFault → reads_after ≡ reads
+ReadsSteady Explain status reads reads_after = status ≢ ReadFault → reads_after ≡ reads
 ReadsSteady Streams status reads reads_after = IsCaptureRead status → reads_after ≡ reads
 ReadsSteady (Capture port p bytes) status reads reads_after = IsCaptureRead status → reads_after ≡ reads
 ReadsSteady Camera status reads reads_after = status ≢ ReadFault → reads_after ≡ reads
@@ -83,6 +86,7 @@ ReadsSteady (Soak seed frames rates short) status reads reads_after = status ≢
 -- the answer where a source holds these bytes, but for faults and want of memory
 abbrev pub IsDecided : Command → Status → List ℕ → Type 0
 IsDecided Replay status content = AnswersContent status (outcome replay.replay_verdict content)
+IsDecided Explain status content = AnswersContent status (outcome replay.replay_verdict content)
 IsDecided Streams status content = AnswersCapture status content
 IsDecided (Capture port p bytes) status content = AnswersCapture status content
 IsDecided Camera status content = AnswersContent status (outcome camera.camera_verdict content)

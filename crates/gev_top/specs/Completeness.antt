@@ -5,7 +5,7 @@ use Rattle.script_runs.specs.Verdicts.{IfTold}
 use Rattle.gev_status.specs.declared.status.Status.{Status}
 use Rattle.gev_status.specs.declared.status.Status.TheVariants.{Done, BadScript, NoMemory, NoAnswer, Refused, TurnsSpent, BadCapture}
 use Rattle.gev_top.specs.declared.command.Command.{Command}
-use Rattle.gev_top.specs.declared.command.Command.TheVariants.{Replay, Streams, Capture, Camera, Make, Soak}
+use Rattle.gev_top.specs.declared.command.Command.TheVariants.{Replay, Explain, Streams, Capture, Camera, Make, Soak}
 use Rattle.gev_top.specs.Answers.{IsDecided}
 use Rattle.gev_top.specs.LiveWords.{Errand, plain, live}
 
@@ -56,6 +56,7 @@ EndsLive _ = ⊥
 
 abbrev pub IsComplete : Command → Status → Type 0
 IsComplete Replay = EndsScript
+IsComplete Explain = EndsScript
 IsComplete Streams = EndsCapture
 IsComplete (Capture port p bytes) = EndsCapture
 IsComplete Camera = EndsScript

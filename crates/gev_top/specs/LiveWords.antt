@@ -1,9 +1,9 @@
 -- The words of a live run, and what the words of any command line ask for.
-use Rattle.std.specs.Prelude.{◌≡◌, ℕ, ◌≤◌, ◌^◌, ◌-◌, List, [], ◌∷◌, codes, Option, Some, None, Result, Ok, Err, if◌then◌else◌}
+use Rattle.std.specs.Prelude.{◌≡◌, ℕ, ◌≤◌, ◌^◌, ◌-◌, List, [], ◌∷◌, codes, Option, Some, None, Ok, Err, if◌then◌else◌}
 use Rattle.std.specs.Str.{bytes_eq}
 use Rattle.gev_top.specs.declared.command.Command.{Command}
 use Rattle.gev_top.specs.declared.live_numbers.LiveNumbers.{LiveNumbers}
-use Rattle.gev_top.specs.Usage.{Said, ◌>>=◌, number_at, none_at, command_of, place_of}
+use Rattle.gev_top.specs.Usage.{Said, ◌>>=◌, number_at, none_at, command_of}
 
 -- `live <seed> <frames> <buffers> <lanes> <turns>`
 abbrev pub live_of : List (List ℕ) → Said LiveNumbers

@@ -5,7 +5,7 @@ use Rattle.gev_script.specs.Words.{Read}
 use Rattle.gev_script.specs.Numbers.{number_in}
 use Rattle.lossy_queue.specs.declared.rates.Rates.{Rates}
 use Rattle.gev_top.specs.declared.command.Command.{Command}
-use Rattle.gev_top.specs.declared.command.Command.TheVariants.{Replay, Streams, Capture, Camera, Make, Soak}
+use Rattle.gev_top.specs.declared.command.Command.TheVariants.{Replay, Explain, Streams, Capture, Camera, Make, Soak}
 use Rattle.gev_top.specs.declared.numbers.Numbers.{Numbers}
 
 -- What words say, or the place of the first word with which no command line goes on, from 0. Where more
@@ -52,6 +52,12 @@ abbrev pub replay_of : List (List ℕ) → Said Command
 replay_of words = do
   done ← none_at 1 words
   Ok Replay
+
+-- `explain`
+abbrev pub explain_of : List (List ℕ) → Said Command
+explain_of words = do
+  done ← none_at 1 words
+  Ok Explain
 
 -- `streams`
 abbrev pub streams_of : List (List ℕ) → Said Command
@@ -115,6 +121,7 @@ pub record HasSizes (p bytes : ℕ) : Type 0 where
 -- the numbers of a command are in the ranges that it asks for
 abbrev pub IsInRange : Command → Type 0
 IsInRange Replay = ⊤
+IsInRange Explain = ⊤
 IsInRange Streams = ⊤
 IsInRange (Capture port p bytes) = HasSizes p bytes
 IsInRange Camera = ⊤
@@ -125,6 +132,7 @@ IsInRange (Soak seed frames rates short) = ⊤
 abbrev pub named : List ℕ → List (List ℕ) → Said Command
 named name words =
     if bytes_eq name (codes "replay") then replay_of words
+    else if bytes_eq name (codes "explain") then explain_of words
     else if bytes_eq name (codes "streams") then streams_of words
     else if bytes_eq name (codes "capture") then capture_of words
     else if bytes_eq name (codes "camera") then camera_of words

@@ -5,6 +5,9 @@ use lossy_queue::Rates;
 pub enum Command {
     /// Run a replay script, and write its report.
     Replay,
+    /// Run a replay script, and write its report with notes: which frames were lost, why each incomplete one is as it
+    /// is, and what became of each datagram that is in no image.
+    Explain,
     /// List the image streams in a capture.
     Streams,
     /// Write a replay script of the datagrams to one port of a capture.

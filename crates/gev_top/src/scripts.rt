@@ -2,6 +2,7 @@ ghost use Rattle.std.specs.Prelude.{◌≡◌, ◌≢◌};
 ghost use Rattle.script_runs.specs.Outcomes.{RunEnds};
 ghost use Rattle.script_runs.specs.Verdicts.{outcome, IfTold};
 ghost use Rattle.gev_top.specs.Answers.{Replays, Serves, IsDecided};
+ghost use Rattle.gev_top.specs.Explained.{Explains};
 ghost use Rattle.gev_top.specs.Scripts.{status_of, IfEnded, AnswersContent};
 ghost use Rattle.gev_top.specs.declared.command.Command.TheVariants as commands;
 
@@ -9,6 +10,7 @@ use camera_replay::CameraRun;
 use gev_links::{Sink, Source};
 use gev_status::Status;
 use gev_types::NoMemory;
+use script_explain::Explain;
 use script_replay::Replay;
 use script_runs::{Ending, Modelled, run_modelled};
 use std::alloc::Global;
@@ -54,6 +56,21 @@ pub fn replay<S: Source, K: Sink>(alloc: Global, source: &mut S, sink: &mut K) -
     ensures writes_steady { result ≢ Status.WriteFault → K.faults sink.new ≡ K.faults sink.old }
 {
     match Replay::new(alloc) {
+        Ok(mut machine) => run(alloc, source, sink, &mut machine),
+        Err(NoMemory) => Status::NoMemory,
+    }
+}
+
+/// Runs a replay script and writes its report, and before the report of each line what it tells of lost frames and
+/// of datagrams that are in no image.
+pub fn explain<S: Source, K: Sink>(alloc: Global, source: &mut S, sink: &mut K) -> Status
+    ensures cause { Explains result (S.left source.old) (S.left source.new) (S.faults source.old) (S.faults source.new)
+        (K.written sink.old) (K.written sink.new) (K.faults sink.old) (K.faults sink.new) }
+    ensures exact { IfTold (S.left source.old) (λ content. IsDecided commands.Explain result content) }
+    ensures reads_steady { result ≢ Status.ReadFault → S.faults source.new ≡ S.faults source.old }
+    ensures writes_steady { result ≢ Status.WriteFault → K.faults sink.new ≡ K.faults sink.old }
+{
+    match Explain::new(alloc) {
         Ok(mut machine) => run(alloc, source, sink, &mut machine),
         Err(NoMemory) => Status::NoMemory,
     }

@@ -9,6 +9,7 @@ mod board_states;
 mod cameras;
 mod capture_scripts;
 mod captures;
+mod explanations;
 mod faults;
 mod faults_of_commands;
 mod handles;

@@ -8,6 +8,11 @@ gevacq replay
     Runs a script of buffer calls, datagrams and moments: reads it from standard
     input and writes its report, line by line, to standard output.
 
+gevacq explain
+    Runs the same script, and writes before the report of each line what it tells
+    of lost frames and of datagrams that are in no image: why each incomplete
+    image is as it is, in lines that begin with `# `.
+
 gevacq streams
     Lists the image streams in a capture: reads a pcap or pcapng file from standard
     input and writes a line for each stream.
@@ -59,6 +64,7 @@ docs/FORMATS.md.
 /// A line for each command line, printed behind the text of words that weren't understood.
 pub(crate) const USAGE: &str = "\
 usage: gevacq replay
+usage: gevacq explain
 usage: gevacq streams
 usage: gevacq capture <port> <p> <bytes>
 usage: gevacq camera

@@ -2,6 +2,7 @@
 
 use super::cameras::{CAMERA_REPORT, CAMERA_SCRIPT};
 use super::captures::{CAPTURE, STREAMS};
+use super::explanations::EXPLANATION;
 use super::making::ALL_LOST;
 use super::soaking::THREE_FRAMES;
 use super::{SCRIPT, word_list};
@@ -81,6 +82,8 @@ fn each_command_tells_of_faults(rt: HostRuntime) -> Result<(), Fail> {
     let capture = hex::decode(alloc, CAPTURE)?;
     check_writes(&rt, alloc, &["streams"], &capture, STREAMS)?;
     check_reads(&rt, alloc, &["streams"], &capture, STREAMS)?;
+    check_writes(&rt, alloc, &["explain"], SCRIPT.as_bytes(), EXPLANATION)?;
+    check_reads(&rt, alloc, &["explain"], SCRIPT.as_bytes(), EXPLANATION)?;
     let script = CAMERA_SCRIPT.as_bytes();
     check_writes(&rt, alloc, &["camera"], script, CAMERA_REPORT)?;
     check_reads(&rt, alloc, &["camera"], script, CAMERA_REPORT)?;

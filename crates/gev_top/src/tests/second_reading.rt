@@ -16,8 +16,9 @@ use std::test::Fail;
 type Words = &'static [&'static str];
 
 /// Command lines of one word.
-const WORDS_ALONE: [(Words, Command); 3] = [
+const WORDS_ALONE: [(Words, Command); 4] = [
     (&["replay"], Command::Replay),
+    (&["explain"], Command::Explain),
     (&["streams"], Command::Streams),
     (&["camera"], Command::Camera),
 ];
@@ -43,11 +44,12 @@ const CAPTURES: [(Words, Command); 2] = [
 ];
 
 /// Refused words: the place of the first that isn't understood, and what `clap` finds wrong.
-const REFUSED: [(Words, u32, ErrorKind); 19] = [
+const REFUSED: [(Words, u32, ErrorKind); 20] = [
     (&[], 0, ErrorKind::MissingSubcommand),
     (&["reply"], 0, ErrorKind::InvalidSubcommand),
     (&["Replay"], 0, ErrorKind::InvalidSubcommand),
     (&["replay", "replay"], 1, ErrorKind::UnknownArgument),
+    (&["explain", "replay"], 1, ErrorKind::UnknownArgument),
     (&["streams", "streams"], 1, ErrorKind::UnknownArgument),
     (
         &["capture", "49152", "528"],
@@ -188,6 +190,7 @@ fn matches_of(alloc: Global, words: Words) -> Result<ArgMatches<'static>, Error>
         .no_binary_name(true)
         .subcommand_required(true)
         .subcommand(clap::Command::new(alloc, "replay"))?
+        .subcommand(clap::Command::new(alloc, "explain"))?
         .subcommand(clap::Command::new(alloc, "streams"))?
         .subcommand(with_sizes(alloc)?)?
         .subcommand(clap::Command::new(alloc, "camera"))?
@@ -224,6 +227,9 @@ fn found_command(found: &ArgMatches<'static>) -> Option<Command> {
     let (name, inner) = found.subcommand()?;
     if name == "replay" {
         return Some(Command::Replay);
+    }
+    if name == "explain" {
+        return Some(Command::Explain);
     }
     if name == "streams" {
         return Some(Command::Streams);

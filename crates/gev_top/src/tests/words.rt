@@ -8,13 +8,15 @@ use std::test::Fail;
 /// The words of a command line, and the place of the first that isn't understood.
 type Refused = (&'static [&'static str], u32);
 
-const OTHER_WORDS: [Refused; 32] = [
+const OTHER_WORDS: [Refused; 34] = [
     (&[], 0),
     (&["reply"], 0),
     (&["Replay"], 0),
     (&[""], 0),
     (&["reply", "replay"], 0),
     (&["replay", "replay"], 1),
+    (&["explain", ""], 1),
+    (&["Explain"], 0),
     (&["camera", "replay"], 1),
     (&["make"], 1),
     (&["make", "x", "0", "0", "0", "0"], 1),

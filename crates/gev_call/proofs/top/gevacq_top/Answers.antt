@@ -3,7 +3,7 @@ use Rattle.std.proofs.Common.{Some, map, ap, sym, ◌∙◌}
 use Rattle.std.specs.String.{string_bytes}
 use Rattle.gev_call.proofs.Errands.{fault_same, command_is, never_live, never_links}
 use Rattle.gev_top.specs.declared.command.Command.TheVariants as commands
-use Rattle.gev_call.proofs.Replaying.{by_headline}
+use Rattle.gev_call.proofs.Replaying.{by_headline, explains_by_headline}
 use Rattle.gev_call.proofs.Completing.{plain_completes, live_completes}
 use Rattle.gev_call.proofs.top.gevacq_top.Goals as goal
 
@@ -50,6 +50,12 @@ returns-in-None-clause-headline g c =
     λ is.
     by_headline c.plain_top.result _ _ _ _ _ _ _ _
     (c.plain_top.ensures.cause commands.Replay (command_is (map (λ word. string_bytes word) c.args.words.now) commands.Replay (sym c.in-None.ensures.said) is))
+
+pub returns-in-None-clause-explained : goal.returns-in-None-clause-explained
+returns-in-None-clause-explained g c =
+    λ is.
+    explains_by_headline c.plain_top.result _ _ _ _ _ _ _ _
+    (c.plain_top.ensures.cause commands.Explain (command_is (map (λ word. string_bytes word) c.args.words.now) commands.Explain (sym c.in-None.ensures.said) is))
 
 pub returns-in-None-clause-complete : goal.returns-in-None-clause-complete
 returns-in-None-clause-complete g c =
