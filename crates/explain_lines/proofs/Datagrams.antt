@@ -1,8 +1,7 @@
 -- Inputs are told: what a datagram needs, what retires, and what a claim got.
 use Rattle.std.specs.Prelude.{IsSome}
-use Rattle.std.proofs.Common.{◌≡◌, ℕ, ◌+◌, ◌≤◌, Bool, true, false, is_some, List, [], ◌∷◌, ◌++◌, map, take, Option, Some, None, refl, sym, ap, subst, ◌∙◌, append-nil, append_assoc}
+use Rattle.std.proofs.Common.{◌≡◌, ℕ, Bool, true, false, is_some, List, [], ◌∷◌, ◌++◌, take, Option, Some, None, refl, sym, ap, subst, ◌∙◌, append-nil}
 use Rattle.gvsp_wire.specs.Reading.{packet_of}
-use Rattle.stream_packets.specs.Packets.{StreamPacket}
 use Rattle.board_machine.specs.declared.events.Entry.{Entry}
 use Rattle.board_machine.specs.declared.events.Event.{Event}
 use Rattle.board_machine.specs.Machine.{Board, Item, word_at}
@@ -17,7 +16,7 @@ use Rattle.acquisition_machine.specs.declared.retired.Retired.{Retired}
 use Rattle.acquisition_machine.specs.declared.need.Need.{Need}
 use Rattle.acquisition_machine.specs.declared.need.Need.TheVariants.{Buffer}
 use Rattle.acquisition_machine.specs.Blocks.{Given, Retirement, fills}
-use Rattle.acquisition_machine.specs.Machine.{Input, State, Turn, datagram, claimed, step}
+use Rattle.acquisition_machine.specs.Machine.{Input, State, datagram, claimed, step}
 use Rattle.acquisition_machine.specs.Runs.{turn, first_state}
 use Rattle.acquisition_machine.specs.Runs.{After as StateAfter}
 use Rattle.acquisition_machine.specs.TurnLaws.{asked_by}
@@ -26,23 +25,22 @@ use Rattle.acquisition_machine.proofs.Counting.{claims_follow_buffer}
 use Rattle.acq_core.specs.declared.machine.Machine.{Machine}
 use Rattle.acq_core.specs.Ending.{ends_of}
 use Rattle.acq_core.specs.Standing.{IsConfig}
-use Rattle.acq_core.specs.Receiver.{config_of, is_telling, asked_block, buffers, Stands, Takes, KeepsBlocks}
-use Rattle.acq_core.specs.Waiting.{waiting_fills, waiting_requests, waiting_ends}
+use Rattle.acq_core.specs.Receiver.{config_of, is_telling, asked_block, Stands, Takes, KeepsBlocks}
+use Rattle.acq_core.specs.Waiting.{waiting_fills, waiting_requests}
 use Rattle.mode_calls.specs.declared.mode.Mode.{Mode}
 use Rattle.mode_calls.specs.Modes.{ClaimsFor}
 use Rattle.acquisition_notes.specs.Notes.{Note, opens, drops}
-use Rattle.acquisition_notes.specs.Inputs.{drop_notes, buffer_of, need_notes, open_notes, after_claim, after_ends, after_turn, retired_notes, turn_notes, notes_from}
+use Rattle.acquisition_notes.specs.Inputs.{drop_notes, buffer_of, need_notes, open_notes, after_claim, after_ends, retired_notes, turn_notes, notes_from}
 use Rattle.note_tape.specs.declared.told.Told.{Told}
 use Rattle.script_tape.specs.Tells.{Tells}
 use Rattle.script_trace.specs.Trace.{Trace, Part, acquirer}
 use Rattle.script_trace.specs.Trace.{board as board_of}
 use Rattle.script_trace.specs.Modes.{FillsInMode, place_of}
 use Rattle.script_trace.specs.StreamLines.{outcome, tells, told_twice}
-use Rattle.script_notes.specs.Drops.{drops_from, drops_in}
+use Rattle.script_notes.specs.Drops.{drops_from}
 use Rattle.script_replay.specs.declared.fill_counts.FillCounts.{FillCounts}
 use Rattle.script_replay.specs.declared.got.Got.{Got}
-use Rattle.script_replay.specs.Boards.{IsReady}
-use Rattle.script_replay.specs.Acquiring.{AreAway, IsAtRest, Settled, FillsAll, IsBehindTrace, DrivesAt, Drives, Claims}
+use Rattle.script_replay.specs.Acquiring.{AreAway, IsAtRest, IsBehindTrace, DrivesAt, Drives, Claims}
 use Rattle.script_replay.specs.Telling.{claim_of, GaveWay, GaveWayFor, TellsClaim}
 use Rattle.script_replay.proofs.Driving.{turned}
 use Rattle.script_replay.proofs.Claiming.{hears_with, hears_twice_with, heard_part, asks_no_more, hear_rests, hear_rests_again}

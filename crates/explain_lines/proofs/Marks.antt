@@ -1,5 +1,5 @@
 -- Claims, takes, poolings, fills, layings and stops leave generations and the close mark.
-use Rattle.std.proofs.Common.{◌≡◌, ◌≢◌, ◌⊎◌, inl, inr, ℕ, ◌<◌, ◌≤◌, Bool, true, false, not, List, [], ◌∷◌, ◌++◌, length, set, get_or, Option, Some, None, Ok, Err, refl, sym, ap, subst, ◌∙◌}
+use Rattle.std.proofs.Common.{◌≡◌, ◌≢◌, ◌⊎◌, inl, inr, ℕ, ◌<◌, ◌≤◌, Bool, true, false, not, List, [], ◌∷◌, length, set, get_or, Option, Some, None, Ok, Err, refl, sym, ap, subst, ◌∙◌}
 use Rattle.std.specs.Prelude.{⊤}
 use Rattle.std.specs.List.{AllByRecursion}
 use Rattle.std.proofs.lemmas.List.{get_or-set_same, set_past}
@@ -7,7 +7,6 @@ use Rattle.std.proofs.lemmas.Bool.{cases_eq, cases_lt}
 use Rattle.gev_types.specs.Filling.{Filling}
 use Rattle.gentl_types.specs.declared.word.Word.{Word}
 use Rattle.gentl_types.specs.declared.word.State.TheVariants.{Held}
-use Rattle.gentl_types.specs.declared.errors.GcError.{GcError}
 use Rattle.board_machine.specs.declared.events.Event.{Event}
 use Rattle.board_machine.specs.declared.events.Event.TheVariants.{Lay, Pool, Claim, Fill, Take, Stop}
 use Rattle.board_machine.specs.declared.events.TakeEnd.TheVariants.{Taken, Empty, Closed}
@@ -24,7 +23,7 @@ use Rattle.mode_calls.specs.Modes.{ClaimsFor, DropsFor}
 use Rattle.script_trace.specs.Trace.{acquirer}
 use Rattle.script_trace.proofs.Quiet.{AreQuiet, drops_quiet, claims_quiet}
 use Rattle.script_replay.specs.declared.fill_counts.FillCounts.{FillCounts}
-use Rattle.script_replay.specs.Acquiring.{FillsOne, with_board, CountsOne}
+use Rattle.script_replay.specs.Acquiring.{CountsOne}
 use Rattle.explain_lines.specs.Marks.{KeepsMarks}
 
 pub same_marks : (b : Board) → KeepsMarks b b

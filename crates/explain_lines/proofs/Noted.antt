@@ -1,8 +1,7 @@
 -- Lines that feed the acquisition do what they mean, and the tape stands for their notes.
-use Rattle.std.proofs.Common.{◌≡◌, ◌≢◌, ℕ, ◌+◌, ◌-◌, ◌^◌, Bool, true, false, List, [], ◌∷◌, ◌++◌, length, map, min, max, Result, Ok, Err, OnOk, Option, refl, sym, ap, subst, ◌∙◌, arith, eq-eqb, ne_eqb, append-nil, ◌/◌}
+use Rattle.std.proofs.Common.{◌≡◌, ◌≢◌, ℕ, ◌+◌, ◌-◌, ◌^◌, Bool, true, false, List, [], ◌∷◌, ◌++◌, length, map, min, max, Result, Ok, Err, OnOk, refl, sym, ap, subst, ◌∙◌, arith, eq-eqb, ne_eqb, append-nil, ◌/◌}
 use Rattle.std.specs.Prelude.{◌==◌, IsOk}
 use Rattle.std.proofs.lemmas.Bool.{cond-true, cond-false}
-use Rattle.hex.specs.declared.error.FromHexError.{FromHexError}
 use Rattle.hex.specs.Hex.{decode_of, encode_lower, IsBytes}
 use Rattle.hex.proofs.HexLemmas.{decode_of-ok, decode_of-encode_lower}
 use Rattle.gvsp_std.specs.declared.std_error.StdError.{StdError}
@@ -14,38 +13,35 @@ use Rattle.board_machine.specs.declared.events.Entry.{Entry}
 use Rattle.board_machine.specs.Machine.{Board}
 use Rattle.board_model.specs.Plain.{PlainState}
 use Rattle.acquisition_machine.specs.declared.config.AcqConfig.{AcqConfig}
-use Rattle.acquisition_machine.specs.Machine.{Input, Request, request_bytes, tick, datagram}
+use Rattle.acquisition_machine.specs.Machine.{Input, Request, request_bytes, tick}
 use Rattle.acquisition_machine.specs.Runs.{turn}
 use Rattle.acquisition_machine.specs.Runs.{After as StateAfter}
-use Rattle.acquisition_machine.specs.TurnLaws.{asked_by}
 use Rattle.acq_core.specs.declared.machine.Machine.{Machine}
 use Rattle.acq_core.specs.Receiver.{config_of, Stands}
 use Rattle.mode_calls.specs.declared.mode.Mode.{Mode}
-use Rattle.acquisition_notes.specs.Notes.{Note, idle, unwidened}
+use Rattle.acquisition_notes.specs.Notes.{idle, unwidened}
 use Rattle.acquisition_notes.specs.Inputs.{notes_from}
 use Rattle.note_tape.specs.declared.told.Told.{Told}
 use Rattle.note_tape.specs.declared.told.Told.TheVariants.{Idle, Unwidened}
 use Rattle.note_tape.specs.Telling.{AreNoted}
-use Rattle.script_tape.specs.Tells.{Tells}
 use Rattle.script_trace.specs.Trace.{Trace, Part, board, grown}
 use Rattle.script_trace.specs.Ending.{as_count}
-use Rattle.script_trace.specs.Adding.{Spells, AddsPart}
-use Rattle.script_trace.specs.StreamLines.{idles, requests_text, StopLine, TickLine, DatagramLine, HearsIfRunning, Hears}
-use Rattle.script_trace.specs.Wide.{Wide, is_standard_at, is_standard, Meaning, itself, wider, none, meaning_widened, standard_meaning, meaning_of_bytes, meaning_decoded, meaning, said_by, Tells as DoesPart, DoesAs, standard_form, standard_text}
+use Rattle.script_trace.specs.Adding.{Spells}
+use Rattle.script_trace.specs.StreamLines.{idles, requests_text, StopLine, TickLine, DatagramLine, HearsIfRunning}
+use Rattle.script_trace.specs.Wide.{Wide, is_standard_at, is_standard, Meaning, itself, wider, none, meaning_widened, standard_meaning, meaning_decoded, meaning, said_by, DoesAs, standard_form, standard_text}
 use Rattle.script_trace.proofs.Meanings.{said_plain}
 use Rattle.script_notes.specs.Drops.{drops_in}
-use Rattle.script_notes.specs.LineNotes.{length_decoded, datagram_length, idle_notes, part_notes, refused_with, refused_decoded, refused_notes, notes_as}
+use Rattle.script_notes.specs.LineNotes.{length_decoded, idle_notes, part_notes, refused_with, refused_decoded, refused_notes, notes_as}
 use Rattle.script_replay.specs.declared.fill_counts.FillCounts.{FillCounts}
 use Rattle.script_replay.specs.declared.running.Running.{Running}
 use Rattle.script_replay.specs.declared.script.Script.{Script}
-use Rattle.script_replay.specs.declared.widening.Widening.{Widening}
 use Rattle.script_replay.specs.Boards.{IsLeftBy}
 use Rattle.script_replay.specs.Acquiring.{IsAtRest, IsBehindTrace, DrivesAt, Drives}
-use Rattle.script_replay.specs.Replays.{StandsAt, IsReplaying, AddsAt, Goes, KeepsWide}
+use Rattle.script_replay.specs.Replays.{StandsAt, IsReplaying, Goes, KeepsWide}
 use Rattle.script_replay.proofs.Decoding.{DatagramIn, ok_value}
 use Rattle.script_replay.proofs.Widened.{standard_runs}
 use Rattle.script_replay.proofs.Replaying.{goes_on, still, drives_with}
-use Rattle.explain_lines.specs.Asking.{form_of, lines_by}
+use Rattle.explain_lines.specs.Asking.{lines_by}
 use Rattle.explain_lines.specs.Hearing.{HearsIn, StopsIn, TellsPart, TicksTold}
 use Rattle.explain_lines.specs.Telling.{NotesAt, GoesTold, TellsAt, TellsLine}
 use Rattle.explain_lines.proofs.Tapes.{tells_all_of}

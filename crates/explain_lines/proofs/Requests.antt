@@ -1,5 +1,5 @@
 -- Requests are written and told, first in first.
-use Rattle.std.proofs.Common.{◌≡◌, ℕ, Bool, List, [], ◌∷◌, ◌++◌, map, refl, sym, ap, subst, ◌∙◌, append-nil, append_assoc}
+use Rattle.std.proofs.Common.{◌≡◌, ℕ, Bool, List, [], ◌∷◌, ◌++◌, map, refl, sym, ap, ◌∙◌, append-nil, append_assoc}
 use Rattle.gvcp_aux.specs.declared.resend.Resend.{Resend}
 use Rattle.gev_report.specs.ReplayLines.{request_line}
 use Rattle.acquisition_machine.specs.declared.config.AcqConfig.{AcqConfig}

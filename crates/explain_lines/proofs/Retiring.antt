@@ -1,5 +1,5 @@
 -- Blocks that retired are filled and told, one by one.
-use Rattle.std.proofs.Common.{◌≡◌, ◌≢◌, ◌⊎◌, inl, inr, ℕ, ◌+◌, Bool, true, false, not, List, [], ◌∷◌, ◌++◌, length, map, take, Option, Some, None, is_some, Result, Ok, Err, OnOk, refl, sym, ap, subst, ◌∙◌, append-nil, append_assoc}
+use Rattle.std.proofs.Common.{◌≡◌, ℕ, ◌+◌, Bool, true, false, not, List, [], ◌∷◌, ◌++◌, length, map, take, Option, Some, None, is_some, Result, Ok, Err, OnOk, refl, sym, ap, subst, ◌∙◌, append-nil}
 use Rattle.gentl_types.specs.declared.buffer_id.BufferId.{BufferId}
 use Rattle.board_machine.specs.declared.events.Entry.{Entry}
 use Rattle.board_machine.specs.declared.events.Event.{Event}
@@ -33,7 +33,7 @@ use Rattle.script_trace.specs.Trace.{acquirer}
 use Rattle.script_trace.specs.Modes.{FillsInMode}
 use Rattle.script_replay.specs.declared.fill_counts.FillCounts.{FillCounts}
 use Rattle.script_replay.specs.Boards.{IsLeftBy}
-use Rattle.script_replay.specs.Acquiring.{IsAway, AreAway, CountsOne, FillsAll}
+use Rattle.script_replay.specs.Acquiring.{IsAway, AreAway, FillsAll}
 use Rattle.script_replay.specs.Telling.{TellsOne}
 use Rattle.script_replay.proofs.Retiring.{FillsOn, fills_on, first_away, away_done, keeps_twice, keeps_itself}
 use Rattle.explain_lines.specs.Marks.{KeepsMarks}

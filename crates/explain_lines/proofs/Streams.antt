@@ -1,9 +1,9 @@
 -- A stop and a moment, with what they tell.
-use Rattle.std.proofs.Common.{◌≡◌, ◌≢◌, ℕ, ◌≤◌, Bool, true, false, List, [], ◌∷◌, ◌++◌, map, codes, Option, None, Result, Ok, Err, OnOk, refl, sym, ap, subst, ◌∙◌, append-nil}
+use Rattle.std.proofs.Common.{◌≡◌, ℕ, ◌≤◌, Bool, true, false, List, [], ◌∷◌, ◌++◌, map, codes, None, Result, Ok, Err, OnOk, refl, sym, ap, subst, ◌∙◌, append-nil}
 use Rattle.gentl_types.specs.declared.errors.GcError.{GcError}
 use Rattle.board_machine.specs.declared.events.Entry.{Entry}
 use Rattle.board_machine.specs.declared.events.Event.{Event}
-use Rattle.board_machine.specs.Machine.{Board, Item}
+use Rattle.board_machine.specs.Machine.{Board}
 use Rattle.board_machine.specs.Adding.{entries_of, AddsOf}
 use Rattle.board_machine.specs.Histories.{After, after_from}
 use Rattle.board_machine.proofs.Runs.{after-append}
@@ -21,20 +21,18 @@ use Rattle.acq_core.specs.declared.machine.Machine.{Machine}
 use Rattle.acq_core.specs.Receiver.{config_of, is_telling, asked_block, buffers, Stands, Takes, KeepsBlocks}
 use Rattle.acq_core.specs.Waiting.{waiting_fills, waiting_requests, waiting_resends}
 use Rattle.mode_calls.specs.declared.mode.Mode.{Mode}
-use Rattle.acquisition_notes.specs.Notes.{Note}
 use Rattle.acquisition_notes.specs.Inputs.{retired_notes, round_notes}
 use Rattle.note_tape.specs.declared.told.Told.{Told}
 use Rattle.script_tape.specs.Tells.{Tells}
-use Rattle.script_tape.specs.Rounds.{asked_notes}
 use Rattle.script_tape.proofs.Rounds.{rounds_are_told}
-use Rattle.script_trace.specs.Trace.{Trace, Part, caller, acquirer, acts}
+use Rattle.script_trace.specs.Trace.{Trace, caller, acquirer}
 use Rattle.script_trace.specs.Trace.{board as board_of}
 use Rattle.script_trace.specs.Modes.{FillsInMode}
-use Rattle.script_trace.specs.StreamLines.{tells, retired_by, requests_text, StopLine, TickLine}
+use Rattle.script_trace.specs.StreamLines.{retired_by, requests_text, TickLine}
 use Rattle.script_trace.specs.Answers.{done_text, refused_text}
 use Rattle.script_notes.specs.Drops.{drops_from}
 use Rattle.script_replay.specs.declared.fill_counts.FillCounts.{FillCounts}
-use Rattle.script_replay.specs.Acquiring.{AreAway, IsAtRest, IsBehindTrace, DrivesAt, Drives}
+use Rattle.script_replay.specs.Acquiring.{AreAway, IsAtRest, IsBehindTrace, Drives}
 use Rattle.script_replay.proofs.Quiet.{stop_quiet}
 use Rattle.script_replay.proofs.Lines.{quiet_acts, caller_apart}
 use Rattle.script_replay.proofs.Retiring.{keeps_twice}

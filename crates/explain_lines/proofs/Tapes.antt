@@ -1,5 +1,5 @@
 -- What is told after each other.
-use Rattle.std.proofs.Common.{◌≡◌, ℕ, ◌<◌, ◌≤◌, ◌+◌, List, [], ◌∷◌, ◌++◌, length, map, drop, get_or, Option, Some, None, refl, sym, ap, subst, ◌∙◌, append-nil, append_assoc}
+use Rattle.std.proofs.Common.{◌≡◌, ℕ, ◌<◌, ◌≤◌, ◌+◌, List, [], ◌∷◌, ◌++◌, length, map, drop, get_or, Some, refl, sym, ap, subst, ◌∙◌, append-nil, append_assoc}
 use Rattle.std.proofs.lemmas.List.{drop_more, get_or_past}
 use Rattle.gentl_types.specs.declared.buffer_id.BufferId.{BufferId}
 use Rattle.gentl_types.specs.declared.word.Word.{Word}
@@ -41,13 +41,13 @@ tells_all_of a b ns empty tells = subst (λ l. AreNoted l ns) (sym (tells.is ∙
 -- ---- what gave way, told one by one
 
 -- what is left to be told, behind what was
-pub record GoneOn (board : Board) (left : List Gone) (start now : List Told) (before : Board) (xs : List Item) : Type 0 where
+pub record GoneOn (left : List Gone) (start now : List Told) (before : Board) (xs : List Item) : Type 0 where
   pub rest : List Item
   pub are : left ≡ map gone_of rest
   pub goes_on : (end : List Told) → Tells now end (drop_notes before rest) → Tells start end (drop_notes before xs)
 
-pub gone_begin : (board : Board) (left : List Gone) (start : List Told) (before : Board) (xs : List Item) → left ≡ map gone_of xs → GoneOn board left start start before xs
-gone_begin board left start before xs are = record { rest = xs; are = are; goes_on = λ end tells. tells }
+pub gone_begin : (left : List Gone) (start : List Told) (before : Board) (xs : List Item) → left ≡ map gone_of xs → GoneOn left start start before xs
+gone_begin left start before xs are = record { rest = xs; are = are; goes_on = λ end tells. tells }
 
 same_gone : (x y : Gone) (xs ys : List Gone) → x ∷ xs ≡ y ∷ ys → x ≡ y
 same_gone x y xs ys e = cc
@@ -58,10 +58,10 @@ same_rest x y xs ys e = cc
 none_gone : (x : Gone) (xs : List Gone) → x ∷ xs ≡ [] → ⊥
 none_gone x xs e = cc
 
-gone_one : (board : Board) (x : Gone) (left : List Gone) (start now next : List Told) (before : Board) (xs rest : List Item) → x ∷ left ≡ map gone_of rest → ((end : List Told) → Tells now end (drop_notes before rest) → Tells start end (drop_notes before xs))
-    → Tells now next (drops x.block (buffer_at before x.place) ∷ []) → GoneOn board left start next before xs
-gone_one board x left start now next before xs [] are goes_on told = absurd (none_gone x left are)
-gone_one board x left start now next before xs (y ∷ rest) are goes_on told =
+gone_one : (x : Gone) (left : List Gone) (start now next : List Told) (before : Board) (xs rest : List Item) → x ∷ left ≡ map gone_of rest → ((end : List Told) → Tells now end (drop_notes before rest) → Tells start end (drop_notes before xs))
+    → Tells now next (drops x.block (buffer_at before x.place) ∷ []) → GoneOn left start next before xs
+gone_one x left start now next before xs [] are goes_on told = absurd (none_gone x left are)
+gone_one x left start now next before xs (y ∷ rest) are goes_on told =
     let here : x ≡ gone_of y = same_gone x (gone_of y) left (map gone_of rest) are in
     record {
       rest = rest;
@@ -73,17 +73,17 @@ gone_one board x left start now next before xs (y ∷ rest) are goes_on told =
           tells);
     }
 
-pub gone_more : (board : Board) (i : ℕ) (gone : List Gone) (d : Gone) (start now next : List Told) (before : Board) (xs : List Item) → i < length gone → GoneOn board (drop i gone) start now before xs
-    → Tells now next (drops (get_or gone i d).block (buffer_at before (get_or gone i d).place) ∷ []) → GoneOn board (drop (i + 1) gone) start next before xs
-gone_more board i gone d start now next before xs less on told =
-    gone_one board (get_or gone i d) (drop (i + 1) gone) start now next before xs on.rest (sym (drop_more gone i d less) ∙ on.are) on.goes_on told
+pub gone_more : (i : ℕ) (gone : List Gone) (d : Gone) (start now next : List Told) (before : Board) (xs : List Item) → i < length gone → GoneOn (drop i gone) start now before xs
+    → Tells now next (drops (get_or gone i d).block (buffer_at before (get_or gone i d).place) ∷ []) → GoneOn (drop (i + 1) gone) start next before xs
+gone_more i gone d start now next before xs less on told =
+    gone_one (get_or gone i d) (drop (i + 1) gone) start now next before xs on.rest (sym (drop_more gone i d less) ∙ on.are) on.goes_on told
 
 none_items : (xs : List Item) → [] ≡ map gone_of xs → xs ≡ []
 none_items [] e = refl
 none_items (x ∷ xs) e = absurd cc
 
-pub all_gone : (board : Board) (left : List Gone) (start now : List Told) (before : Board) (xs : List Item) → left ≡ [] → GoneOn board left start now before xs → Tells start now (drop_notes before xs)
-all_gone board left start now before xs none on =
+pub all_gone : (left : List Gone) (start now : List Told) (before : Board) (xs : List Item) → left ≡ [] → GoneOn left start now before xs → Tells start now (drop_notes before xs)
+all_gone left start now before xs none on =
     on.goes_on now (tells_as now now [] (drop_notes before on.rest) (ap (drop_notes before) (sym (none_items on.rest (sym none ∙ on.are)))) (tells_none now))
 
 -- a number that is no place has the word of a vacant one

@@ -1,5 +1,5 @@
 -- What entries of a history drop from the output.
-use Rattle.std.specs.Prelude.{◌≡◌, List, [], ◌∷◌, ◌++◌, false}
+use Rattle.std.specs.Prelude.{◌≡◌, List, [], ◌++◌, false}
 use Rattle.board_machine.specs.declared.events.Entry.{Entry}
 use Rattle.board_machine.specs.Machine.{Item}
 use Rattle.script_notes.specs.Drops.{drops_from}

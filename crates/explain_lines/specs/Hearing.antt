@@ -9,7 +9,6 @@ use Rattle.board_model.specs.Plain.{PlainState}
 use Rattle.gvsp_wire.specs.Reading.{packet_of}
 use Rattle.acquisition_machine.specs.declared.config.AcqConfig.{AcqConfig}
 use Rattle.acquisition_machine.specs.declared.need.Need.{Need}
-use Rattle.acquisition_machine.specs.Blocks.{Retirement}
 use Rattle.acquisition_machine.specs.Machine.{Input, request_bytes, datagram, tick}
 use Rattle.acquisition_machine.specs.Runs.{turn}
 use Rattle.acquisition_machine.specs.Runs.{After as StateAfter}
@@ -51,7 +50,7 @@ pub record Retires (mode : Mode) (i : Input) (s : PlainState) (m : Machine) (a :
   pub told : (q : List Input) → Stands m q → (before : Board) → KeepsMarks before s.board → (rest : List (List Item))
       → Tells tape after (retired_notes (config_of m) before (gone ++ rest) (StateAfter (config_of m) q).floor (turn (config_of m) q i).retired)
 
--- The datagram came, and so did what it needs.
+-- The datagram came: what it needs was told, and what retired was filled and told.
 pub record SettlesTold (mode : Mode) (bytes : List ℕ) (s : PlainState) (m : Machine) (a : FillCounts) (tape : List Told) (need : Need) (new : PlainState) (n : Machine) (b : FillCounts) (after : List Told) : Type 0 where
   pub need_is : (q : List Input) → Stands m q → (turn (config_of m) q (datagram bytes)).need ≡ Some need
   pub mid : List Told

@@ -1,5 +1,5 @@
 -- Blocks that retired: their buffers are filled, and all is told.
-use Rattle.std.specs.Prelude.{◌≡◌, ℕ, Bool, true, List, [], ◌∷◌, ◌++◌, length, take, Some}
+use Rattle.std.specs.Prelude.{◌≡◌, ℕ, true, List, [], ◌∷◌, ◌++◌, length, take, Some}
 use Rattle.board_machine.specs.declared.events.Entry.{Entry}
 use Rattle.board_machine.specs.Machine.{Board, Item}
 use Rattle.board_machine.specs.Adding.{entries_of}

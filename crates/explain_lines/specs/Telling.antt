@@ -5,7 +5,7 @@ use Rattle.acquisition_machine.specs.declared.config.AcqConfig.{AcqConfig}
 use Rattle.acq_core.specs.Receiver.{config_of}
 use Rattle.note_tape.specs.declared.told.Told.{Told}
 use Rattle.note_tape.specs.Telling.{AreNoted}
-use Rattle.script_trace.specs.Trace.{Trace, grown}
+use Rattle.script_trace.specs.Trace.{Trace}
 use Rattle.script_trace.specs.Wide.{Wide, meaning, Does}
 use Rattle.script_notes.specs.LineNotes.{part_notes, notes_as}
 use Rattle.script_replay.specs.declared.running.Running.{Running}

@@ -9,5 +9,7 @@ mod asking;
 mod hearing;
 mod lines;
 mod retired;
+#[cfg(test)]
+mod tests;
 
 pub use lines::{datagram, stop, tick};

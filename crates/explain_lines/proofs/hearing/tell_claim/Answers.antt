@@ -1,5 +1,4 @@
-use Rattle.std.proofs.Common.{◌∙◌, ap, sym, subst, Option}
-use Rattle.note_tape.specs.declared.told.Told.{Told}
+use Rattle.std.proofs.Common.{sym, subst, Option}
 use Rattle.script_tape.specs.Tells.{Tells}
 use Rattle.script_replay.specs.declared.got.Got.{Got}
 use Rattle.explain_lines.specs.Hearing.{way_notes, claim_notes}

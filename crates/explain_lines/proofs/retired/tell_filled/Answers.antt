@@ -1,4 +1,4 @@
-use Rattle.std.proofs.Common.{sym, ap, subst, ◌∙◌}
+use Rattle.std.proofs.Common.{◌∙◌}
 use Rattle.explain_lines.proofs.Retiring.{tells_fill_ok}
 use Rattle.explain_lines.proofs.retired.tell_filled.Goals as goal
 

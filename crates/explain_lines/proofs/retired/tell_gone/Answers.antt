@@ -4,9 +4,9 @@ use Rattle.explain_lines.proofs.retired.tell_gone.Goals as goal
 
 pub loop-one-preserved : goal.loop-one-preserved
 loop-one-preserved c before marks xs are =
-    gone_more c.args.board.now.board c.loop-one.one-index c.args.gone.now _ c.args.tape.now.items c.loop-one.tape.items c.tell_one.new.tape.items before xs
+    gone_more c.loop-one.one-index c.args.gone.now _ c.args.tape.now.items c.loop-one.tape.items c.tell_one.new.tape.items before xs
     c.loop-one-test.true (c.loop-one.invariant before marks xs are) (c.in_ok-tell_one.ensures before marks)
 
 pub returns : goal.returns
 returns c before marks xs are =
-    all_gone c.args.board.now.board _ c.args.tape.now.items c.loop-one.tape.items before xs (drop_all c.loop-one.one-index c.args.gone.now c.loop-one-test.false) (c.loop-one.invariant before marks xs are)
+    all_gone _ c.args.tape.now.items c.loop-one.tape.items before xs (drop_all c.loop-one.one-index c.args.gone.now c.loop-one-test.false) (c.loop-one.invariant before marks xs are)

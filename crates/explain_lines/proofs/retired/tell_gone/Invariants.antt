@@ -7,4 +7,4 @@ use Rattle.explain_lines.proofs.retired.tell_gone.Given as goal
 
 abbrev pub invariant-loop-one : goal.invariant-loop-one
 invariant-loop-one l = (before : Board) → KeepsMarks before l.board.board → (xs : List Item) → l.gone ≡ map gone_of xs
-    → GoneOn l.board.board (drop l.one-index l.gone) l.initial.tape.items l.tape.items before xs
+    → GoneOn (drop l.one-index l.gone) l.initial.tape.items l.tape.items before xs

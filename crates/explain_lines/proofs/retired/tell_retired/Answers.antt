@@ -1,4 +1,4 @@
-use Rattle.std.proofs.Common.{sym, ◌∙◌}
+use Rattle.std.proofs.Common.{◌∙◌}
 use Rattle.explain_lines.proofs.Retiring.{tells_on_unbuffered, tells_on_filled, no_fill_left, tells_done, fills_left, away_left}
 use Rattle.explain_lines.proofs.retired.tell_retired.Goals as goal
 
