@@ -1,5 +1,5 @@
-//! What the receiver is told, with the looks of the blocks that retire by it. The receiver tells of them at its next call
-//! alone, so they are noted before its fills are taken.
+//! What the receiver is told, with the looks of the blocks that retire by it. Its next input forgets them, so they are
+//! noted at once.
 
 ghost use Rattle.std.specs.Prelude.{◌≡◌, [], List, None, Some};
 ghost use Rattle.acquisition_machine.specs.Machine.{Input, datagram as came, tick as moment_input, stop as stopped};
