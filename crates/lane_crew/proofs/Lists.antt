@@ -1,17 +1,24 @@
 -- Lists of lanes' tools.
-use Rattle.std.proofs.Common.{◌≡◌, List, [], ◌∷◌, ◌++◌}
+use Rattle.std.proofs.Common.{◌≡◌, List, [], ◌∷◌, ◌++◌, refl, ap, sym, subst, ◌∙◌}
 use Rattle.atomic_table.specs.Seated.{TableId}
 use Rattle.buffer_words.specs.Passes.{Token, IsEmptyHanded}
 use Rattle.acquisition_machine.specs.Blocks.{Given}
 use Rattle.gev_acq.specs.Buffers.{HoldsAlone}
 use Rattle.gev_lanes.specs.declared.parts.LaneQueues.{LaneQueues}
 use Rattle.lane_crew.specs.declared.lane_tools.LaneTools.{LaneTools}
-use Rattle.lane_crew.specs.Tools.{IsReady, AreReady, IsServed, AreServed, AreBack}
-use Rattle.std.proofs.Common.{sym, subst, ◌∙◌}
+use Rattle.lane_crew.specs.Tools.{IsReady, AreReady, IsServed, AreServed, AreBack, ends_in}
 
 pub ready_last : (board : TableId) (qs : List LaneQueues) (xs : List LaneTools) (x : LaneTools) → AreReady board qs (xs ++ x ∷ []) → AreReady board qs xs × IsReady board qs x
 ready_last board qs [] x all = (tt, all.0)
 ready_last board qs (y ∷ xs) x all = let rest = ready_last board qs xs x all.1 in ((all.0, rest.0), rest.1)
+
+pub ready_more : (board : TableId) (qs : List LaneQueues) (xs : List LaneTools) (x : LaneTools) → AreReady board qs xs → IsReady board qs x → AreReady board qs (xs ++ x ∷ [])
+ready_more board qs [] x all one = (one, tt)
+ready_more board qs (y ∷ xs) x all one = (all.0, ready_more board qs xs x all.1 one)
+
+pub ends_more : (xs : List LaneTools) (x : LaneTools) → ends_in (xs ++ x ∷ []) ≡ ends_in xs ++ x.ends ∷ []
+ends_more [] x = refl
+ends_more (y ∷ xs) x = ap (λ l. y.ends ∷ l) (ends_more xs x)
 
 pub served_last : (qs : List LaneQueues) (xs ys : List LaneTools) (x y : LaneTools) → AreServed qs xs ys → IsServed qs x y → AreServed qs (xs ++ x ∷ []) (ys ++ y ∷ [])
 served_last qs [] [] x y all one = (one, tt)

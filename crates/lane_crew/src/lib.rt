@@ -12,6 +12,8 @@ mod lanes_done;
 mod laws;
 mod reading;
 mod serving;
+#[cfg(test)]
+mod tests;
 
 pub use crew::read_by_lanes;
 pub use lane_tools::LaneTools;
