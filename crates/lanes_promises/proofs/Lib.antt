@@ -1,0 +1,5 @@
+pub mod Sending
+pub mod Filling
+pub mod Keeping
+pub mod Causing
+pub mod Refusing
