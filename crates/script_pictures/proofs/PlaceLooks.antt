@@ -15,13 +15,17 @@ use Rattle.block_fills.specs.Fills.{item_of, tried}
 use Rattle.block_fills.proofs.Tries.{items-append}
 use Rattle.frame_pictures.specs.declared.look.Look.{Look}
 use Rattle.frame_pictures.specs.Looks.{look_of}
-use Rattle.script_trace.specs.Trace.{acquirer}
+use Rattle.acquisition_machine.specs.declared.config.AcqConfig.{AcqConfig}
+use Rattle.gev_script.specs.Lines.{ScriptLine}
+use Rattle.script_trace.specs.Trace.{Trace, board, acquirer}
+use Rattle.script_trace.specs.Adding.{Leads}
+use Rattle.script_trace.specs.Laws.{KeepsPromises}
 use Rattle.script_trace.specs.Opening.{opening}
 use Rattle.script_trace.proofs.Handing.{leads_empty, opening_empty}
 use Rattle.script_trace.proofs.Promises.{traces_keep}
-use Rattle.script_pictures.specs.Looks.{given_looks, retired_looks, block_looks, filled_looks}
+use Rattle.script_pictures.specs.Looks.{given_looks, retired_looks, block_looks, filled_looks, waiting_looks}
 use Rattle.script_pictures.specs.Laws.{AllTogether}
-use Rattle.script_pictures.specs.Places.{no_look, place_looks, PlacesTellLooks}
+use Rattle.script_pictures.specs.Places.{no_look, place_looks, look_there, PlacesTellLooks}
 use Rattle.script_pictures.proofs.Together.{together_append}
 use Rattle.script_pictures.proofs.Placed.{placed, set_all, placed_own, noted_own, Fits, Lies, waits}
 
@@ -44,9 +48,10 @@ all_fit p (r ∷ rs) =
     (together_append Fits (map item_of (fill_of p r.was r.was.given)) (given_looks p r.was r.was.given) (map item_of (fills p rs)) (retired_looks p rs)
     (one_fits p r.was r.was.given) (all_fit p rs))
 
-pub places_tell_looks : PlacesTellLooks
-places_tell_looks c lines t some are leads =
-    let keeps = traces_keep c lines t some are leads in
+-- where the trace keeps its promises
+pub places_kept : (c : AcqConfig) (lines : List ScriptLine) (t : Trace) → KeepsPromises c t → Leads c opening lines t
+    → AllTogether (λ x l. l ≡ look_there (place_looks c t.inputs) x) (board t).out (waiting_looks c t)
+places_kept c lines t keeps leads =
     let empty = leads_empty c opening lines t leads opening_empty in
     let rs : List Retirement = retired_from c first_state t.inputs in
     let ls : List (Option Look) = block_looks c t.inputs in
@@ -56,3 +61,6 @@ places_tell_looks c lines t some are leads =
     let table : placed none ls t.entries ≡ place_looks c t.inputs =
     placed_own t.entries none ls ∙ ap (λ xs. set_all none xs ls) keeps.retired ∙ sym (noted_own c.p rs none (items_more c.p)) in
     subst (λ at. AllTogether (Lies at) (After t.entries).out (drop (length (removed t.entries)) (filled_looks ls t.entries))) table all
+
+pub places_tell_looks : PlacesTellLooks
+places_tell_looks c lines t some are leads = places_kept c lines t (traces_keep c lines t some are leads) leads

@@ -1,5 +1,5 @@
 -- The pictures of what waits in the output.
-use Rattle.std.proofs.Common.{◌≡◌, List, [], ◌∷◌, map, length, drop, refl, sym, subst}
+use Rattle.std.proofs.Common.{◌≡◌, ◌≤◌, List, [], ◌∷◌, map, length, drop, refl, sym, subst}
 use Rattle.std.specs.Prelude.{Option, Some, None}
 use Rattle.std.specs.List.{AllByRecursion}
 use Rattle.board_machine.specs.Machine.{Item, item}
@@ -14,12 +14,16 @@ use Rattle.block_fills.proofs.Tries.{items-append}
 use Rattle.frame_pictures.specs.declared.look.Look.{Look}
 use Rattle.frame_pictures.specs.Looks.{look_in}
 use Rattle.frame_pictures.proofs.Truth.{complete_pictures_show_frames, pictures_show_what_came}
+use Rattle.gev_script.specs.Lines.{ScriptLine}
+use Rattle.script_trace.specs.Trace.{Trace, board}
+use Rattle.script_trace.specs.Adding.{Leads}
+use Rattle.script_trace.specs.Laws.{KeepsPromises}
 use Rattle.script_trace.specs.Opening.{opening}
 use Rattle.script_trace.proofs.Handing.{leads_empty, opening_empty}
 use Rattle.script_trace.proofs.Promises.{traces_keep}
 use Rattle.script_trace.proofs.Starting.{leads_clean, opening_clean}
-use Rattle.script_pictures.specs.Looks.{given_looks, retired_looks, block_looks, filled_looks}
-use Rattle.script_pictures.specs.Laws.{HasBlockLook, AllTogether, WaitingPicturesAreTrue}
+use Rattle.script_pictures.specs.Looks.{given_looks, retired_looks, block_looks, filled_looks, waiting_looks}
+use Rattle.script_pictures.specs.Laws.{HasBlockLook, HasItsLook, AllTogether, WaitingPicturesAreTrue}
 use Rattle.script_pictures.proofs.Retiring.{RetiresIn, retired_in}
 use Rattle.script_pictures.proofs.Together.{OrNone, together_append, together_drop, filled_together}
 
@@ -57,9 +61,10 @@ all_looks c q (r ∷ rs) k =
     (together_append (HasBlockLook c q) (map item_of (fill_of c.p r.was r.was.given)) (given_looks c.p r.was r.was.given) (map item_of (fills c.p rs)) (retired_looks c.p rs)
     (one_look c q r r.was.given refl k.0) (all_looks c q rs k.1))
 
-pub waiting_pictures_are_true : WaitingPicturesAreTrue
-waiting_pictures_are_true c lines t some are leads =
-    let keeps = traces_keep c lines t some are leads in
+-- where the trace keeps its promises
+pub waiting_kept : (c : AcqConfig) (lines : List ScriptLine) (t : Trace) → 1 ≤ c.window → KeepsPromises c t → Leads c opening lines t
+    → AllTogether (HasItsLook c t.inputs) (board t).out (waiting_looks c t)
+waiting_kept c lines t some keeps leads =
     let clean = leads_clean c opening lines t leads (opening_clean c) in
     let empty = leads_empty c opening lines t leads opening_empty in
     let P : Item → Option Look → Type 0 = HasBlockLook c t.inputs in
@@ -68,3 +73,6 @@ waiting_pictures_are_true c lines t some are leads =
     let all : AllTogether (OrNone P) (filled t.entries) (filled_looks ls t.entries) = filled_together P t.entries ls empty (subst (λ xs. AllTogether P xs ls) (sym keeps.retired) blocks) in
     subst (λ xs. AllTogether (OrNone P) xs (drop (length (removed t.entries)) (filled_looks ls t.entries))) (sym (run_out t.entries keeps.run))
     (together_drop (OrNone P) (length (removed t.entries)) (filled t.entries) (filled_looks ls t.entries) all)
+
+pub waiting_pictures_are_true : WaitingPicturesAreTrue
+waiting_pictures_are_true c lines t some are leads = waiting_kept c lines t some (traces_keep c lines t some are leads) leads

@@ -1,0 +1,7 @@
+use Rattle.gev_script.specs.Lines as script_line
+use Rattle.picture_lines.proofs.Ran.{drive_noting}
+use Rattle.picture_lines.proofs.lines.run_tick.Goals as goal
+
+pub returns : goal.returns
+returns c =
+    drive_noting (script_line.tick c.args.moment) c.args.running.now c.args.looks.now c.pass_to.new.board c.pass_to.new.acq c.pass_to.new.counts c.pass_to.new.looks c.requires.keeps c.pass_to.ensures
