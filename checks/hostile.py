@@ -10,7 +10,7 @@ import tempfile
 import time
 
 # The command lines that are run, by what they read. Of a report the lines that begin with `# ` are notes.
-OF_REPLAY_SCRIPTS = ["replay", "explain"]
+OF_REPLAY_SCRIPTS = ["replay", "explain", "image 1", "image 2"]
 OF_CAMERA_SCRIPTS = ["camera"]
 OF_CAPTURES = ["streams", "capture 49152 1464 4096"]
 # Those that read nothing. The numbers of make and soak are drawn anew, and of all now and then a word is changed.
@@ -473,9 +473,24 @@ def judge_script(data, status, text, error):
         wants(re.fullmatch(r"(announce|flush|stop|t) \d+|start|take|end|d ([0-9a-f]{2})+", line), f"no line of a script: {line}")
 
 
+def judge_picture(script, status, text, error):
+    """Whether it is one whole picture, or nothing."""
+    found = re.match(r"(P5|P6)\n(\d+) (\d+)\n(255|1023|4095|16383|65535)\n", text)
+    if status != 0:
+        wants(status == 7 or text == "", "no picture, and an output")
+        return
+    wants(found, f"no head of a picture: {text[:20]!r}")
+    width, height, most = (int(found[it]) for it in (2, 3, 4))
+    wants(width > 0 and height > 0, "a picture without pixels")
+    wants(found[1] == "P5" or most == 255, "colours of more than 8 bits")
+    bytes_of_one = 3 if found[1] == "P6" else 1 if most == 255 else 2
+    wants(len(text) - found.end() == width * height * bytes_of_one, "another number of pixels")
+
+
 JUDGES = {
     "replay": judge_report,
     "explain": judge_report,
+    "image": judge_picture,
     "camera": judge_camera,
     "streams": judge_streams,
     "capture": judge_script,
@@ -510,7 +525,7 @@ def judge(program, words, data):
         return
     wants(status in STATUSES.get(first, ()) or status == 7, f"status {status} of `{first}`")
     if first in JUDGES:
-        JUDGES[first](data, status, text.decode(), error.decode())
+        JUDGES[first](data, status, text.decode("latin-1"), error.decode())
 
 
 def seeds(program):

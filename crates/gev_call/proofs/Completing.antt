@@ -3,7 +3,7 @@ use Rattle.std.proofs.Common.{◌≡◌, ◌≢◌, ℕ, List, Option, Some, Non
 use Rattle.board_machine.specs.declared.events.Entry.{Entry}
 use Rattle.gev_links.specs.Links.{Address}
 use Rattle.gev_status.specs.declared.status.Status.{Status}
-use Rattle.gev_status.specs.declared.status.Status.TheVariants.{Done, Usage, BadScript, ReadFault, WriteFault, LinkFault, NoMemory, NoAnswer, Refused, TurnsSpent, BadCapture}
+use Rattle.gev_status.specs.declared.status.Status.TheVariants.{Done, Usage, BadScript, ReadFault, WriteFault, LinkFault, NoMemory, NoAnswer, Refused, TurnsSpent, BadCapture, NoPicture}
 use Rattle.gev_live.specs.Told.{Told}
 use Rattle.gev_live.specs.Endings.{Wrote}
 use Rattle.gev_live.specs.LiveRun.{Numbers}
@@ -28,6 +28,7 @@ wrote_ends ReadFault text written written_after faults faults_after wrote none o
 wrote_ends (Usage place) text written written_after faults faults_after wrote none other = wrote
 wrote_ends (BadScript line kind) text written written_after faults faults_after wrote none other = wrote
 wrote_ends (BadCapture number kind) text written written_after faults faults_after wrote none other = wrote
+wrote_ends (NoPicture why) text written written_after faults faults_after wrote none other = wrote
 
 pub run_ends : (n : Numbers) (lanes : ℕ) (camera stream : Address) (answer : Status) (o e : Told) (written written_after : Option (List ℕ)) (faults faults_after : ℕ) (h : List Entry)
     → RunsByLanes n lanes camera stream answer o e written written_after faults faults_after h → NoneRose faults faults_after → answer ≢ LinkFault → EndsLive answer

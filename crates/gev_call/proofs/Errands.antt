@@ -5,7 +5,7 @@ use Rattle.gev_world.specs.declared.soak_end.SoakEnd.TheVariants as soaks
 use Rattle.gev_status.specs.declared.status.Status.{Status}
 use Rattle.gev_status.specs.declared.status.Status.TheVariants.{Usage, LinkFault}
 use Rattle.gev_top.specs.declared.command.Command.{Command}
-use Rattle.gev_top.specs.declared.command.Command.TheVariants.{Replay, Explain, Streams, Capture, Camera, Make, Soak}
+use Rattle.gev_top.specs.declared.command.Command.TheVariants.{Replay, Explain, Image, Streams, Capture, Camera, Make, Soak}
 use Rattle.gev_top.specs.declared.live_numbers.LiveNumbers.{LiveNumbers}
 use Rattle.gev_top.specs.Answers.{Answers}
 use Rattle.gev_top.specs.Soaking.{status_after}
@@ -45,6 +45,7 @@ no_links : (command : Command) (left left_after : Option (List ℕ)) (reads read
     → Answers command LinkFault left left_after reads reads_after written written_after writes writes_after → ⊥
 no_links Replay left left_after reads reads_after written written_after writes writes_after bad = bad
 no_links Explain left left_after reads reads_after written written_after writes writes_after bad = bad
+no_links (Image wanted) left left_after reads reads_after written written_after writes writes_after bad = bad
 no_links Streams left left_after reads reads_after written written_after writes writes_after bad = bad
 no_links (Capture port p bytes) left left_after reads reads_after written written_after writes writes_after bad = bad
 no_links Camera left left_after reads reads_after written written_after writes writes_after bad = bad

@@ -27,7 +27,7 @@ use std::thread::Threads;
 
 /// Does what the words say. This is what `main` calls.
 ///
-/// `replay`, `explain`, `streams`, `capture`, `camera`, `make` and `soak` do what `plain_top` says; they make no use of the
+/// `replay`, `explain`, `image`, `streams`, `capture`, `camera`, `make` and `soak` do what `plain_top` says; they make no use of the
 /// ports, and nothing is kept.
 ///
 /// `live` with a seed, a number of frames, of buffers, of lanes and of turns runs a camera, a receiver and an

@@ -1,7 +1,7 @@
 -- The exit status of the program for each answer.
 use Rattle.std.specs.Prelude.{ℕ}
 use Rattle.gev_status.specs.declared.status.Status.{Status}
-use Rattle.gev_status.specs.declared.status.Status.TheVariants.{Done, Usage, BadScript, ReadFault, WriteFault, LinkFault, NoMemory, NoAnswer, Refused, TurnsSpent, BadCapture}
+use Rattle.gev_status.specs.declared.status.Status.TheVariants.{Done, Usage, BadScript, ReadFault, WriteFault, LinkFault, NoMemory, NoAnswer, Refused, TurnsSpent, BadCapture, NoPicture}
 
 abbrev pub exit_status : Status → ℕ
 exit_status Done = 0
@@ -15,3 +15,4 @@ exit_status (NoAnswer req) = 9
 exit_status (Refused status) = 10
 exit_status (TurnsSpent turns frames) = 11
 exit_status (BadCapture number kind) = 12
+exit_status (NoPicture why) = 13

@@ -1,6 +1,7 @@
 ghost use Rattle.std.specs.Prelude.{◌≡◌};
 ghost use Rattle.gev_status.specs.ExitStatus.{exit_status};
 
+use frame_pictures::NoPicture;
 use gev_capture::CaptureKind;
 use gev_script::ScriptKind;
 use std::fmt;
@@ -55,6 +56,11 @@ pub enum Status {
         /// Why it's refused.
         kind: CaptureKind,
     },
+    /// The buffer that was asked for has no picture. Nothing was written.
+    NoPicture {
+        /// Why it has none.
+        why: NoPicture,
+    },
 }
 
 impl Status {
@@ -74,6 +80,7 @@ impl Status {
             Status::Refused { .. } => 10,
             Status::TurnsSpent { .. } => 11,
             Status::BadCapture { .. } => 12,
+            Status::NoPicture { .. } => 13,
         }
     }
 }
@@ -100,6 +107,10 @@ impl fmt::Display for Status {
             Status::BadCapture { record, kind } => {
                 let cause = CaptureCause(*kind);
                 write!(f, "record {record}: {cause}")
+            }
+            Status::NoPicture { why } => {
+                let cause = PictureCause(*why);
+                write!(f, "no picture: {cause}")
             }
         }
     }
@@ -135,6 +146,21 @@ impl fmt::Display for CaptureCause {
             CaptureKind::Version => write!(f, "version"),
             CaptureKind::Length => write!(f, "length"),
             CaptureKind::Interface => write!(f, "interface"),
+        }
+    }
+}
+
+/// Why a buffer has no picture, as a text.
+#[derive(Drop)]
+struct PictureCause(NoPicture);
+
+impl fmt::Display for PictureCause {
+    fn fmt<W: fmt::Write>(&self, f: &mut fmt::Formatter<W>) -> fmt::Result {
+        match self.0 {
+            NoPicture::Taken(count) => write!(f, "{count} buffers were taken"),
+            NoPicture::NoLeader => write!(f, "no leader"),
+            NoPicture::PixelFormat(code) => write!(f, "pixel format 0x{code:08x}"),
+            NoPicture::NoPixels => write!(f, "no pixels"),
         }
     }
 }

@@ -7,9 +7,9 @@ use Rattle.gev_world.specs.Runs.{RunsSoak}
 use Rattle.world_machine.specs.State.{Run}
 use Rattle.gev_make.specs.MakeText.{make_text}
 use Rattle.gev_status.specs.declared.status.Status.{Status}
-use Rattle.gev_status.specs.declared.status.Status.TheVariants.{Done, Usage, BadScript, ReadFault, WriteFault, LinkFault, NoMemory, NoAnswer, Refused, TurnsSpent, BadCapture}
+use Rattle.gev_status.specs.declared.status.Status.TheVariants.{Done, Usage, BadScript, ReadFault, WriteFault, LinkFault, NoMemory, NoAnswer, Refused, TurnsSpent, BadCapture, NoPicture}
 use Rattle.gev_top.specs.declared.command.Command.{Command}
-use Rattle.gev_top.specs.declared.command.Command.TheVariants.{Replay, Explain, Streams, Capture, Camera, Make, Soak}
+use Rattle.gev_top.specs.declared.command.Command.TheVariants.{Replay, Explain, Image, Streams, Capture, Camera, Make, Soak}
 use Rattle.gev_top.specs.Soaking.{status_after}
 use Rattle.gev_capture.specs.Sightings.{Sighting}
 use Rattle.capture_runs.specs.Ends.{RunEnds}
@@ -17,9 +17,10 @@ use Rattle.capture_streams.specs.Texts.{streams_text, listed_text}
 use Rattle.capture_script.specs.Script.{capture_script, begun_script}
 use Rattle.gev_top.specs.Capturing.{IfCaptured}
 use Rattle.gev_top.specs.Explained.{Explains}
+use Rattle.gev_top.specs.Imaging.{Images}
 use Rattle.gev_top.specs.Usage.{Said}
 use Rattle.gev_top.specs.Answers.{Replays, Serves, Writes, Answers, IsDecided}
-use Rattle.gev_top.specs.Completeness.{NoneRose, EndsScript, EndsCapture, EndsText, EndsWorld, IsComplete, Completes}
+use Rattle.gev_top.specs.Completeness.{NoneRose, EndsScript, EndsImage, EndsCapture, EndsText, EndsWorld, IsComplete, Completes}
 
 replayed : (status : Status) (left left_after : Option (List ℕ)) (reads reads_after : ℕ) (written written_after : Option (List ℕ)) (writes writes_after : ℕ)
     → Replays status left left_after reads reads_after written written_after writes writes_after → NoneRose reads reads_after → NoneRose writes writes_after → EndsScript status
@@ -34,6 +35,7 @@ replayed (Refused status) left left_after reads reads_after written written_afte
 replayed LinkFault left left_after reads reads_after written written_after writes writes_after h none none_written = h
 replayed (TurnsSpent turns frames) left left_after reads reads_after written written_after writes writes_after h none none_written = h
 replayed (BadCapture number kind) left left_after reads reads_after written written_after writes writes_after h none none_written = h
+replayed (NoPicture why) left left_after reads reads_after written written_after writes writes_after h none none_written = h
 
 explained : (status : Status) (left left_after : Option (List ℕ)) (reads reads_after : ℕ) (written written_after : Option (List ℕ)) (writes writes_after : ℕ)
     → Explains status left left_after reads reads_after written written_after writes writes_after → NoneRose reads reads_after → NoneRose writes writes_after → EndsScript status
@@ -48,6 +50,22 @@ explained (Refused status) left left_after reads reads_after written written_aft
 explained LinkFault left left_after reads reads_after written written_after writes writes_after h none none_written = h
 explained (TurnsSpent turns frames) left left_after reads reads_after written written_after writes writes_after h none none_written = h
 explained (BadCapture number kind) left left_after reads reads_after written written_after writes writes_after h none none_written = h
+explained (NoPicture why) left left_after reads reads_after written written_after writes writes_after h none none_written = h
+
+shown : (wanted : ℕ) (status : Status) (left left_after : Option (List ℕ)) (reads reads_after : ℕ) (written written_after : Option (List ℕ)) (writes writes_after : ℕ)
+    → Images wanted status left left_after reads reads_after written written_after writes writes_after → NoneRose reads reads_after → NoneRose writes writes_after → EndsImage status
+shown wanted Done left left_after reads reads_after written written_after writes writes_after h none none_written = tt
+shown wanted (NoPicture why) left left_after reads reads_after written written_after writes writes_after h none none_written = tt
+shown wanted (BadScript line kind) left left_after reads reads_after written written_after writes writes_after h none none_written = tt
+shown wanted NoMemory left left_after reads reads_after written written_after writes writes_after h none none_written = tt
+shown wanted ReadFault left left_after reads reads_after written written_after writes writes_after h none none_written = none h.holds.ends.0
+shown wanted WriteFault left left_after reads reads_after written written_after writes writes_after h none none_written = none_written h.holds.ends.0
+shown wanted (Usage place) left left_after reads reads_after written written_after writes writes_after h none none_written = h
+shown wanted (NoAnswer req) left left_after reads reads_after written written_after writes writes_after h none none_written = h
+shown wanted (Refused status) left left_after reads reads_after written written_after writes writes_after h none none_written = h
+shown wanted LinkFault left left_after reads reads_after written written_after writes writes_after h none none_written = h
+shown wanted (TurnsSpent turns frames) left left_after reads reads_after written written_after writes writes_after h none none_written = h
+shown wanted (BadCapture number kind) left left_after reads reads_after written written_after writes writes_after h none none_written = h
 
 served : (status : Status) (left left_after : Option (List ℕ)) (reads reads_after : ℕ) (written written_after : Option (List ℕ)) (writes writes_after : ℕ)
     → Serves status left left_after reads reads_after written written_after writes writes_after → NoneRose reads reads_after → NoneRose writes writes_after → EndsScript status
@@ -62,6 +80,7 @@ served (Refused status) left left_after reads reads_after written written_after 
 served LinkFault left left_after reads reads_after written written_after writes writes_after h none none_written = h
 served (TurnsSpent turns frames) left left_after reads reads_after written written_after writes writes_after h none none_written = h
 served (BadCapture number kind) left left_after reads reads_after written written_after writes writes_after h none none_written = h
+served (NoPicture why) left left_after reads reads_after written written_after writes writes_after h none none_written = h
 
 captured : (whole begun : List Sighting → List ℕ) (status : Status) (left left_after : Option (List ℕ)) (reads reads_after : ℕ) (written written_after : Option (List ℕ)) (writes writes_after : ℕ)
     → IfCaptured (λ ending. RunEnds whole begun ending left left_after reads reads_after written written_after writes writes_after) status → NoneRose reads reads_after → NoneRose writes writes_after → EndsCapture status
@@ -76,6 +95,7 @@ captured whole begun (NoAnswer req) left left_after reads reads_after written wr
 captured whole begun (Refused status) left left_after reads reads_after written written_after writes writes_after h none none_written = h
 captured whole begun LinkFault left left_after reads reads_after written written_after writes writes_after h none none_written = h
 captured whole begun (TurnsSpent turns frames) left left_after reads reads_after written written_after writes writes_after h none none_written = h
+captured whole begun (NoPicture why) left left_after reads reads_after written written_after writes writes_after h none none_written = h
 
 made : (text : List ℕ) (status : Status) (written written_after : Option (List ℕ)) (writes writes_after : ℕ)
     → Writes text status written written_after writes writes_after → NoneRose writes writes_after → EndsText status
@@ -90,6 +110,7 @@ made text (Refused status) written written_after writes writes_after h none = h
 made text LinkFault written written_after writes writes_after h none = h
 made text (TurnsSpent turns frames) written written_after writes writes_after h none = h
 made text (BadCapture number kind) written written_after writes writes_after h none = h
+made text (NoPicture why) written written_after writes writes_after h none = h
 
 soaked : (end : SoakEnd) (run : Run) (written written_after : Option (List ℕ)) (writes writes_after : ℕ)
     → RunsSoak end run written written_after writes writes_after → NoneRose writes writes_after → EndsWorld (status_after end)
@@ -105,6 +126,8 @@ completes Replay status left left_after reads reads_after written written_after 
     replayed status left left_after reads reads_after written written_after writes writes_after h none none_written
 completes Explain status left left_after reads reads_after written written_after writes writes_after h none none_written =
     explained status left left_after reads reads_after written written_after writes writes_after h none none_written
+completes (Image wanted) status left left_after reads reads_after written written_after writes writes_after h none none_written =
+    shown wanted status left left_after reads reads_after written written_after writes writes_after h none none_written
 completes Streams status left left_after reads reads_after written written_after writes writes_after h none none_written =
     captured streams_text listed_text status left left_after reads reads_after written written_after writes writes_after h none none_written
 completes (Capture port p bytes) status left left_after reads reads_after written written_after writes writes_after h none none_written =

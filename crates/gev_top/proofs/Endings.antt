@@ -55,6 +55,7 @@ if_ended P Q f (statuses.Refused status) h = h
 if_ended P Q f statuses.LinkFault h = h
 if_ended P Q f (statuses.TurnsSpent turns frames) h = h
 if_ended P Q f (statuses.BadCapture number kind) h = h
+if_ended P Q f (statuses.NoPicture why) h = h
 
 pub ended : (P : Ending → Type 0) (ending : Ending) → P ending → IfEnded P (status_of ending)
 ended P endings.Done h = h

@@ -4,4 +4,5 @@ pub mod Bettering
 pub mod Kept
 pub mod ExplainedRuns
 pub mod Captured
+pub mod Imaged
 pub mod Completing

@@ -9,11 +9,12 @@ use Rattle.camera_trace.specs.Standing as camera
 use Rattle.camera_trace.specs.Laws.{IsTold}
 use Rattle.gev_make.specs.MakeText.{make_text}
 use Rattle.gev_status.specs.declared.status.Status.{Status}
-use Rattle.gev_status.specs.declared.status.Status.TheVariants.{Done, Usage, BadScript, ReadFault, WriteFault, LinkFault, NoMemory, NoAnswer, Refused, TurnsSpent, BadCapture}
+use Rattle.gev_status.specs.declared.status.Status.TheVariants.{Done, Usage, BadScript, ReadFault, WriteFault, LinkFault, NoMemory, NoAnswer, Refused, TurnsSpent, BadCapture, NoPicture}
 use Rattle.gev_top.specs.declared.command.Command.{Command}
-use Rattle.gev_top.specs.declared.command.Command.TheVariants.{Replay, Explain, Streams, Capture, Camera, Make, Soak}
+use Rattle.gev_top.specs.declared.command.Command.TheVariants.{Replay, Explain, Image, Streams, Capture, Camera, Make, Soak}
 use Rattle.gev_top.specs.Scripts.{Ends, IfEnded, AnswersContent}
 use Rattle.gev_top.specs.Explained.{Explains}
+use Rattle.gev_top.specs.Imaging.{Images, AnswersImage}
 use Rattle.gev_top.specs.Soaking.{Soaks}
 use Rattle.gev_top.specs.Capturing.{ListsStreams, ScriptsCapture, IsCaptureRead, AnswersCapture}
 
@@ -53,6 +54,7 @@ Writes text (Refused status) written written_after writes writes_after = ⊥
 Writes text LinkFault written written_after writes writes_after = ⊥
 Writes text (TurnsSpent turns frames) written written_after writes writes_after = ⊥
 Writes text (BadCapture number kind) written written_after writes writes_after = ⊥
+Writes text (NoPicture why) written written_after writes writes_after = ⊥
 
 -- A text is made, and nothing is read.
 pub record Makes (text : List ℕ) (status : Status) (left left_after : Option (List ℕ)) (reads reads_after : ℕ) (written written_after : Option (List ℕ)) (writes writes_after : ℕ) : Type 0 where
@@ -65,6 +67,7 @@ pub record Makes (text : List ℕ) (status : Status) (left left_after : Option (
 abbrev pub Answers : Command → Status → Option (List ℕ) → Option (List ℕ) → ℕ → ℕ → Option (List ℕ) → Option (List ℕ) → ℕ → ℕ → Type 0
 Answers Replay = Replays
 Answers Explain = Explains
+Answers (Image wanted) = Images wanted
 Answers Streams = ListsStreams
 Answers (Capture port p bytes) = ScriptsCapture port p bytes
 Answers Camera = Serves
@@ -77,6 +80,7 @@ Answers (Soak seed frames rates short) = Soaks (record { seed = seed; frames = f
 abbrev pub ReadsSteady : Command → Status → ℕ → ℕ → Type 0
 ReadsSteady Replay status reads reads_after = status ≢ ReadFault → reads_after ≡ reads
 ReadsSteady Explain status reads reads_after = status ≢ ReadFault → reads_after ≡ reads
+ReadsSteady (Image wanted) status reads reads_after = status ≢ ReadFault → reads_after ≡ reads
 ReadsSteady Streams status reads reads_after = IsCaptureRead status → reads_after ≡ reads
 ReadsSteady (Capture port p bytes) status reads reads_after = IsCaptureRead status → reads_after ≡ reads
 ReadsSteady Camera status reads reads_after = status ≢ ReadFault → reads_after ≡ reads
@@ -87,6 +91,7 @@ ReadsSteady (Soak seed frames rates short) status reads reads_after = status ≢
 abbrev pub IsDecided : Command → Status → List ℕ → Type 0
 IsDecided Replay status content = AnswersContent status (outcome replay.replay_verdict content)
 IsDecided Explain status content = AnswersContent status (outcome replay.replay_verdict content)
+IsDecided (Image wanted) status content = AnswersImage status (outcome replay.replay_verdict content)
 IsDecided Streams status content = AnswersCapture status content
 IsDecided (Capture port p bytes) status content = AnswersCapture status content
 IsDecided Camera status content = AnswersContent status (outcome camera.camera_verdict content)

@@ -6,7 +6,7 @@ use Rattle.capture_runs.specs.Ends.{RunEnds, IsWhole, AnswersContent}
 use Rattle.capture_streams.specs.Texts.{streams_text, listed_text}
 use Rattle.capture_script.specs.Script.{capture_script, begun_script}
 use Rattle.gev_status.specs.declared.status.Status.{Status}
-use Rattle.gev_status.specs.declared.status.Status.TheVariants.{Done, Usage, BadScript, ReadFault, WriteFault, LinkFault, NoMemory, NoAnswer, Refused, TurnsSpent, BadCapture}
+use Rattle.gev_status.specs.declared.status.Status.TheVariants.{Done, Usage, BadScript, ReadFault, WriteFault, LinkFault, NoMemory, NoAnswer, Refused, TurnsSpent, BadCapture, NoPicture}
 
 -- the answer by how the run over a capture ended
 abbrev pub status_from : Ending → Status
@@ -29,6 +29,7 @@ IfCaptured P (NoAnswer req) = ⊥
 IfCaptured P (Refused status) = ⊥
 IfCaptured P LinkFault = ⊥
 IfCaptured P (TurnsSpent turns frames) = ⊥
+IfCaptured P (NoPicture why) = ⊥
 
 -- The streams of a capture: the text of the capture's packets was written.
 abbrev pub ListsStreams : Status → Option (List ℕ) → Option (List ℕ) → ℕ → ℕ → Option (List ℕ) → Option (List ℕ) → ℕ → ℕ → Type 0

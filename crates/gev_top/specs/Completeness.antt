@@ -3,9 +3,9 @@ use Rattle.std.specs.Prelude.{⊤, ℕ, List, Option}
 use Rattle.gev_links.specs.Faults.{Rose}
 use Rattle.script_runs.specs.Verdicts.{IfTold}
 use Rattle.gev_status.specs.declared.status.Status.{Status}
-use Rattle.gev_status.specs.declared.status.Status.TheVariants.{Done, BadScript, NoMemory, NoAnswer, Refused, TurnsSpent, BadCapture}
+use Rattle.gev_status.specs.declared.status.Status.TheVariants.{Done, BadScript, NoMemory, NoAnswer, Refused, TurnsSpent, BadCapture, NoPicture}
 use Rattle.gev_top.specs.declared.command.Command.{Command}
-use Rattle.gev_top.specs.declared.command.Command.TheVariants.{Replay, Explain, Streams, Capture, Camera, Make, Soak}
+use Rattle.gev_top.specs.declared.command.Command.TheVariants.{Replay, Explain, Image, Streams, Capture, Camera, Make, Soak}
 use Rattle.gev_top.specs.Answers.{IsDecided}
 use Rattle.gev_top.specs.LiveWords.{Errand, plain, live}
 
@@ -21,6 +21,14 @@ EndsScript Done = ⊤
 EndsScript (BadScript line kind) = ⊤
 EndsScript NoMemory = ⊤
 EndsScript _ = ⊥
+
+-- a picture was written, or there is none; or a line before it is refused
+abbrev pub EndsImage : Status → Type 0
+EndsImage Done = ⊤
+EndsImage (NoPicture why) = ⊤
+EndsImage (BadScript line kind) = ⊤
+EndsImage NoMemory = ⊤
+EndsImage _ = ⊥
 
 -- a capture was read to its end, or to a record that is refused
 abbrev pub EndsCapture : Status → Type 0
@@ -57,6 +65,7 @@ EndsLive _ = ⊥
 abbrev pub IsComplete : Command → Status → Type 0
 IsComplete Replay = EndsScript
 IsComplete Explain = EndsScript
+IsComplete (Image wanted) = EndsImage
 IsComplete Streams = EndsCapture
 IsComplete (Capture port p bytes) = EndsCapture
 IsComplete Camera = EndsScript

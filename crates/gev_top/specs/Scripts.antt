@@ -8,7 +8,7 @@ use Rattle.script_runs.specs.Runs.{Running, Refusing, RunTo}
 use Rattle.script_runs.specs.Outcomes.{EndsAt}
 use Rattle.script_runs.specs.Verdicts.{Outcome, whole, refused}
 use Rattle.gev_status.specs.declared.status.Status.{Status}
-use Rattle.gev_status.specs.declared.status.Status.TheVariants.{Done, Usage, BadScript, ReadFault, WriteFault, LinkFault, NoMemory, NoAnswer, Refused, TurnsSpent, BadCapture}
+use Rattle.gev_status.specs.declared.status.Status.TheVariants.{Done, Usage, BadScript, ReadFault, WriteFault, LinkFault, NoMemory, NoAnswer, Refused, TurnsSpent, BadCapture, NoPicture}
 
 -- The line is run from one state to another, of which this holds.
 pub record RunsWell {M : Type 0} (moves : Running M) (Keeps : M → Type 0) (m : M) (n : ℕ) (line : List ℕ) (ran : Ran) (report : List ℕ) (new : M) : Type 0 where
@@ -50,6 +50,7 @@ IfEnded P (Refused status) = ⊥
 IfEnded P LinkFault = ⊥
 IfEnded P (TurnsSpent turns frames) = ⊥
 IfEnded P (BadCapture number kind) = ⊥
+IfEnded P (NoPicture why) = ⊥
 
 -- The answer to these bytes, all that a source holds: but for faults and want of memory, the script is
 -- whole, or this line is the first that is refused.
@@ -67,3 +68,4 @@ AnswersContent (Refused status) found = ⊥
 AnswersContent LinkFault found = ⊥
 AnswersContent (TurnsSpent turns frames) found = ⊥
 AnswersContent (BadCapture number kind) found = ⊥
+AnswersContent (NoPicture why) found = ⊥

@@ -5,7 +5,7 @@ use Rattle.gev_script.specs.Words.{Read}
 use Rattle.gev_script.specs.Numbers.{number_in}
 use Rattle.lossy_queue.specs.declared.rates.Rates.{Rates}
 use Rattle.gev_top.specs.declared.command.Command.{Command}
-use Rattle.gev_top.specs.declared.command.Command.TheVariants.{Replay, Explain, Streams, Capture, Camera, Make, Soak}
+use Rattle.gev_top.specs.declared.command.Command.TheVariants.{Replay, Explain, Image, Streams, Capture, Camera, Make, Soak}
 use Rattle.gev_top.specs.declared.numbers.Numbers.{Numbers}
 
 -- What words say, or the place of the first word with which no command line goes on, from 0. Where more
@@ -58,6 +58,13 @@ abbrev pub explain_of : List (List ℕ) → Said Command
 explain_of words = do
   done ← none_at 1 words
   Ok Explain
+
+-- `image <k>`: the k-th buffer that is taken
+abbrev pub image_of : List (List ℕ) → Said Command
+image_of words = do
+  wanted ← number_at 1 4294967295 1 words
+  done ← none_at 2 words
+  Ok (Image wanted)
 
 -- `streams`
 abbrev pub streams_of : List (List ℕ) → Said Command
@@ -122,6 +129,7 @@ pub record HasSizes (p bytes : ℕ) : Type 0 where
 abbrev pub IsInRange : Command → Type 0
 IsInRange Replay = ⊤
 IsInRange Explain = ⊤
+IsInRange (Image wanted) = 1 ≤ wanted
 IsInRange Streams = ⊤
 IsInRange (Capture port p bytes) = HasSizes p bytes
 IsInRange Camera = ⊤
@@ -133,6 +141,7 @@ abbrev pub named : List ℕ → List (List ℕ) → Said Command
 named name words =
     if bytes_eq name (codes "replay") then replay_of words
     else if bytes_eq name (codes "explain") then explain_of words
+    else if bytes_eq name (codes "image") then image_of words
     else if bytes_eq name (codes "streams") then streams_of words
     else if bytes_eq name (codes "capture") then capture_of words
     else if bytes_eq name (codes "camera") then camera_of words

@@ -8,6 +8,11 @@ pub enum Command {
     /// Run a replay script, and write its report with notes: which frames were lost, why each incomplete one is as it
     /// is, and what became of each datagram that is in no image.
     Explain,
+    /// Write a picture of a buffer that a replay script takes.
+    Image {
+        /// Which of the buffers that its `take` lines get, from 1.
+        wanted: u32,
+    },
     /// List the image streams in a capture.
     Streams,
     /// Write a replay script of the datagrams to one port of a capture.

@@ -8,6 +8,7 @@
 
 mod capturing;
 mod command;
+mod imaging;
 mod live_numbers;
 mod live_words;
 mod making;

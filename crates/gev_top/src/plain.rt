@@ -8,6 +8,7 @@ ghost use Rattle.gev_top.specs.Usage.{command_of, usage_fault, IsInRange};
 
 use crate::capturing::{capture, streams};
 use crate::command::Command;
+use crate::imaging::image;
 use crate::making::make_script;
 use crate::scripts::{camera, explain, replay};
 use crate::soaking::soak;
@@ -24,6 +25,9 @@ use std::alloc::Global;
 ///
 /// `explain` runs the same script in the same way, and writes before the report of each line what the line tells of
 /// lost frames and of datagrams that are in no image, in lines that begin with `# `.
+///
+/// `image` with a number k runs the same script up to the k-th buffer that its `take` lines get, and writes a picture of
+/// that one in place of the report.
 ///
 /// `streams` reads a capture of a network, a pcap or a pcapng file, and writes a line for each image stream in
 /// it, and an end line.
@@ -57,7 +61,8 @@ pub fn plain_top<S: Source, K: Sink>(
     // of faults rose. The bytes that a replay writes are the report of one trace, which keeps its promises:
     // under each map of frames from which the datagrams were sent, an image that is marked complete is its
     // block's frame. Those that an explanation writes are such a report with notes between its lines, which account
-    // for each datagram and each block. Those that a camera script writes are what events of one camera print. Of a script that
+    // for each datagram and each block. A picture is that of the buffer which is taken, by the block that filled it.
+    // Those that a camera script writes are what events of one camera print. Of a script that
     // is made: it was written whole, or a front of it. Of a capture: the text that lists the streams of its
     // packets, or the script of those to one port, was written, up to the record that is refused, if one is. Of a
     // soak run: its text was written, or a front of it, the answer is the run's end, its receiver's history keeps
@@ -105,6 +110,7 @@ fn run_command<S: Source, K: Sink>(
     match command {
         Command::Replay => replay(alloc, source, sink),
         Command::Explain => explain(alloc, source, sink),
+        Command::Image { wanted } => image(alloc, wanted, source, sink),
         Command::Streams => streams(alloc, source, sink),
         Command::Capture { port, p, bytes } => capture(alloc, port, p, bytes, source, sink),
         Command::Camera => camera(alloc, source, sink),

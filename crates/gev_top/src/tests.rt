@@ -16,6 +16,7 @@ mod handles;
 mod large_images;
 mod making;
 mod modes;
+mod pictures;
 mod refusals;
 mod second_reading;
 mod short_frames;

@@ -1,7 +1,7 @@
 ghost use Rattle.std.specs.Prelude.{◌≡◌, ◌≤◌, map, IfOk};
 ghost use Rattle.std.specs.String.{string_bytes};
 ghost use Rattle.std.specs.Str.{bytes_eq};
-ghost use Rattle.gev_top.specs.Usage.{number_at, none_at, short_at, rates_of, replay_of, explain_of, streams_of, capture_of, camera_of, make_of, soak_of, numbers_of, named, command_of, IsInRange};
+ghost use Rattle.gev_top.specs.Usage.{number_at, none_at, short_at, rates_of, replay_of, explain_of, image_of, streams_of, capture_of, camera_of, make_of, soak_of, numbers_of, named, command_of, IsInRange};
 
 use crate::command::Command;
 use crate::numbers::Numbers;
@@ -30,6 +30,9 @@ fn read_named(name: &[u8], words: &[String]) -> Result<Command, u32>
     }
     if is(name, b"explain") {
         return read_explain(words);
+    }
+    if is(name, b"image") {
+        return read_image(words);
     }
     if is(name, b"streams") {
         return read_streams(words);
@@ -65,6 +68,16 @@ fn read_explain(words: &[String]) -> Result<Command, u32>
 {
     none_at(1, words)?;
     Ok(Command::Explain)
+}
+
+/// The number of a buffer follows `image`.
+fn read_image(words: &[String]) -> Result<Command, u32>
+    ensures said { result ≡ image_of (map (λ word. string_bytes word) words.now) }
+    ensures within { IfOk result (λ command. IsInRange command) }
+{
+    let wanted = number_at(1, 4_294_967_295, 1, words)? as u32;
+    none_at(2, words)?;
+    Ok(Command::Image { wanted })
 }
 
 /// No word follows `streams`.

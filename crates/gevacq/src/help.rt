@@ -13,6 +13,10 @@ gevacq explain
     of lost frames and of datagrams that are in no image: why each incomplete
     image is as it is, in lines that begin with `# `.
 
+gevacq image <k>
+    Runs the same script up to the k-th buffer that its `take` lines get, and
+    writes a picture of that one in place of the report: a PGM or PPM file.
+
 gevacq streams
     Lists the image streams in a capture: reads a pcap or pcapng file from standard
     input and writes a line for each stream.
@@ -46,6 +50,7 @@ gevacq --help, gevacq -h
 gevacq --version
     Prints the name and the version.
 
+<k>                         1 to 4294967295
 <port>                      1 to 65535
 <p>                         528 to 8964
 <bytes>                     1 to 67108864
@@ -65,6 +70,7 @@ docs/FORMATS.md.
 pub(crate) const USAGE: &str = "\
 usage: gevacq replay
 usage: gevacq explain
+usage: gevacq image <k>
 usage: gevacq streams
 usage: gevacq capture <port> <p> <bytes>
 usage: gevacq camera

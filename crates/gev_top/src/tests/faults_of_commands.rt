@@ -4,6 +4,7 @@ use super::cameras::{CAMERA_REPORT, CAMERA_SCRIPT};
 use super::captures::{CAPTURE, STREAMS};
 use super::explanations::EXPLANATION;
 use super::making::ALL_LOST;
+use super::pictures::PICTURE;
 use super::soaking::THREE_FRAMES;
 use super::{SCRIPT, word_list};
 use crate::{Status, plain_top};
@@ -84,6 +85,7 @@ fn each_command_tells_of_faults(rt: HostRuntime) -> Result<(), Fail> {
     check_reads(&rt, alloc, &["streams"], &capture, STREAMS)?;
     check_writes(&rt, alloc, &["explain"], SCRIPT.as_bytes(), EXPLANATION)?;
     check_reads(&rt, alloc, &["explain"], SCRIPT.as_bytes(), EXPLANATION)?;
+    check_writes(&rt, alloc, &["image", "1"], SCRIPT.as_bytes(), PICTURE)?;
     let script = CAMERA_SCRIPT.as_bytes();
     check_writes(&rt, alloc, &["camera"], script, CAMERA_REPORT)?;
     check_reads(&rt, alloc, &["camera"], script, CAMERA_REPORT)?;

@@ -43,13 +43,28 @@ const CAPTURES: [(Words, Command); 2] = [
     ),
 ];
 
+/// Lines of `image`, and the command that each is.
+const IMAGES: [(Words, Command); 2] = [
+    (&["image", "1"], Command::Image { wanted: 1 }),
+    (
+        &["image", "4294967295"],
+        Command::Image {
+            wanted: 4_294_967_295,
+        },
+    ),
+];
+
 /// Refused words: the place of the first that isn't understood, and what `clap` finds wrong.
-const REFUSED: [(Words, u32, ErrorKind); 20] = [
+const REFUSED: [(Words, u32, ErrorKind); 24] = [
     (&[], 0, ErrorKind::MissingSubcommand),
     (&["reply"], 0, ErrorKind::InvalidSubcommand),
     (&["Replay"], 0, ErrorKind::InvalidSubcommand),
     (&["replay", "replay"], 1, ErrorKind::UnknownArgument),
     (&["explain", "replay"], 1, ErrorKind::UnknownArgument),
+    (&["image"], 1, ErrorKind::MissingRequiredArgument),
+    (&["image", "0"], 1, ErrorKind::ValueValidation),
+    (&["image", "4294967296"], 1, ErrorKind::ValueValidation),
+    (&["image", "1", "2"], 2, ErrorKind::UnknownArgument),
     (&["streams", "streams"], 1, ErrorKind::UnknownArgument),
     (
         &["capture", "49152", "528"],
@@ -191,6 +206,12 @@ fn matches_of(alloc: Global, words: Words) -> Result<ArgMatches<'static>, Error>
         .subcommand_required(true)
         .subcommand(clap::Command::new(alloc, "replay"))?
         .subcommand(clap::Command::new(alloc, "explain"))?
+        .subcommand(clap::Command::new(alloc, "image").arg(number_from(
+            alloc,
+            "k",
+            1,
+            4_294_967_295,
+        ))?)?
         .subcommand(clap::Command::new(alloc, "streams"))?
         .subcommand(with_sizes(alloc)?)?
         .subcommand(clap::Command::new(alloc, "camera"))?
@@ -230,6 +251,11 @@ fn found_command(found: &ArgMatches<'static>) -> Option<Command> {
     }
     if name == "explain" {
         return Some(Command::Explain);
+    }
+    if name == "image" {
+        return Some(Command::Image {
+            wanted: inner.get_one::<u32>("k")?,
+        });
     }
     if name == "streams" {
         return Some(Command::Streams);
@@ -371,6 +397,7 @@ fn both_read(rt: &(impl Abort + AllocGlobal), table: &[(Words, Command)]) -> Res
 
 #[test]
 fn both_read_words_and_numbers(rt: HostRuntime) -> Result<(), Fail> {
+    both_read(&rt, IMAGES.as_slice())?;
     both_read(&rt, CAPTURES.as_slice())?;
     both_read(&rt, made().as_slice())?;
     both_read(&rt, soaked().as_slice())

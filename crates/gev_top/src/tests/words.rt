@@ -1,5 +1,6 @@
 use super::{SCRIPT, word_list};
 use crate::{Status, plain_top};
+use frame_pictures::NoPicture;
 use gev_capture::CaptureKind;
 use gev_links::{MemorySink, SteadySource};
 use gev_script::ScriptKind;
@@ -8,7 +9,7 @@ use std::test::Fail;
 /// The words of a command line, and the place of the first that isn't understood.
 type Refused = (&'static [&'static str], u32);
 
-const OTHER_WORDS: [Refused; 34] = [
+const OTHER_WORDS: [Refused; 39] = [
     (&[], 0),
     (&["reply"], 0),
     (&["Replay"], 0),
@@ -17,6 +18,11 @@ const OTHER_WORDS: [Refused; 34] = [
     (&["replay", "replay"], 1),
     (&["explain", ""], 1),
     (&["Explain"], 0),
+    (&["image"], 1),
+    (&["image", "0"], 1),
+    (&["image", "4294967296"], 1),
+    (&["image", "01"], 1),
+    (&["image", "1", "1"], 2),
     (&["camera", "replay"], 1),
     (&["make"], 1),
     (&["make", "x", "0", "0", "0", "0"], 1),
@@ -102,6 +108,18 @@ fn numbers_and_texts(rt: HostRuntime) -> Result<(), Fail> {
             12,
             "record 3: interface",
         ),
+        (
+            no_picture(NoPicture::Taken(1)),
+            13,
+            "no picture: 1 buffers were taken",
+        ),
+        (no_picture(NoPicture::NoLeader), 13, "no picture: no leader"),
+        (
+            no_picture(NoPicture::PixelFormat(0x010a_0046)),
+            13,
+            "no picture: pixel format 0x010a0046",
+        ),
+        (no_picture(NoPicture::NoPixels), 13, "no picture: no pixels"),
     ];
     assert_eq!(rt; Status::Done.number(), 0);
     for (status, number, text) in cases {
@@ -119,4 +137,9 @@ fn bad_script(kind: ScriptKind) -> Status {
 /// The answer to a capture whose record 3 is refused for this cause.
 fn bad_capture(kind: CaptureKind) -> Status {
     Status::BadCapture { record: 3, kind }
+}
+
+/// The answer where there is no picture for this cause.
+fn no_picture(why: NoPicture) -> Status {
+    Status::NoPicture { why }
 }
