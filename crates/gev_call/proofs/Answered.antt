@@ -6,25 +6,18 @@ use Rattle.gev_status.specs.declared.status.Status.{Status}
 use Rattle.gev_status.specs.declared.status.Status.TheVariants.{Done, Usage, BadScript, ReadFault, WriteFault, LinkFault, NoMemory, NoAnswer, Refused, TurnsSpent, BadCapture, NoPicture}
 use Rattle.gev_live.specs.Told.{Told}
 use Rattle.gev_live.specs.Endings.{Wrote}
-use Rattle.gev_live.specs.LiveRun.{Numbers, LinksStay, LinkFailed}
-use Rattle.gev_call.specs.Lanes.{RunsByLanes}
+use Rattle.gev_live.specs.LiveRun.{Numbers, LinksStay, LinkFailed, RunsLive}
 
-pub links_kept : (n : Numbers) (lanes : ℕ) (camera stream : Address) (answer : Status) (o e : Told) (written written_after : Option (List ℕ)) (faults faults_after : ℕ) (h : List Entry)
-    → RunsByLanes n lanes camera stream answer o e written written_after faults faults_after h → answer ≢ LinkFault → LinksStay o e
-links_kept n lanes camera stream answer o e written written_after faults faults_after h (inl (count, inl run)) other = run.steady other
-links_kept n lanes camera stream answer o e written written_after faults faults_after h (inr (count, inl run)) other = run.steady other
-links_kept n lanes camera stream answer o e written written_after faults faults_after h (inl (count, inr never)) other =
-    subst (λ (x : Told). LinksStay o x) (sym never.untold) (record { camera = refl; stream = refl; control = refl })
-links_kept n lanes camera stream answer o e written written_after faults faults_after h (inr (count, inr never)) other =
+pub links_kept : (n : Numbers) (camera stream : Address) (answer : Status) (o e : Told) (written written_after : Option (List ℕ)) (faults faults_after : ℕ) (h : List Entry)
+    → RunsLive n camera stream answer o e written written_after faults faults_after h → answer ≢ LinkFault → LinksStay o e
+links_kept n camera stream answer o e written written_after faults faults_after h (inl run) other = run.steady other
+links_kept n camera stream answer o e written written_after faults faults_after h (inr never) other =
     subst (λ (x : Told). LinksStay o x) (sym never.untold) (record { camera = refl; stream = refl; control = refl })
 
-pub link_failed : (n : Numbers) (lanes : ℕ) (camera stream : Address) (answer : Status) (o e : Told) (written written_after : Option (List ℕ)) (faults faults_after : ℕ) (h : List Entry)
-    → RunsByLanes n lanes camera stream answer o e written written_after faults faults_after h → answer ≡ LinkFault → LinkFailed o e
-link_failed n lanes camera stream answer o e written written_after faults faults_after h (inl (count, inl run)) is = run.failed is
-link_failed n lanes camera stream answer o e written written_after faults faults_after h (inr (count, inl run)) is = run.failed is
-link_failed n lanes camera stream answer o e written written_after faults faults_after h (inl (count, inr never)) is =
-    let bad : LinkFault ≡ NoMemory = sym is ∙ never.wanted in let no : ⊥ = cc in absurd no
-link_failed n lanes camera stream answer o e written written_after faults faults_after h (inr (count, inr never)) is =
+pub link_failed : (n : Numbers) (camera stream : Address) (answer : Status) (o e : Told) (written written_after : Option (List ℕ)) (faults faults_after : ℕ) (h : List Entry)
+    → RunsLive n camera stream answer o e written written_after faults faults_after h → answer ≡ LinkFault → LinkFailed o e
+link_failed n camera stream answer o e written written_after faults faults_after h (inl run) is = run.failed is
+link_failed n camera stream answer o e written written_after faults faults_after h (inr never) is =
     let bad : LinkFault ≡ NoMemory = sym is ∙ never.wanted in let no : ⊥ = cc in absurd no
 
 wrote_kept : (answer : Status) (text : List ℕ) (written written_after : Option (List ℕ)) (faults faults_after : ℕ) → Wrote answer text written written_after faults faults_after
@@ -42,11 +35,8 @@ wrote_kept (BadScript line kind) text written written_after faults faults_after 
 wrote_kept (BadCapture number kind) text written written_after faults faults_after wrote other = absurd wrote
 wrote_kept (NoPicture why) text written written_after faults faults_after wrote other = absurd wrote
 
-pub writes_kept : (n : Numbers) (lanes : ℕ) (camera stream : Address) (answer : Status) (o e : Told) (written written_after : Option (List ℕ)) (faults faults_after : ℕ) (h : List Entry)
-    → RunsByLanes n lanes camera stream answer o e written written_after faults faults_after h → answer ≢ WriteFault → faults_after ≡ faults
-writes_kept n lanes camera stream answer o e written written_after faults faults_after h (inl (count, inl run)) other =
+pub writes_kept : (n : Numbers) (camera stream : Address) (answer : Status) (o e : Told) (written written_after : Option (List ℕ)) (faults faults_after : ℕ) (h : List Entry)
+    → RunsLive n camera stream answer o e written written_after faults faults_after h → answer ≢ WriteFault → faults_after ≡ faults
+writes_kept n camera stream answer o e written written_after faults faults_after h (inl run) other =
     wrote_kept answer _ written written_after faults faults_after run.ended.wrote other
-writes_kept n lanes camera stream answer o e written written_after faults faults_after h (inr (count, inl run)) other =
-    wrote_kept answer _ written written_after faults faults_after run.ended.wrote other
-writes_kept n lanes camera stream answer o e written written_after faults faults_after h (inl (count, inr never)) other = never.no_fault
-writes_kept n lanes camera stream answer o e written written_after faults faults_after h (inr (count, inr never)) other = never.no_fault
+writes_kept n camera stream answer o e written written_after faults faults_after h (inr never) other = never.no_fault

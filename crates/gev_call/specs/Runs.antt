@@ -8,8 +8,8 @@ use Rattle.gev_status.specs.declared.status.Status.{Status}
 use Rattle.gev_status.specs.declared.status.Status.TheVariants.{LinkFault, NoMemory}
 use Rattle.gev_top.specs.declared.live_numbers.LiveNumbers.{LiveNumbers}
 use Rattle.gev_live.specs.Told.{Told}
-use Rattle.gev_live.specs.LiveRun.{Numbers}
-use Rattle.gev_call.specs.Lanes.{RunsByLanes, KeepsByLanes}
+use Rattle.gev_live.specs.LiveRun.{Numbers, RunsLive}
+use Rattle.live_promises.specs.Promises.{KeepsLivePromises}
 
 -- what these three links and three clocks tell
 abbrev pub told_by : {L C : Type 0} → (L → Option (List Answer)) → (L → Option (List (Address × List ℕ))) → (L → ℕ) → (C → Option (List ℕ)) → L → L → L → C → C → C → Told
@@ -62,8 +62,8 @@ pub record RunsOver {L C : Type 0} (received : L → Option (List Answer)) (sent
   pub begins : Told
   pub untold : IsUntold begins
   pub ends : Told
-  pub runs : RunsByLanes (numbers_of n) n.lanes camera stream status begins ends written written_after writes writes_after h
-  pub promises : KeepsByLanes runs
+  pub runs : RunsLive (numbers_of n) camera stream status begins ends written written_after writes writes_after h
+  pub promises : KeepsLivePromises runs
   pub listed : links ≡ Some [] → clocks ≡ Some [] → AreListed received sent faults told links_after clocks_after ends
 
 -- No board was made: a bind failed, or memory was wanting, and nothing was written.

@@ -3,24 +3,20 @@
 ghost use Rattle.std.specs.Prelude.{◌≡◌, ◌≢◌, ◌+◌, ◌≤◌, ℕ, [], ◌∷◌, None, IfSome};
 ghost use Rattle.board_machine.specs.Histories.{After};
 ghost use Rattle.board_machine.specs.Laws.{IsAlone};
-ghost use Rattle.buffer_words.specs.Boards.{board_id};
-ghost use Rattle.buffer_words.specs.Passes.{SameHands};
 ghost use Rattle.gev_links.specs.Faults.{Rose};
 ghost use Rattle.gev_links.specs.Links.{IsBlank};
 ghost use Rattle.gev_links.specs.PortsState.{IsNew};
 ghost use Rattle.gev_binding.specs.Bound.{ComeBack, RaisesBy};
 ghost use Rattle.gev_top.specs.LiveWords.{IsInRange};
 ghost use Rattle.gev_top.specs.Completeness.{NoneRose, EndsLive};
-ghost use Rattle.gev_call.specs.Lanes.{RunsByLanes};
-ghost use Rattle.gev_call.specs.Runs.{told_by, numbers_of, RunsOver, RunsNothing};
+ghost use Rattle.gev_call.specs.Runs.{RunsOver, RunsNothing};
 
 use buffer_words::{Board, Pass};
 use gev_binding::{ThreeLinks, bind_three, give_back};
-use gev_links::{Clock, Gate, Link, Ports, Sink};
+use gev_links::{Gate, Ports, Sink};
 use gev_live::{Ends, live_over};
 use gev_status::Status;
 use gev_top::LiveNumbers;
-use live_lanes::live_lanes;
 use std::alloc::Global;
 use std::sync::Wait;
 use std::thread::Threads;
@@ -79,67 +75,6 @@ fn with_clocks<P: Ports>(ports: &mut P, links: ThreeLinks<P::L>) -> Ends<P::L, P
     }
 }
 
-/// Runs with one lane, in which the reader is the lane, or with several.
-fn run_by_lanes<
-    R: Threads + Wait + Sync,
-    L: Link + Send + Drop,
-    C: Clock + Send + Drop,
-    K: Sink,
-    G: Gate + Sync,
->(
-    rt: &R,
-    alloc: Global,
-    board: &Board,
-    pass: &mut Pass,
-    numbers: LiveNumbers,
-    ends: Ends<L, L, C>,
-    gate: &G,
-    sink: &mut K,
-) -> (Status, Ends<L, L, C>)
-    requires within { IsInRange numbers }
-    requires table { pass.old.table ≡ board_id board.now }
-    requires first { pass.old.number ≡ 0 }
-    requires unseen { pass.old.seen ≡ [] }
-    ensures table { pass.new.table ≡ pass.old.table }
-    ensures hands { SameHands pass.old pass.new }
-    ensures alone { IsAlone (After pass.new.seen) 0 }
-    ensures live { RunsByLanes (numbers_of numbers) numbers.lanes (L.address ends.camera) (L.address ends.stream) result.0
-        (told_by L.received L.sent L.faults C.told ends.camera ends.stream ends.control ends.camera_clock ends.host_clock ends.app_clock)
-        (told_by L.received L.sent L.faults C.told result.1.camera result.1.stream result.1.control result.1.camera_clock result.1.host_clock result.1.app_clock)
-        (K.written sink.old) (K.written sink.new) (K.faults sink.old) (K.faults sink.new) pass.new.seen }
-{
-    if numbers.lanes == 1 {
-        return live_over(
-            rt,
-            alloc,
-            board,
-            pass,
-            numbers.seed,
-            numbers.frames,
-            numbers.buffers,
-            numbers.lanes,
-            numbers.turns,
-            ends,
-            gate,
-            sink,
-        );
-    }
-    live_lanes(
-        rt,
-        alloc,
-        board,
-        pass,
-        numbers.seed,
-        numbers.frames,
-        numbers.buffers,
-        numbers.lanes,
-        numbers.turns,
-        ends,
-        gate,
-        sink,
-    )
-}
-
 /// Runs over these links and clocks on a new board, and gives all back.
 fn run_over<R: Threads + Wait + Sync, K: Sink, P: Ports, G: Gate + Sync>(
     rt: &R,
@@ -173,8 +108,20 @@ fn run_over<R: Threads + Wait + Sync, K: Sink, P: Ports, G: Gate + Sync>(
     match Board::new(alloc) {
         Ok(made) => {
             let (board, mut pass) = made;
-            let (status, ends) =
-                run_by_lanes(rt, alloc, &board, &mut pass, numbers, ends, gate, sink);
+            let (status, ends) = live_over(
+                rt,
+                alloc,
+                &board,
+                &mut pass,
+                numbers.seed,
+                numbers.frames,
+                numbers.buffers,
+                numbers.lanes,
+                numbers.turns,
+                ends,
+                gate,
+                sink,
+            );
             give_ends(ports, ends);
             // All that the pass has seen is one run of the board.
             pass.witness();
