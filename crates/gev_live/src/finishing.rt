@@ -76,7 +76,7 @@ fn camera_status(
 
 /// The answer of a live run whose workers ended so: a link's failure goes first, then want of memory, then a
 /// command without answer or one that was refused.
-pub(crate) fn status_by(
+pub fn status_by(
     served: ServeEnd,
     end: AcqEnd,
     frames: u32,
@@ -99,7 +99,7 @@ pub(crate) fn status_by(
 }
 
 /// How many buffers were taken; 0 where memory was wanting.
-pub(crate) fn taken_of(answer: &Result<u32, NoMemory>) -> u32
+pub fn taken_of(answer: &Result<u32, NoMemory>) -> u32
     ensures { result ≡ taken_of answer.now }
 {
     match answer {
@@ -150,7 +150,7 @@ fn tell<K: Sink>(
 }
 
 /// Writes the lines and the last one, where the workers' answer wants that.
-pub(crate) fn finish<K: Sink>(
+pub fn finish<K: Sink>(
     alloc: Global,
     sink: &mut K,
     first: Status,

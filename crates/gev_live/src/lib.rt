@@ -14,4 +14,5 @@ mod tests;
 mod tools;
 
 pub use ends::Ends;
+pub use finishing::{finish, status_by, taken_of};
 pub use live::live_over;

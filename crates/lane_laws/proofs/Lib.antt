@@ -1,1 +1,1 @@
-mod Bringing
+pub mod Bringing

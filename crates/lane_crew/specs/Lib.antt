@@ -1,0 +1,6 @@
+pub mod Kinds
+pub mod Tools
+pub mod Reader
+pub mod Did
+pub mod Crew
+pub mod Laws

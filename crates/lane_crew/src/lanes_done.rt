@@ -1,0 +1,20 @@
+use buffer_words::Pass;
+use control_client::Client;
+use gev_control::AcqEnd;
+
+/// What the acquisition's worker with lanes gives back: its pass, its client, its links and its clock, and how it
+/// ended.
+pub struct LanesDone<S, M, C> {
+    /// The pass, with nothing in its hands. It has joined the lanes' passes.
+    pub pass: Pass,
+    /// The client of the control link.
+    pub client: Client,
+    /// The link of the stream.
+    pub stream: S,
+    /// The control link.
+    pub control: M,
+    /// The host's clock.
+    pub clock: C,
+    /// How the setup ended where it wasn't done, else how the reader's turns ended.
+    pub end: AcqEnd,
+}

@@ -1,0 +1,67 @@
+//! The lanes as threads.
+
+ghost use Rattle.std.specs.Prelude.{◌≡◌, vec_len, vec_capacity};
+ghost use Rattle.buffer_words.specs.Boards.{board_id};
+ghost use Rattle.lane_crew.specs.Tools.{IsReady, AreReady, IsServed, AreServed};
+
+use crate::lane_tools::LaneTools;
+use buffer_words::Board;
+use gev_lanes::Lanes;
+use gev_links::Gate;
+use lane_worker::lane;
+use std::sync::Wait;
+use std::thread;
+use std::thread::Threads;
+
+// One lane, with what it works on by value.
+fn serve_one<R: Wait, G: Gate>(
+    rt: &R,
+    board: &Board,
+    lanes: &Lanes,
+    gate: &G,
+    tools: LaneTools,
+) -> LaneTools
+    requires ready { IsReady (board_id board.now) lanes.now tools }
+    ensures served { IsServed lanes.now tools result }
+{
+    let LaneTools {
+        mut pass,
+        mut ends,
+        mut acq,
+    } = tools;
+    lane(rt, board, &mut pass, lanes, &mut ends, &mut acq, gate);
+    LaneTools { pass, ends, acq }
+}
+
+/// All lanes, each as a thread beside the others.
+pub(crate) fn serve_lanes<R: Threads + Wait + Sync, G: Gate + Sync>(
+    rt: &R,
+    board: &Board,
+    lanes: &Lanes,
+    gate: &G,
+    mut tools: Vec<LaneTools>,
+) -> Vec<LaneTools>
+    requires ready { AreReady (board_id board.now) lanes.now tools.items }
+    ensures served { AreServed lanes.now tools.items result.items }
+    ensures count { vec_len result ≡ vec_len tools }
+    ensures capacity { vec_capacity result ≡ vec_capacity tools }
+{
+    match tools.pop() {
+        Some(last) => {
+            let (served, mut all) = thread::join(
+                rt,
+                move || -> LaneTools
+                    requires { IsReady (board_id board.now) lanes.now last }
+                    ensures { IsServed lanes.entry.now last result }
+                { serve_one(rt, board, lanes, gate, last) },
+                move || -> Vec<LaneTools>
+                    requires { AreReady (board_id board.now) lanes.now tools.items }
+                    ensures { AreServed lanes.entry.now tools.items result.items × (vec_len result ≡ vec_len tools) × (vec_capacity result ≡ vec_capacity tools) }
+                { serve_lanes(rt, board, lanes, gate, tools) },
+            );
+            all.push_reserved(served);
+            all
+        }
+        None => tools,
+    }
+}

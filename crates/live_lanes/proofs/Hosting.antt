@@ -1,0 +1,70 @@
+-- Whose the entries are after the workers and the lanes came home.
+use Rattle.std.proofs.Common.{◌≡◌, ◌⊎◌, inl, inr, ℕ, Bool, true, ◌+◌, ◌≤◌, List, [], ◌∷◌, ◌++◌, refl, sym, subst, arith}
+use Rattle.board_machine.specs.declared.events.Event.{Event}
+use Rattle.board_machine.specs.declared.events.Event.TheVariants.{Split}
+use Rattle.board_machine.specs.Places.{times}
+use Rattle.board_machine.specs.Machine.{IsActor}
+use Rattle.board_machine.specs.Histories.{After}
+use Rattle.board_machine.proofs.Places.{times-append}
+use Rattle.buffer_words.specs.Passes.{Token}
+use Rattle.buffer_words.specs.Workers.{Works, Worker, numbers, Hosts, AreChildless, HostedAll}
+use Rattle.buffer_words.specs.WorkLaws.{worker_of}
+use Rattle.buffer_words.proofs.Working.{hosts_first, hosts_splits, hosts_joins_worker, hosted_all}
+use Rattle.gev_crew.specs.Kinds.{is_cameras, is_applications, is_hosts}
+use Rattle.lane_crew.specs.Kinds.{is_lane_readers}
+use Rattle.lane_homes.specs.Homes.{SplitsEach}
+use Rattle.lane_homes.proofs.Rising.{numbers_apart}
+use Rattle.gev_live.proofs.Apart.{childless_cameras, childless_applications}
+use Rattle.live_lanes.specs.Homes.{LanesHome}
+use Rattle.live_lanes.proofs.Apart.{childless_readers}
+use Rattle.live_lanes.proofs.Splits.{hosts_split_each}
+
+-- the three workers that came home
+abbrev pub three_home : (a worked_a b worked_b d worked_d : Token) → List Worker
+three_home a worked_a b worked_b d worked_d =
+    worker_of is_applications d worked_d ∷ worker_of is_lane_readers b worked_b ∷ worker_of is_cameras a worked_a ∷ []
+
+-- what was split off
+abbrev pub split_off : (a b d : Token) → List ℕ → List ℕ
+split_off a b d lanes = (a.number ∷ b.number ∷ d.number ∷ []) ++ lanes
+
+pub three_hosts : (s one two three four home back u a worked_a b worked_b d worked_d : Token) (lanes : List ℕ) → LanesHome s one two three four home back u a worked_a b worked_b d worked_d lanes
+    → Works is_cameras a worked_a → Works is_lane_readers b worked_b → Works is_applications d worked_d
+    → Hosts s.seen is_hosts u (split_off a b d lanes) (three_home a worked_a b worked_b d worked_d)
+three_hosts s one two three four home back u a worked_a b worked_b d worked_d lanes w works_a works_b works_d = all_home
+  where
+    off : List ℕ
+    off = split_off a b d lanes
+
+    away : Hosts s.seen is_hosts four off []
+    away = hosts_split_each s.seen is_hosts three four (a.number ∷ b.number ∷ d.number ∷ []) [] lanes (λ n. refl)
+        (hosts_splits s.seen is_hosts two three (a.number ∷ b.number ∷ []) [] d.number
+        (hosts_splits s.seen is_hosts one two (a.number ∷ []) [] b.number
+        (hosts_splits s.seen is_hosts s one [] [] a.number (hosts_first is_hosts s w.number w.run w.childless) refl w.first.splits) refl w.second.splits) refl w.third.splits) w.lanes_off
+
+    one_home : Hosts s.seen is_hosts home off (worker_of is_cameras a worked_a ∷ [])
+    one_home = hosts_joins_worker s.seen is_hosts is_cameras four home a worked_a off [] away w.first.new works_a refl w.first.joins w.first.did w.first.ended
+
+    two_home : Hosts s.seen is_hosts back off (worker_of is_lane_readers b worked_b ∷ worker_of is_cameras a worked_a ∷ [])
+    two_home = hosts_joins_worker s.seen is_hosts is_lane_readers home back b worked_b off (worker_of is_cameras a worked_a ∷ []) one_home w.second.new works_b refl w.second.joins w.second.did w.second.ended
+
+    all_home : Hosts s.seen is_hosts u off (three_home a worked_a b worked_b d worked_d)
+    all_home = hosts_joins_worker s.seen is_hosts is_applications back u d worked_d off (worker_of is_lane_readers b worked_b ∷ worker_of is_cameras a worked_a ∷ []) two_home
+        w.third.new works_d refl w.third.joins w.third.did w.third.ended
+
+-- all are home
+pub hosted : (s one two three four home back u a worked_a b worked_b d worked_d : Token) (lanes : List ℕ) (others : List Worker) → LanesHome s one two three four home back u a worked_a b worked_b d worked_d lanes
+    → Hosts s.seen is_hosts u (split_off a b d lanes) others → AreChildless others → numbers others ≡ lanes ++ (d.number ∷ b.number ∷ a.number ∷ [])
+    → HostedAll s.seen is_hosts u.seen others
+hosted s one two three four home back u a worked_a b worked_b d worked_d lanes others w hosts childless are =
+    hosted_all s.seen is_hosts u (split_off a b d lanes) others hosts (subst (λ n. IsActor (After u.seen) n) hosts.number w.actor) childless
+    (λ n there. subst (λ l. 1 ≤ times n l) (sym are) (omega (arith, there, times-append n lanes (d.number ∷ b.number ∷ a.number ∷ []))))
+
+-- each has a number of its own
+pub all_apart : (s one two three four home back u a worked_a b worked_b d worked_d : Token) (lanes : List ℕ) → LanesHome s one two three four home back u a worked_a b worked_b d worked_d lanes
+    → (i : ℕ) → times i (lanes ++ (d.number ∷ b.number ∷ a.number ∷ [])) ≤ 1
+all_apart s one two three four home back u a worked_a b worked_b d worked_d lanes w i =
+    omega (arith, times-append i lanes (d.number ∷ b.number ∷ a.number ∷ []), numbers_apart s four (a.number ∷ b.number ∷ d.number ∷ lanes) i all)
+  where
+    all : SplitsEach s (a.number ∷ b.number ∷ d.number ∷ lanes) four
+    all = (one, w.first.splits, (two, w.second.splits, (three, w.third.splits, w.lanes_off)))

@@ -1,0 +1,14 @@
+pub mod Splits
+pub mod Apart
+pub mod Strict
+pub mod Crews
+pub mod Hosting
+pub mod Stopping
+pub mod Histories
+pub mod Emptied
+pub mod Handing
+pub mod Shares
+pub mod Telling
+pub mod Steady
+pub mod Lasts
+pub mod Taking

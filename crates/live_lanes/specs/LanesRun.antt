@@ -1,0 +1,42 @@
+-- A live run with several lanes: its history, what each worker and each lane did, how it ended, and what was written.
+use Rattle.std.specs.Prelude.{◌≡◌, ◌≢◌, ◌⊎◌, ℕ, true, length, List, [], ◌++◌, Option, Result}
+use Rattle.gev_types.specs.declared.memory.NoMemory.{NoMemory}
+use Rattle.board_machine.specs.declared.events.Entry.{Entry}
+use Rattle.board_machine.specs.Histories.{After}
+use Rattle.gev_links.specs.Links.{Address}
+use Rattle.gev_report.specs.LiveLine.{live_line}
+use Rattle.gev_serve.specs.declared.ends.ServeEnd.{ServeEnd}
+use Rattle.gev_control.specs.declared.acq_end.AcqEnd.{AcqEnd}
+use Rattle.gev_status.specs.declared.status.Status.{Status}
+use Rattle.gev_status.specs.declared.status.Status.TheVariants as status
+use Rattle.gev_live.specs.Told.{Told, live_config, live_camera}
+use Rattle.gev_live.specs.Endings.{taken_of, status_by, is_told, EndsSo}
+use Rattle.gev_live.specs.Parts.{LiveCamera, LiveApplication}
+use Rattle.gev_live.specs.LiveRun.{Numbers, LinksStay, LinkFailed, Means, NeverRan}
+use Rattle.live_lanes.specs.History.{LanesCrew, LanesHistory}
+use Rattle.live_lanes.specs.Parts.{LanesReader, LanesShare}
+
+-- The three workers and so many lanes ran, and ended so. `camera` is the address of the camera's link, `stream` that of
+-- the stream's.
+pub record LanesRun (n : Numbers) (lanes : ℕ) (camera stream : Address) (answer : Status) (o e : Told) (written written_after : Option (List ℕ)) (faults faults_after : ℕ) (h : List Entry) : Type 0 where
+  pub crew : LanesCrew
+  pub count : length crew.lanes ≡ lanes
+  pub history : LanesHistory n.buffers crew h
+  pub served : ServeEnd
+  pub camera_part : LiveCamera (live_camera n.seed) o.camera e.camera o.camera_clock e.camera_clock served
+  pub read : AcqEnd
+  pub reader_part : LanesReader camera stream o e n.turns crew.reader crew.lanes read h
+  pub shares : LanesShare live_config lanes 0 crew.lanes reader_part.made reader_part.sides_after reader_part.ends h
+  pub applied : Result ℕ NoMemory
+  pub lines : List ℕ
+  pub application_part : LiveApplication o.app_clock e.app_clock n.frames crew.application lines applied h
+  pub ended : EndsSo (status_by served read n.frames n.turns applied) answer (lines ++ live_line n.frames (taken_of applied)) written written_after faults faults_after
+  pub steady : answer ≢ status.LinkFault → LinksStay o e
+  pub failed : answer ≡ status.LinkFault → LinkFailed o e
+  -- where the lines are written, all asked frames were handed out or none is left
+  pub none_left : is_told answer ≡ true → (taken_of applied ≡ n.frames) ⊎ ((After h).out ≡ [])
+  pub means : Means answer n.frames n.turns (taken_of applied) (length reader_part.made) read
+
+abbrev pub RunsLanes : Numbers → ℕ → Address → Address → Status → Told → Told → Option (List ℕ) → Option (List ℕ) → ℕ → ℕ → List Entry → Type 0
+RunsLanes n lanes camera stream answer o e written written_after faults faults_after h =
+    LanesRun n lanes camera stream answer o e written written_after faults faults_after h ⊎ NeverRan n answer o e written written_after faults faults_after h

@@ -1,0 +1,225 @@
+//! A live run with lanes over links and clocks that are handed in.
+
+ghost use Rattle.std.specs.Prelude.{◌≡◌, ◌≢◌, ◌⊎◌, ◌<◌, ◌≤◌, ℕ, [], vec_capacity};
+ghost use Rattle.gev_links.specs.Faults.{Rose};
+ghost use Rattle.gev_status.specs.declared.status.Status.TheVariants as Status;
+ghost use Rattle.gev_types.specs.Limits.{place_count};
+ghost use Rattle.board_machine.specs.Histories.{After};
+ghost use Rattle.board_machine.specs.Laws.{IsAlone};
+ghost use Rattle.board_machine.specs.Actors.{born};
+ghost use Rattle.buffer_words.specs.Boards.{board_id};
+ghost use Rattle.buffer_words.specs.Passes.{SameHands, own};
+ghost use Rattle.gev_serve.specs.Wires.{wire};
+ghost use Rattle.gev_crew.specs.Prepared.{SawOnly, Prepares};
+ghost use Rattle.gev_live.specs.History.{live_size};
+ghost use Rattle.live_lanes.specs.Made.{AreNew};
+ghost use Rattle.live_lanes.specs.LanesRun.{LanesRun, RunsLanes};
+
+use crate::making::{LanesTools, make_tools};
+use crate::running::{CrewDone, run_crew};
+use buffer_words::{Board, Pass};
+use gev_crew::prepare;
+use gev_links::{Clock, Gate, Link, Sink};
+use gev_live::{Ends, finish, status_by, taken_of};
+use gev_status::Status;
+use std::alloc::Global;
+use std::sync::Wait;
+use std::thread::Threads;
+
+// The size of a live run's buffers, in bytes: an image of 640 x 480 pixels of one byte each.
+const BUFFER_SIZE: u64 = 307_200;
+
+// Runs the workers on a board that is prepared, and writes what is to be written.
+fn run_prepared<
+    R: Threads + Wait + Sync,
+    L: Link + Send + Drop,
+    S: Link + Send + Drop,
+    C: Clock + Send + Drop,
+    K: Sink,
+    G: Gate + Sync,
+>(
+    rt: &R,
+    alloc: Global,
+    board: &Board,
+    pass: &mut Pass,
+    seed: u64,
+    frames: u32,
+    lanes: u8,
+    turns: u64,
+    tools: LanesTools,
+    ends: Ends<L, S, C>,
+    gate: &G,
+    sink: &mut K,
+) -> (Status, Ends<L, S, C>)
+    requires table { pass.old.table ≡ board_id board.now }
+    requires first { pass.old.number ≡ 0 }
+    requires childless { born (own pass.old) ≡ [] }
+    requires some { 0 < lanes }
+    requires tools { AreNew seed lanes tools.camera tools.client tools.lanes tools.reader tools.parts.items tools.room.items (vec_capacity tools.room) tools.lines.items }
+    ensures table { pass.new.table ≡ pass.old.table }
+    ensures hands { SameHands pass.old pass.new }
+    ensures live { (buffers : ℕ) → SawOnly (Prepares live_size buffers) pass.old
+        → LanesRun (record { seed = seed; frames = frames; buffers = buffers; turns = turns }) lanes (L.address ends.camera) (S.address ends.stream) result.0
+        (record {
+          camera = wire (L.received ends.camera) (L.sent ends.camera) (L.faults ends.camera);
+          stream = wire (S.received ends.stream) (S.sent ends.stream) (S.faults ends.stream);
+          control = wire (L.received ends.control) (L.sent ends.control) (L.faults ends.control);
+          camera_clock = C.told ends.camera_clock;
+          host_clock = C.told ends.host_clock;
+          app_clock = C.told ends.app_clock;
+        })
+        (record {
+          camera = wire (L.received result.1.camera) (L.sent result.1.camera) (L.faults result.1.camera);
+          stream = wire (S.received result.1.stream) (S.sent result.1.stream) (S.faults result.1.stream);
+          control = wire (L.received result.1.control) (L.sent result.1.control) (L.faults result.1.control);
+          camera_clock = C.told result.1.camera_clock;
+          host_clock = C.told result.1.host_clock;
+          app_clock = C.told result.1.app_clock;
+        })
+        (K.written sink.old) (K.written sink.new) (K.faults sink.old) (K.faults sink.new) pass.new.seen }
+{
+    let CrewDone {
+        ends,
+        served,
+        read,
+        taken,
+        lines,
+    } = run_crew(
+        rt, alloc, board, pass, seed, lanes, tools, ends, gate, turns, frames,
+    );
+    let first = status_by(served, read, frames, turns, &taken);
+    let count = taken_of(&taken);
+    let status = finish(alloc, sink, first, lines, frames, count);
+    (status, ends)
+}
+
+// Makes what the workers work with, prepares the board, and runs the workers.
+fn run_over<
+    R: Threads + Wait + Sync,
+    L: Link + Send + Drop,
+    S: Link + Send + Drop,
+    C: Clock + Send + Drop,
+    K: Sink,
+    G: Gate + Sync,
+>(
+    rt: &R,
+    alloc: Global,
+    board: &Board,
+    pass: &mut Pass,
+    seed: u64,
+    frames: u32,
+    buffers: u8,
+    lanes: u8,
+    turns: u64,
+    ends: Ends<L, S, C>,
+    gate: &G,
+    sink: &mut K,
+) -> (Status, Ends<L, S, C>)
+    requires table { pass.old.table ≡ board_id board.now }
+    requires first { pass.old.number ≡ 0 }
+    requires unseen { pass.old.seen ≡ [] }
+    requires some_buffers { 1 ≤ buffers }
+    requires few_buffers { buffers ≤ place_count }
+    requires some_lanes { 2 ≤ lanes }
+    requires few_lanes { lanes ≤ 4 }
+    ensures table { pass.new.table ≡ pass.old.table }
+    ensures hands { SameHands pass.old pass.new }
+    ensures live { RunsLanes (record { seed = seed; frames = frames; buffers = buffers; turns = turns }) lanes (L.address ends.camera) (S.address ends.stream) result.0
+        (record {
+          camera = wire (L.received ends.camera) (L.sent ends.camera) (L.faults ends.camera);
+          stream = wire (S.received ends.stream) (S.sent ends.stream) (S.faults ends.stream);
+          control = wire (L.received ends.control) (L.sent ends.control) (L.faults ends.control);
+          camera_clock = C.told ends.camera_clock;
+          host_clock = C.told ends.host_clock;
+          app_clock = C.told ends.app_clock;
+        })
+        (record {
+          camera = wire (L.received result.1.camera) (L.sent result.1.camera) (L.faults result.1.camera);
+          stream = wire (S.received result.1.stream) (S.sent result.1.stream) (S.faults result.1.stream);
+          control = wire (L.received result.1.control) (L.sent result.1.control) (L.faults result.1.control);
+          camera_clock = C.told result.1.camera_clock;
+          host_clock = C.told result.1.host_clock;
+          app_clock = C.told result.1.app_clock;
+        })
+        (K.written sink.old) (K.written sink.new) (K.faults sink.old) (K.faults sink.new) pass.new.seen }
+{
+    match make_tools(alloc, seed, lanes) {
+        Ok(tools) => match prepare(alloc, board, pass, BUFFER_SIZE, buffers) {
+            Ok(()) => run_prepared(
+                rt, alloc, board, pass, seed, frames, lanes, turns, tools, ends, gate, sink,
+            ),
+            Err(_) => (Status::NoMemory, ends),
+        },
+        Err(_) => (Status::NoMemory, ends),
+    }
+}
+
+/// A live run with 2 to 4 lanes: camera, reader, lanes and application as threads that share `board`, over these
+/// links and clocks. The reader brings block b to lane (b - 1) mod `lanes`, each of which has a receiver of its own;
+/// a datagram for a lane that has no free cell is shed, and counts as lost. The camera makes its frames from `seed`;
+/// `frames` of them are to be handed out, 1 to 1000, through `buffers` buffers, 1 to 15; the reader makes at most
+/// `turns` turns. The lines of the buffers that were handed out are written in order, and a last line. Where no
+/// thread can be made the workers run one after another.
+///
+/// `Done` where all frames were handed out; `TurnsSpent` where the reader made all its turns before. `NoAnswer`
+/// and `Refused` as the control channel's client says; `LinkFault` where a link failed, `WriteFault` where the
+/// sink did; `NoMemory`. With `LinkFault` and `NoMemory` nothing is written.
+pub fn live_lanes<
+    R: Threads + Wait + Sync,
+    L: Link + Send + Drop,
+    S: Link + Send + Drop,
+    C: Clock + Send + Drop,
+    K: Sink,
+    G: Gate + Sync,
+>(
+    rt: &R,
+    alloc: Global,
+    board: &Board,
+    pass: &mut Pass,
+    seed: u64,
+    frames: u32,
+    buffers: u8,
+    lanes: u8,
+    turns: u64,
+    ends: Ends<L, S, C>,
+    gate: &G,
+    sink: &mut K,
+) -> (Status, Ends<L, S, C>)
+    requires table { pass.old.table ≡ board_id board.now }
+    requires first { pass.old.number ≡ 0 }
+    requires unseen { pass.old.seen ≡ [] }
+    requires some_buffers { 1 ≤ buffers }
+    requires few_buffers { buffers ≤ place_count }
+    requires some_lanes { 2 ≤ lanes }
+    requires few_lanes { lanes ≤ 4 }
+    ensures table { pass.new.table ≡ pass.old.table }
+    ensures hands { SameHands pass.old pass.new }
+    ensures alone { IsAlone (After pass.new.seen) 0 }
+    ensures live { RunsLanes (record { seed = seed; frames = frames; buffers = buffers; turns = turns }) lanes (L.address ends.camera) (S.address ends.stream) result.0
+        (record {
+          camera = wire (L.received ends.camera) (L.sent ends.camera) (L.faults ends.camera);
+          stream = wire (S.received ends.stream) (S.sent ends.stream) (S.faults ends.stream);
+          control = wire (L.received ends.control) (L.sent ends.control) (L.faults ends.control);
+          camera_clock = C.told ends.camera_clock;
+          host_clock = C.told ends.host_clock;
+          app_clock = C.told ends.app_clock;
+        })
+        (record {
+          camera = wire (L.received result.1.camera) (L.sent result.1.camera) (L.faults result.1.camera);
+          stream = wire (S.received result.1.stream) (S.sent result.1.stream) (S.faults result.1.stream);
+          control = wire (L.received result.1.control) (L.sent result.1.control) (L.faults result.1.control);
+          camera_clock = C.told result.1.camera_clock;
+          host_clock = C.told result.1.host_clock;
+          app_clock = C.told result.1.app_clock;
+        })
+        (K.written sink.old) (K.written sink.new) (K.faults sink.old) (K.faults sink.new) pass.new.seen }
+    ensures links_steady { result.0 ≢ Status.LinkFault
+        → (L.faults result.1.camera ≡ L.faults ends.camera) × (S.faults result.1.stream ≡ S.faults ends.stream) × (L.faults result.1.control ≡ L.faults ends.control) }
+    ensures link_fault { result.0 ≡ Status.LinkFault
+        → Rose (L.faults ends.camera) (L.faults result.1.camera) ⊎ Rose (S.faults ends.stream) (S.faults result.1.stream) ⊎ Rose (L.faults ends.control) (L.faults result.1.control) }
+    ensures writes_steady { result.0 ≢ Status.WriteFault → K.faults sink.new ≡ K.faults sink.old }
+{
+    run_over(
+        rt, alloc, board, pass, seed, frames, buffers, lanes, turns, ends, gate, sink,
+    )
+}
