@@ -6,7 +6,7 @@ use Rattle.gev_status.specs.declared.status.Status.{Status}
 use Rattle.gev_status.specs.declared.status.Status.TheVariants.{Done, Usage, BadScript, ReadFault, WriteFault, LinkFault, NoMemory, NoAnswer, Refused, TurnsSpent, BadCapture, NoPicture}
 use Rattle.gev_live.specs.Told.{Told}
 use Rattle.gev_live.specs.Endings.{Wrote}
-use Rattle.gev_live.specs.LiveRun.{Numbers, RunsLive}
+use Rattle.gev_call.specs.Runs.{RunsSo}
 use Rattle.gev_top.specs.declared.command.Command.{Command}
 use Rattle.gev_top.specs.declared.live_numbers.LiveNumbers.{LiveNumbers}
 use Rattle.gev_top.specs.Usage.{command_of}
@@ -29,11 +29,14 @@ wrote_ends (BadScript line kind) text written written_after faults faults_after 
 wrote_ends (BadCapture number kind) text written written_after faults faults_after wrote none other = wrote
 wrote_ends (NoPicture why) text written written_after faults faults_after wrote none other = wrote
 
-pub run_ends : (n : Numbers) (camera stream : Address) (answer : Status) (o e : Told) (written written_after : Option (List ℕ)) (faults faults_after : ℕ) (h : List Entry)
-    → RunsLive n camera stream answer o e written written_after faults faults_after h → NoneRose faults faults_after → answer ≢ LinkFault → EndsLive answer
-run_ends n camera stream answer o e written written_after faults faults_after h (inl run) none other =
+pub run_ends : (n : LiveNumbers) (camera stream : Address) (answer : Status) (o e : Told) (written written_after : Option (List ℕ)) (faults faults_after : ℕ) (h : List Entry)
+    → RunsSo n camera stream answer o e written written_after faults faults_after h → NoneRose faults faults_after → answer ≢ LinkFault → EndsLive answer
+run_ends n camera stream answer o e written written_after faults faults_after h (inl (one, inl run)) none other =
     wrote_ends answer _ written written_after faults faults_after run.ended.wrote none other
-run_ends n camera stream answer o e written written_after faults faults_after h (inr never) none other = subst EndsLive (sym never.wanted) tt
+run_ends n camera stream answer o e written written_after faults faults_after h (inr (more, inl run)) none other =
+    wrote_ends answer _ written written_after faults faults_after run.ended.wrote none other
+run_ends n camera stream answer o e written written_after faults faults_after h (inl (one, inr never)) none other = subst EndsLive (sym never.wanted) tt
+run_ends n camera stream answer o e written written_after faults faults_after h (inr (more, inr never)) none other = subst EndsLive (sym never.wanted) tt
 
 -- the words ask for a command of `plain_top`
 pub plain_completes : (words : List (List ℕ)) (left : Option (List ℕ)) (status : Status) → live_said words ≡ None

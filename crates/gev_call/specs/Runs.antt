@@ -1,5 +1,6 @@
 -- A live run over ports that give its links and clocks and take them back.
-use Rattle.std.specs.Prelude.{◌≡◌, ◌⊎◌, ℕ, List, [], ◌∷◌, Option, Some}
+use Rattle.std.specs.Prelude.{◌≡◌, ◌⊎◌, ℕ, ◌≤◌, List, [], ◌∷◌, Option, Some}
+use mathlib.Core.Logic.{inl, inr}
 use Rattle.board_machine.specs.declared.events.Entry.{Entry}
 use Rattle.gev_links.specs.Links.{Address, Answer, IsBlank}
 use Rattle.gev_links.specs.PortsState.{IsNew}
@@ -10,6 +11,8 @@ use Rattle.gev_top.specs.declared.live_numbers.LiveNumbers.{LiveNumbers}
 use Rattle.gev_live.specs.Told.{Told}
 use Rattle.gev_live.specs.LiveRun.{Numbers, RunsLive}
 use Rattle.live_promises.specs.Promises.{KeepsLivePromises}
+use Rattle.live_lanes.specs.LanesRun.{RunsLanes}
+use Rattle.lanes_promises.specs.Promises.{KeepsLanesPromises}
 
 -- what these three links and three clocks tell
 abbrev pub told_by : {L C : Type 0} → (L → Option (List Answer)) → (L → Option (List (Address × List ℕ))) → (L → ℕ) → (C → Option (List ℕ)) → L → L → L → C → C → C → Told
@@ -50,6 +53,18 @@ pub record AreListed {L C : Type 0} (received : L → Option (List Answer)) (sen
 abbrev pub numbers_of : LiveNumbers → Numbers
 numbers_of n = record { seed = n.seed; frames = n.frames; buffers = n.buffers; turns = n.turns }
 
+-- A live run with so many lanes; with one lane the reader is the lane.
+abbrev pub RunsSo : LiveNumbers → Address → Address → Status → Told → Told → Option (List ℕ) → Option (List ℕ) → ℕ → ℕ → List Entry → Type 0
+RunsSo n camera stream status begins ends written written_after writes writes_after h =
+    ((n.lanes ≡ 1) × RunsLive (numbers_of n) camera stream status begins ends written written_after writes writes_after h)
+    ⊎ ((2 ≤ n.lanes) × RunsLanes (numbers_of n) n.lanes camera stream status begins ends written written_after writes writes_after h)
+
+-- what each of them promises: the headline first, with the reader or the lanes as acquirers
+abbrev pub KeepsSo : {n : LiveNumbers} {camera stream : Address} {status : Status} {begins ends : Told} {written written_after : Option (List ℕ)} {writes writes_after : ℕ} {h : List Entry}
+    → RunsSo n camera stream status begins ends written written_after writes writes_after h → Type 0
+KeepsSo (inl (one, runs)) = KeepsLivePromises runs
+KeepsSo (inr (more, runs)) = KeepsLanesPromises runs
+
 -- A live run over new links and clocks, whose history is h. It keeps the headline, and its reader ended for a cause.
 -- Where the ports told what came back, and nothing had, they tell of just the run's links and clocks, as they were at
 -- its end.
@@ -62,8 +77,8 @@ pub record RunsOver {L C : Type 0} (received : L → Option (List Answer)) (sent
   pub begins : Told
   pub untold : IsUntold begins
   pub ends : Told
-  pub runs : RunsLive (numbers_of n) camera stream status begins ends written written_after writes writes_after h
-  pub promises : KeepsLivePromises runs
+  pub runs : RunsSo n camera stream status begins ends written written_after writes writes_after h
+  pub promises : KeepsSo runs
   pub listed : links ≡ Some [] → clocks ≡ Some [] → AreListed received sent faults told links_after clocks_after ends
 
 -- No board was made: a bind failed, or memory was wanting, and nothing was written.

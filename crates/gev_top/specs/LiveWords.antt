@@ -11,18 +11,19 @@ live_of words = do
   seed ← number_at 0 (2 ^ 64 - 1) 1 words
   frames ← number_at 1 1000 2 words
   buffers ← number_at 1 15 3 words
-  lanes ← number_at 1 1 4 words
+  lanes ← number_at 1 4 4 words
   turns ← number_at 1 100000000 5 words
   done ← none_at 6 words
   Ok (record { seed = seed; frames = frames; buffers = buffers; lanes = lanes; turns = turns })
 
--- A live run wants 1 to 1,000 frames and 1 to 15 buffers, has one lane, and makes 1 to 100,000,000 turns.
+-- A live run wants 1 to 1,000 frames and 1 to 15 buffers, has 1 to 4 lanes, and makes 1 to 100,000,000 turns.
 pub record IsInRange (n : LiveNumbers) : Type 0 where
   pub some_frames : 1 ≤ n.frames
   pub few_frames : n.frames ≤ 1000
   pub some_buffers : 1 ≤ n.buffers
   pub few_buffers : n.buffers ≤ 15
-  pub one_lane : n.lanes ≡ 1
+  pub some_lanes : 1 ≤ n.lanes
+  pub few_lanes : n.lanes ≤ 4
   pub some_turns : 1 ≤ n.turns
   pub few_turns : n.turns ≤ 100000000
 

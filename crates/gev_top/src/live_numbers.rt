@@ -7,7 +7,7 @@ pub struct LiveNumbers {
     pub frames: u32,
     /// How many buffers there are, from 1 to 15.
     pub buffers: u8,
-    /// How many lanes the acquisition has. One.
+    /// How many lanes the acquisition has, from 1 to 4.
     pub lanes: u8,
     /// The most turns of the reader, from 1 to 100,000,000.
     pub turns: u64,

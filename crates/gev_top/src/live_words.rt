@@ -38,7 +38,7 @@ fn read_live_numbers(words: &[String]) -> Result<LiveNumbers, u32>
     let seed = number_at(0, 18_446_744_073_709_551_615, 1, words)?;
     let frames = number_at(1, 1000, 2, words)? as u32;
     let buffers = number_at(1, 15, 3, words)? as u8;
-    let lanes = number_at(1, 1, 4, words)? as u8;
+    let lanes = number_at(1, 4, 4, words)? as u8;
     let turns = number_at(1, 100_000_000, 5, words)?;
     none_at(6, words)?;
     Ok(LiveNumbers {

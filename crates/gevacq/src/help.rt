@@ -58,7 +58,7 @@ gevacq --version
 <frames>                    0 to 100000, of `live` 1 to 1000
 <loss>, <repeat>, <swap>    0 to 1000, of a thousand packets
 <buffers>                   1 to 15
-<lanes>                     1
+<lanes>                     1 to 4
 <turns>                     1 to 100000000
 
 Numbers are decimal, without a sign and without a leading zero. The lines of

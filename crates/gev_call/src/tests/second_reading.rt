@@ -24,12 +24,12 @@ const LIVE: [(Words, LiveNumbers); 4] = [
         },
     ),
     (
-        &["live", "1", "20", "4", "1", "1000000"],
+        &["live", "1", "20", "4", "2", "1000000"],
         LiveNumbers {
             seed: 1,
             frames: 20,
             buffers: 4,
-            lanes: 1,
+            lanes: 2,
             turns: 1_000_000,
         },
     ),
@@ -39,14 +39,14 @@ const LIVE: [(Words, LiveNumbers); 4] = [
             "18446744073709551615",
             "1000",
             "15",
-            "1",
+            "4",
             "100000000",
         ],
         LiveNumbers {
             seed: 18_446_744_073_709_551_615,
             frames: 1000,
             buffers: 15,
-            lanes: 1,
+            lanes: 4,
             turns: 100_000_000,
         },
     ),
@@ -106,7 +106,7 @@ const REFUSED: [(Words, u32, ErrorKind); 13] = [
         ErrorKind::ValueValidation,
     ),
     (
-        &["live", "1", "1", "1", "2", "1"],
+        &["live", "1", "1", "1", "5", "1"],
         4,
         ErrorKind::ValueValidation,
     ),
@@ -140,7 +140,7 @@ fn matches_of(alloc: Global, words: Words) -> Result<ArgMatches<'static>, Error>
         .arg(number(alloc, "seed", 0, u64::MAX))?
         .arg(number(alloc, "frames", 1, 1000))?
         .arg(number(alloc, "buffers", 1, 15))?
-        .arg(number(alloc, "lanes", 1, 1))?
+        .arg(number(alloc, "lanes", 1, 4))?
         .arg(number(alloc, "turns", 1, 100_000_000))?;
     let program = clap::Command::new(alloc, "gevacq")
         .no_binary_name(true)
