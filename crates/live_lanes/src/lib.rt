@@ -10,5 +10,7 @@ mod live;
 mod making;
 mod running;
 mod splitting;
+#[cfg(test)]
+mod tests;
 
 pub use live::live_lanes;
