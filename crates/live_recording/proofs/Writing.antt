@@ -44,6 +44,7 @@ untold n camera stream status.ReadFault o e h script written written_after fault
 untold n camera stream (status.Usage place) o e h script written written_after faults faults_after run none same steady = absurd run.ended.wrote
 untold n camera stream (status.BadScript line kind) o e h script written written_after faults faults_after run none same steady = absurd run.ended.wrote
 untold n camera stream (status.BadCapture number kind) o e h script written written_after faults faults_after run none same steady = absurd run.ended.wrote
+untold n camera stream (status.NoPicture why) o e h script written written_after faults faults_after run none same steady = absurd run.ended.wrote
 
 writes_whole : (lived : Status) (script : List ℕ) (written written_after : Option (List ℕ)) (faults faults_after : ℕ) → is_told lived ≡ true → Appends written written_after script × (faults_after ≡ faults)
     → Recorded lived script written written_after faults faults_after

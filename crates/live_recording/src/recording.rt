@@ -36,6 +36,7 @@ fn is_told(status: Status) -> bool
         Status::Usage { .. } => false,
         Status::BadScript { .. } => false,
         Status::BadCapture { .. } => false,
+        Status::NoPicture { .. } => false,
         Status::ReadFault => false,
         Status::WriteFault => false,
         Status::LinkFault => false,
