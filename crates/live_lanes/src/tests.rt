@@ -2,6 +2,8 @@
 
 ghost use Rattle.std.specs.Prelude.{◌≤◌};
 
+mod frames;
+
 use super::*;
 use buffer_words::Board;
 use gev_links::{MemoryClock, MemoryLink, MemorySink, OpenGate};
