@@ -9,15 +9,13 @@ ghost use Rattle.gev_links.specs.PortsState.{IsNew};
 ghost use Rattle.gev_binding.specs.Bound.{ComeBack, RaisesBy};
 ghost use Rattle.gev_top.specs.LiveWords.{IsInRange};
 ghost use Rattle.gev_top.specs.Completeness.{NoneRose, EndsLive};
-ghost use Rattle.std.specs.Prelude.{◌⊎◌};
-ghost use Rattle.gev_types.specs.Limits.{place_count};
 ghost use Rattle.buffer_words.specs.Boards.{board_id};
 ghost use Rattle.buffer_words.specs.Passes.{SameHands};
 ghost use Rattle.gev_call.specs.Runs.{RunsSo, RunsOver, RunsNothing, told_by};
 
 use buffer_words::{Board, Pass};
 use gev_binding::{ThreeLinks, bind_three, give_back};
-use gev_links::{Gate, Ports, Sink};
+use gev_links::{Clock, Gate, Link, Ports, Sink};
 use gev_live::{Ends, live_over};
 use gev_status::Status;
 use gev_top::LiveNumbers;
@@ -81,16 +79,22 @@ fn with_clocks<P: Ports>(ports: &mut P, links: ThreeLinks<P::L>) -> Ends<P::L, P
 }
 
 /// Runs over these links and clocks on this board, by the number of lanes: with one lane the reader is the lane.
-fn run_on<R: Threads + Wait + Sync, K: Sink, P: Ports, G: Gate + Sync>(
+fn run_on<
+    R: Threads + Wait + Sync,
+    L: Link + Send + Drop,
+    C: Clock + Send + Drop,
+    K: Sink,
+    G: Gate + Sync,
+>(
     rt: &R,
     alloc: Global,
     board: &Board,
     pass: &mut Pass,
     numbers: LiveNumbers,
-    ends: Ends<P::L, P::L, P::C>,
+    ends: Ends<L, L, C>,
     gate: &G,
     sink: &mut K,
-) -> (Status, Ends<P::L, P::L, P::C>)
+) -> (Status, Ends<L, L, C>)
     requires within { IsInRange numbers }
     requires table { pass.old.table ≡ board_id board.now }
     requires first { pass.old.number ≡ 0 }
@@ -98,9 +102,9 @@ fn run_on<R: Threads + Wait + Sync, K: Sink, P: Ports, G: Gate + Sync>(
     ensures table { pass.new.table ≡ pass.old.table }
     ensures hands { SameHands pass.old pass.new }
     ensures alone { IsAlone (After pass.new.seen) 0 }
-    ensures live { RunsSo numbers (P.L.address ends.camera) (P.L.address ends.stream) result.0
-        (told_by P.L.received P.L.sent P.L.faults P.C.told ends.camera ends.stream ends.control ends.camera_clock ends.host_clock ends.app_clock)
-        (told_by P.L.received P.L.sent P.L.faults P.C.told result.1.camera result.1.stream result.1.control result.1.camera_clock result.1.host_clock result.1.app_clock)
+    ensures live { RunsSo numbers (L.address ends.camera) (L.address ends.stream) result.0
+        (told_by L.received L.sent L.faults C.told ends.camera ends.stream ends.control ends.camera_clock ends.host_clock ends.app_clock)
+        (told_by L.received L.sent L.faults C.told result.1.camera result.1.stream result.1.control result.1.camera_clock result.1.host_clock result.1.app_clock)
         (K.written sink.old) (K.written sink.new) (K.faults sink.old) (K.faults sink.new) pass.new.seen }
 {
     if numbers.lanes == 1 {
@@ -168,8 +172,7 @@ fn run_over<R: Threads + Wait + Sync, K: Sink, P: Ports, G: Gate + Sync>(
     match Board::new(alloc) {
         Ok(made) => {
             let (board, mut pass) = made;
-            let (status, ends) =
-                run_on(rt, alloc, &board, &mut pass, numbers, ends, gate, sink);
+            let (status, ends) = run_on(rt, alloc, &board, &mut pass, numbers, ends, gate, sink);
             give_ends(ports, ends);
             // All that the pass has seen is one run of the board.
             pass.witness();
