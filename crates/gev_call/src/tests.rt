@@ -1,5 +1,7 @@
+mod link_faults;
 mod rows;
 mod second_reading;
+mod strangers;
 
 use super::*;
 use gev_links::{DiscardingLink, MemoryPorts, MemorySink, OpenGate, SteadySource};
@@ -22,12 +24,15 @@ const HOST: Peer = Peer {
 };
 
 // The acknowledges of the setup's four commands.
-const ACKS: [&[u8]; 4] = [
-    b"\x00\x00\x00\x83\x00\x04\x00\x01\x00\x00\x00\x01",
-    b"\x00\x00\x00\x83\x00\x04\x00\x02\x00\x00\x00\x01",
-    b"\x00\x00\x00\x83\x00\x04\x00\x03\x00\x00\x00\x01",
-    b"\x00\x00\x00\x83\x00\x04\x00\x04\x00\x00\x00\x01",
-];
+const FIRST_ACK: &[u8] = b"\x00\x00\x00\x83\x00\x04\x00\x01\x00\x00\x00\x01";
+
+const SECOND_ACK: &[u8] = b"\x00\x00\x00\x83\x00\x04\x00\x02\x00\x00\x00\x01";
+
+const THIRD_ACK: &[u8] = b"\x00\x00\x00\x83\x00\x04\x00\x03\x00\x00\x00\x01";
+
+const FOURTH_ACK: &[u8] = b"\x00\x00\x00\x83\x00\x04\x00\x04\x00\x00\x00\x01";
+
+const ACKS: [&[u8]; 4] = [FIRST_ACK, SECOND_ACK, THIRD_ACK, FOURTH_ACK];
 
 /// A vector of these words.
 fn word_list(alloc: Global, words: &[&str]) -> Result<Vec<String>, Fail> {

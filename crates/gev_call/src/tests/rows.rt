@@ -44,7 +44,12 @@ live frames=2 taken=2
 
 /// Puts the header of a packet (GigE Vision 2.0, GVSP extended header), whose format is 1 for a leader, 2 for a
 /// trailer and 3 for a payload.
-fn put_header(packet: &mut Vec<u8>, format: u8, block: u64, id: u32) -> Result<(), NoMemory> {
+pub(super) fn put_header(
+    packet: &mut Vec<u8>,
+    format: u8,
+    block: u64,
+    id: u32,
+) -> Result<(), NoMemory> {
     packet.extend_from_slice(b"\0\0\0\0")?;
     packet.push(0x80 | format)?;
     packet.extend_from_slice(b"\0\0\0")?;
@@ -54,7 +59,7 @@ fn put_header(packet: &mut Vec<u8>, format: u8, block: u64, id: u32) -> Result<(
 }
 
 /// The leader of a frame, whose timestamp is its block id.
-fn leader(alloc: Global, block: u64) -> Result<Vec<u8>, NoMemory> {
+pub(super) fn leader(alloc: Global, block: u64) -> Result<Vec<u8>, NoMemory> {
     let mut packet = Vec::new(alloc);
     put_header(&mut packet, 1, block, 0)?;
     packet.extend_from_slice(b"\0\0\0\x01")?;
@@ -65,7 +70,7 @@ fn leader(alloc: Global, block: u64) -> Result<Vec<u8>, NoMemory> {
 }
 
 /// The trailer of a frame.
-fn trailer(alloc: Global, block: u64) -> Result<Vec<u8>, NoMemory> {
+pub(super) fn trailer(alloc: Global, block: u64) -> Result<Vec<u8>, NoMemory> {
     let mut packet = Vec::new(alloc);
     put_header(&mut packet, 2, block, PAYLOADS + 1)?;
     packet.extend_from_slice(b"\0\0\0\x01\0\0\x01\xe0")?;
