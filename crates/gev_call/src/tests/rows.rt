@@ -245,3 +245,33 @@ fn fill_and_take_meet(rt: HostRuntime) -> Result<(), Fail> {
     assert_eq!(rt; text.as_slice(), WHOLE.as_bytes());
     Ok(())
 }
+
+// The same with two lanes, of which each fills one of the blocks. The host's clock stands, so that none but datagrams
+// take a cell: the first 64 packets of each block find one.
+#[test]
+fn fill_and_take_meet_with_two_lanes(rt: HostRuntime) -> Result<(), Fail> {
+    let alloc = rt.alloc();
+    let gate = MeetingGate::new(10_000_000);
+    let packets = two_frames(alloc, 0)?;
+    let stream = heard(alloc, packets.as_slice())?;
+    let control = [
+        Some((ACKS[0], CAMERA)),
+        Some((ACKS[1], CAMERA)),
+        Some((ACKS[2], CAMERA)),
+        Some((ACKS[3], CAMERA)),
+    ];
+    let text = run_heard(
+        &rt,
+        alloc,
+        &["live", "1", "2", "2", "2", "500"],
+        stream.as_slice(),
+        &control,
+        &[],
+        &gate,
+        Status::Done,
+    )?;
+    assert!(rt; gate.have_met());
+    assert_eq!(rt; (gate.fills(), gate.takes()), (2, 2));
+    assert!(rt; text.as_slice().ends_with(b"live frames=2 taken=2\n"));
+    Ok(())
+}
