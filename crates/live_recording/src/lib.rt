@@ -7,5 +7,7 @@
 mod marks;
 mod nowhere;
 mod recording;
+#[cfg(test)]
+mod tests;
 
 pub use recording::record_over;
