@@ -94,12 +94,12 @@ fn behind<'a>(text: &'a [u8], front: &[u8]) -> Option<&'a [u8]> {
 
 /// What stands behind a decimal number.
 fn behind_number(text: &[u8]) -> Option<&[u8]> {
-    let mut digits = 0;
+    let mut digits = 0usize;
     for byte in text {
         if !byte.is_ascii_digit() {
             break;
         }
-        digits += 1;
+        digits = digits.saturating_add(1);
     }
     if digits > 0 { text.get(digits..) } else { None }
 }
