@@ -5,28 +5,28 @@
 //! tell; standard input and output and the system's clock do not. `Gate` is where a test holds a worker.
 #![tactic(auto)]
 
-mod clock;
-mod counting;
-mod discarding_link;
-mod failed;
-mod fault_count;
-mod gate;
-mod gates;
-mod link;
-mod memory_clock;
-mod memory_link;
-mod memory_ports;
-mod memory_sink;
-mod memory_source;
-mod ports;
-mod reception;
-mod receptions;
-mod sink;
-mod source;
-mod steady_source;
+mod clock; // `Clock`
+mod counting; // one more, where it can be counted
+mod discarding_link; // a link in memory that discards
+mod failed; // what a call that failed answers
+mod fault_count; // `CountsFaults`
+mod gate; // `Gate`
+mod gates; // open gates, and gates that hold
+mod link; // `Link`
+mod memory_clock; // a clock in memory
+mod memory_link; // a link in memory
+mod memory_ports; // ports in memory
+mod memory_sink; // a sink in memory
+mod memory_source; // a source in memory
+mod ports; // `Ports`
+mod reception; // what a receive gave
+mod receptions; // the list of them
+mod sink; // `Sink`
+mod source; // `Source`
+mod steady_source; // a source that never fails
 #[cfg(test)]
 mod tests;
-mod writing;
+mod writing; // a whole text to a sink
 
 pub use clock::Clock;
 pub use discarding_link::DiscardingLink;

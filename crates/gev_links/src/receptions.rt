@@ -12,7 +12,7 @@ use std::marker::Model;
 /// The list that the receives of a link in memory are answered from, and what they gave. After the end
 /// of the list nothing comes.
 #[derive(Debug, Drop)]
-pub struct Receptions<'a> {
+pub(crate) struct Receptions<'a> {
     answers: &'a [Option<(&'a [u8], Peer)>],
     given: Vec<Reception<'a>>,
     // how many receives were made; None: more than are counted
@@ -33,7 +33,7 @@ impl<'a> Model for Receptions<'a> {
 
 impl<'a> Receptions<'a> {
     /// The list, from which no receive was answered yet.
-    pub fn new(
+    pub(crate) fn new(
         alloc: Global,
         answers: &'a [Option<(&'a [u8], Peer)>],
     ) -> Result<Receptions<'a>, NoMemory>
@@ -48,7 +48,7 @@ impl<'a> Receptions<'a> {
     }
 
     /// Answers a receive by the next member of the list, cut to the slice.
-    pub fn take(&mut self, out: &mut [u8]) -> Option<(usize, Peer)>
+    pub(crate) fn take(&mut self, out: &mut [u8]) -> Option<(usize, Peer)>
         ensures count { IfSome result (λ datagram. datagram.0 ≤ length out.old) }
         ensures told { Tells self.old self.new (answer_of (Ok result) out.new) }
     {
@@ -77,7 +77,7 @@ impl<'a> Receptions<'a> {
 
     /// Uses up the next member of the list by a receive that fails; false, and nothing more, where the
     /// list is at its end.
-    pub fn lose(&mut self) -> bool
+    pub(crate) fn lose(&mut self) -> bool
         ensures lost { OnTrue result (Tells self.old self.new failed) }
         ensures ended { OnFalse result (self.new ≡ self.old) }
     {

@@ -1,14 +1,14 @@
 //! Frames, records of filled buffers, and the limits that the whole stack keeps.
 #![tactic(auto)]
 
-mod block_record;
-mod buf;
-mod bytes;
-mod frame;
-pub mod laws;
-mod limits;
-mod memory;
-mod peer;
+mod block_record; // what is known of a buffer's block
+mod buf; // an image buffer
+mod bytes; // owned bytes
+mod frame; // images, and their size
+pub mod laws; // laws of the definitions, as contracts
+mod limits; // the numbers that all keep
+mod memory; // want of memory
+mod peer; // an address and a port
 #[cfg(test)]
 mod tests;
 
