@@ -5,10 +5,10 @@
 //! a body; the functions of `laws` tie the two. No call takes memory.
 #![tactic(auto)]
 
-mod laws;
-mod reading;
-mod resend;
-mod writing;
+mod laws; // laws of the definitions, as contracts
+mod reading; // bodies, read
+mod resend; // a range of packets
+mod writing; // bodies, written
 
 pub use laws::{
     pending_reading_is_the_relation, resend_reading_is_the_relation, written_discovery_is_read,

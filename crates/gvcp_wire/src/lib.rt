@@ -6,13 +6,13 @@
 //! gives, and the functions of `laws` tie the two. No call takes memory: bodies are lent.
 #![tactic(auto)]
 
-pub mod codes;
-mod flags;
-mod laws;
-mod message;
-mod reading;
-mod status;
-mod writing;
+pub mod codes; // the standard's numbers
+mod flags; // the flag bits of a command
+mod laws; // laws of the definitions, as contracts
+mod message; // commands, acknowledges and refusals
+mod reading; // messages, read
+mod status; // status codes
+mod writing; // messages, written
 
 pub use flags::{CommandFlags, has_extended_ids};
 pub use laws::{

@@ -41,7 +41,7 @@ fn near(top: u64, id: u16) -> Option<u64>
 }
 
 /// The block that an id names where `top` is the greatest block so far, 0 before the first.
-pub fn chosen(top: u64, id: u16) -> Option<u64>
+pub(crate) fn chosen(top: u64, id: u16) -> Option<u64>
     requires { top ≤ 2 ^ 63 }
     ensures { result ≡ chosen top id }
 {

@@ -7,14 +7,14 @@
 //! datagram becomes. No call takes memory.
 #![tactic(auto)]
 
-mod blocks;
-pub mod laws;
-mod resending;
-mod std_error;
+mod blocks; // which block an id names
+pub mod laws; // laws of the definitions, as contracts
+mod resending; // packet resends, written
+mod std_error; // why a datagram isn't widened
 #[cfg(test)]
 mod tests;
-mod widener;
-mod writing;
+mod widener; // the widener and its public calls
+mod writing; // the wide datagram
 
 pub use blocks::narrow;
 pub use resending::write_resend_std;

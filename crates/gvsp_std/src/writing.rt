@@ -7,13 +7,13 @@ use stream_packets::Head;
 use wire_fields::u16_at;
 
 /// The bytes of a header with standard identifiers.
-pub const STANDARD_SIZE: usize = 8;
+pub(crate) const STANDARD_SIZE: usize = 8;
 
 /// The bytes of a header with extended identifiers.
 const EXTENDED_SIZE: usize = 20;
 
 /// The bit of a format byte that says extended identifiers.
-pub const EXTENDED_ID: u8 = 0x80;
+pub(crate) const EXTENDED_ID: u8 = 0x80;
 
 /// The three bytes from a place on, as a number.
 #[tactic(auto, unfolding(wire_fields::specs::Fields::number_at))]
@@ -63,7 +63,7 @@ fn write_parts(out: &mut [u8], head: Head, format_byte: u8, body: &[u8])
 }
 
 /// Writes the datagram with extended identifiers, in this block. The answer is its length.
-pub fn write_wide(out: &mut [u8], block: u64, bytes: &[u8]) -> usize
+pub(crate) fn write_wide(out: &mut [u8], block: u64, bytes: &[u8]) -> usize
     requires header { 8 ≤ length bytes.now }
     requires room { length bytes.now + 12 ≤ length out.old }
     ensures written { out.new ≡ wide_in block bytes.now ++ drop (length bytes.now + 12) out.old }

@@ -6,7 +6,7 @@ use bitflags::{Flag, Flags, bitflag_items};
 
 /// The format byte: its top bit, and below it the packet format in the low four bits.
 #[derive(Clone, Copy, Debug, PartialEq, Eq)]
-pub struct FormatByte(u8);
+pub(crate) struct FormatByte(u8);
 
 bitflag_items! {
     impl FormatByte: u8 {

@@ -1,7 +1,7 @@
 /// What a packet carries: the low four bits of its format byte (GigE Vision 2.0, GVSP packet
 /// format).
 #[derive(Clone, Copy, Debug, PartialEq, Eq)]
-pub enum Form {
+pub(crate) enum Form {
     /// Format 1.
     Leader,
     /// Format 2.

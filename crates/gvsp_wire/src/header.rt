@@ -13,19 +13,19 @@ use wire_fields::{u16_at, u32_at, u64_at};
 const SHORTEST_HEADER: usize = 8;
 
 /// The bytes of a header with extended identifiers.
-pub const HEADER_SIZE: usize = 20;
+pub(crate) const HEADER_SIZE: usize = 20;
 
 /// The packet format of a leader.
-pub const LEADER_FORMAT: u8 = 1;
+pub(crate) const LEADER_FORMAT: u8 = 1;
 
 /// The packet format of a trailer.
-pub const TRAILER_FORMAT: u8 = 2;
+pub(crate) const TRAILER_FORMAT: u8 = 2;
 
 /// The packet format of a payload.
-pub const PAYLOAD_FORMAT: u8 = 3;
+pub(crate) const PAYLOAD_FORMAT: u8 = 3;
 
 /// The refusal of a datagram that ends too early.
-pub fn short(bytes: &[u8]) -> WireError
+pub(crate) fn short(bytes: &[u8]) -> WireError
     requires { length bytes.now < 56 }
     ensures { result ≡ WireError.Short (length bytes.now) }
 {
@@ -34,7 +34,7 @@ pub fn short(bytes: &[u8]) -> WireError
 
 /// Whether the status says that the camera can't send a packet again: unavailable, not yet
 /// available, removed from memory with the ones before it, or removed from memory.
-pub fn is_notice(status: u16) -> bool
+pub(crate) fn is_notice(status: u16) -> bool
     ensures { result ≡ is_notice_status status }
 {
     status == 0x800C || status == 0x8010 || status == 0x8011 || status == 0x8012
@@ -74,7 +74,7 @@ fn head(bytes: &[u8]) -> Head
 
 /// The header of a packet of the stream, with its form.
 #[tactic(auto, unfolding(crate::specs::Reading::header_of))]
-pub fn header(bytes: &[u8]) -> Result<(Form, Head), WireError>
+pub(crate) fn header(bytes: &[u8]) -> Result<(Form, Head), WireError>
     ensures { result ≡ header_of bytes.now }
 {
     if bytes.len() < SHORTEST_HEADER {

@@ -6,17 +6,17 @@
 //! stands for.
 #![tactic(auto)]
 
-mod flags;
-mod form;
-mod header;
-pub mod laws;
-mod packet;
-mod packet_parts;
-mod reading;
+mod flags; // the bits of a header
+mod form; // what a packet carries
+mod header; // the header, read
+pub mod laws; // laws of the definitions, as contracts
+mod packet; // a packet
+mod packet_parts; // its parts
+mod reading; // what is behind the header, read
 #[cfg(test)]
 mod tests;
-mod wire_error;
-mod writing;
+mod wire_error; // why there is no packet
+mod writing; // packets, written
 
 pub use flags::HeadFlags;
 pub use packet::Packet;

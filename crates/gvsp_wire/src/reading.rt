@@ -14,13 +14,13 @@ use stream_packets::{Head, LeaderInfo};
 use wire_fields::{u16_at, u32_at, u64_at};
 
 /// The payload type of an image.
-pub const IMAGE: u16 = 0x0001;
+pub(crate) const IMAGE: u16 = 0x0001;
 
 /// The bytes of a leader, to the end of its fields.
-pub const LEADER_SIZE: usize = HEADER_SIZE + 36;
+pub(crate) const LEADER_SIZE: usize = HEADER_SIZE + 36;
 
 /// The bytes of a trailer, to the end of its fields.
-pub const TRAILER_SIZE: usize = HEADER_SIZE + 8;
+pub(crate) const TRAILER_SIZE: usize = HEADER_SIZE + 8;
 
 /// The packet that a datagram is (GigE Vision 2.0, GVSP with extended identifiers).
 ///
