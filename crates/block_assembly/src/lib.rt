@@ -5,19 +5,19 @@
 //! and of missing ranges give of that list, in whatever order the packets came.
 #![tactic(auto)]
 
-mod account;
-mod assembly;
-mod completing;
-mod judging;
-mod keeping;
-mod laws;
-mod lost;
-mod progress;
-mod recording;
-mod span;
+mod account; // what is told of a block that retires
+mod assembly; // the block and its public calls
+mod completing; // whether the image is whole
+mod judging; // what becomes of a packet
+mod keeping; // what a packet changes
+mod laws; // laws of the definitions, as contracts
+mod lost; // packet ids without a kept packet
+mod progress; // what is known of the kept packets
+mod recording; // the record of a block
+mod span; // where a payload lies in the buffer
 #[cfg(test)]
 mod tests;
-mod verdict;
+mod verdict; // the answer to a packet
 
 pub use account::Account;
 pub use assembly::Assembly;

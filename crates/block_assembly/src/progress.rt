@@ -7,7 +7,7 @@ pub const PACKET_IDS: u32 = MAX_PACKET_ID + 1;
 
 /// A payload with fewer bytes than a payload may have.
 #[derive(Clone, Copy, Debug, PartialEq, Eq)]
-pub struct Short {
+pub(crate) struct Short {
     /// Its packet id.
     pub id: u32,
     /// Its length in bytes.
@@ -16,7 +16,7 @@ pub struct Short {
 
 /// What the kept trailer says.
 #[derive(Clone, Copy, Debug, PartialEq, Eq)]
-pub struct Ending {
+pub(crate) struct Ending {
     /// Its packet id.
     pub id: u32,
     /// How many lines the image has.
@@ -28,7 +28,7 @@ pub struct Ending {
 /// A payload's bytes are copied once, when it comes. Nothing that is counted rests on the leader or the
 /// trailer, so it doesn't matter when they come.
 #[derive(Debug, Drop)]
-pub struct Progress {
+pub(crate) struct Progress {
     /// The most bytes of a payload packet.
     pub(crate) payload_size: u32,
     /// The block id.

@@ -5,12 +5,12 @@
 //! slow program of the same definitions, with which later ones are compared.
 #![tactic(auto)]
 
-mod extents;
-mod keeping;
-mod laws;
-mod looking;
-mod plain;
-mod records;
+mod extents; // how long an image is
+mod keeping; // which packets are kept
+mod laws; // laws of the definitions, as contracts
+mod looking; // what a list of packets has
+mod plain; // the image, position by position
+mod records; // what is known of a block by its packets
 #[cfg(test)]
 mod tests;
 

@@ -8,7 +8,7 @@ ghost use Rattle.block_image.specs.Image.{leader_in, lines_in, has_trailer_at};
 use gvsp_wire::{LeaderInfo, Packet};
 
 /// Whether some packet has this id.
-pub fn contains_id(id: u32, packets: &[Packet<'_>]) -> bool
+pub(crate) fn contains_id(id: u32, packets: &[Packet<'_>]) -> bool
     ensures { result ≡ has_id id (views packets.now) }
 {
     for packet in packets {
@@ -20,7 +20,7 @@ pub fn contains_id(id: u32, packets: &[Packet<'_>]) -> bool
 }
 
 /// Whether some packet is a trailer.
-pub fn contains_trailer(packets: &[Packet<'_>]) -> bool
+pub(crate) fn contains_trailer(packets: &[Packet<'_>]) -> bool
     ensures { result ≡ has_trailer (views packets.now) }
 {
     for packet in packets {
@@ -32,7 +32,7 @@ pub fn contains_trailer(packets: &[Packet<'_>]) -> bool
 }
 
 /// Whether some packet is a trailer with this id.
-pub fn contains_trailer_at(id: u64, packets: &[Packet<'_>]) -> bool
+pub(crate) fn contains_trailer_at(id: u64, packets: &[Packet<'_>]) -> bool
     ensures { result ≡ has_trailer_at id (views packets.now) }
 {
     for packet in packets {
@@ -44,7 +44,7 @@ pub fn contains_trailer_at(id: u64, packets: &[Packet<'_>]) -> bool
 }
 
 /// What the first leader says of the image.
-pub fn first_leader(packets: &[Packet<'_>]) -> Option<LeaderInfo>
+pub(crate) fn first_leader(packets: &[Packet<'_>]) -> Option<LeaderInfo>
     ensures { result ≡ leader_in (views packets.now) }
 {
     for packet in packets {
@@ -57,7 +57,7 @@ pub fn first_leader(packets: &[Packet<'_>]) -> Option<LeaderInfo>
 }
 
 /// How many lines the first trailer tells.
-pub fn first_lines(packets: &[Packet<'_>]) -> Option<u32>
+pub(crate) fn first_lines(packets: &[Packet<'_>]) -> Option<u32>
     ensures { result ≡ lines_in (views packets.now) }
 {
     for packet in packets {

@@ -88,7 +88,7 @@ fn contains_image(p: u32, size: u32, len: u32, kept: &[Packet<'_>]) -> bool
 }
 
 /// Whether the block is complete, by the length of its image, where that is known.
-pub fn completes(p: u32, size: u32, kept: &[Packet<'_>], extent: Option<u32>) -> bool
+pub(crate) fn completes(p: u32, size: u32, kept: &[Packet<'_>], extent: Option<u32>) -> bool
     requires { IsPayloadSize p }
     ensures { result ≡ is_complete p size (views kept.now) extent }
 {
@@ -126,7 +126,7 @@ fn some_ends_past(p: u32, size: u32, kept: &[Packet<'_>]) -> bool
 
 /// Whether the block has more bytes than the buffer: its image, or where the length of that isn't
 /// known, some payload.
-pub fn outgrows(p: u32, size: u32, kept: &[Packet<'_>], extent: Option<u32>) -> bool
+pub(crate) fn outgrows(p: u32, size: u32, kept: &[Packet<'_>], extent: Option<u32>) -> bool
     requires { IsPayloadSize p }
     ensures { result ≡ is_larger p size (views kept.now) extent }
 {

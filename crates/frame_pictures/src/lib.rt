@@ -5,12 +5,12 @@
 //! it's the frame's.
 #![tactic(auto)]
 
-mod formats;
-pub mod laws;
-mod look;
-mod looks;
-mod no_picture;
-mod samples;
+mod formats; // the pixel formats that are drawn
+pub mod laws; // laws of the definitions, as contracts
+mod look; // how a picture lies in its buffer
+mod looks; // the look that a record tells
+mod no_picture; // why there is none
+mod samples; // how a pixel is read
 #[cfg(test)]
 mod tests;
 
