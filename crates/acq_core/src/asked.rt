@@ -2,7 +2,7 @@ use gvcp_aux::Resend;
 
 /// A request that waits to be sent.
 #[derive(Clone, Copy, Debug, PartialEq, Eq)]
-pub struct Asked {
+pub(crate) struct Asked {
     /// Its request number, from 1 on.
     pub(crate) number: u16,
     /// What it asks for.

@@ -6,24 +6,24 @@
 //! `specs/Standing.antt` says how it stands for a state of the machine.
 #![tactic(auto)]
 
-mod acq;
-mod asked;
-mod asking;
-mod counting;
-mod ended;
-mod ending;
-mod giving;
-mod hearing;
-mod laws;
-mod machine;
-mod making;
-mod retiring;
-mod rounds;
-mod slot;
-mod slots;
+mod acq; // the receiver's public calls
+mod asked; // a request that waits to be sent
+mod asking; // what an open block asks for again
+mod counting; // counts that stand still at their type's end
+mod ended; // what is told of a block that retired
+mod ending; // which blocks that retire are told
+mod giving; // a claimed buffer, or none, opens a block
+mod hearing; // what a datagram makes of the state
+mod laws; // laws of the definitions, as contracts
+mod machine; // the receiver's state
+mod making; // a new receiver, with all its memory
+mod retiring; // blocks retire, the lowest first
+mod rounds; // a moment: old blocks retire, others ask
+mod slot; // an open block, and its bitmaps
+mod slots; // what is asked of one open block
 #[cfg(test)]
 mod tests;
-mod waiting;
+mod waiting; // fills, requests and ends that wait
 
 pub use acq::Acq;
 pub use acquisition_machine::{AcqConfig, Counts, Need, Retired, Why};

@@ -5,7 +5,7 @@ use acquisition_machine::{AcqConfig, Counts, Retired};
 
 /// The receiver's state.
 #[derive(Drop)]
-pub struct Machine {
+pub(crate) struct Machine {
     /// How blocks are received.
     pub(crate) config: AcqConfig,
     /// The greatest moment that was told, in milliseconds.

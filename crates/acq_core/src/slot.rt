@@ -3,7 +3,7 @@ use packet_bitmap::Bitmap;
 
 /// Two bitmaps of packet ids, which each open block has.
 #[derive(Drop)]
-pub struct Spare {
+pub(crate) struct Spare {
     /// For the packets that are kept.
     pub(crate) kept: Bitmap,
     /// For those that the camera can't send again.
@@ -12,7 +12,7 @@ pub struct Spare {
 
 /// What an open block was given.
 #[derive(Drop)]
-pub enum Hold {
+pub(crate) enum Hold {
     /// No buffer: the block is starved, and its bitmaps wait.
     Without(Spare),
     /// The buffer of this place, in an assembly.
@@ -21,7 +21,7 @@ pub enum Hold {
 
 /// An open block.
 #[derive(Drop)]
-pub struct Slot {
+pub(crate) struct Slot {
     /// The block id.
     pub(crate) block: u64,
     /// What it was given.

@@ -9,11 +9,11 @@
 //! The types here are those that a receiver's contracts share with the definitions.
 #![tactic(auto)]
 
-mod config;
-mod counts;
-mod laws;
-mod need;
-mod retired;
+mod config; // how blocks are received
+mod counts; // what is counted
+mod laws; // laws of the definitions, as contracts
+mod need; // the answer to a datagram
+mod retired; // a block that retired with its buffer
 
 pub use config::AcqConfig;
 pub use counts::Counts;
