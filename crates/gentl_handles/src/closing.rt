@@ -32,7 +32,7 @@ fn contains(closed: &[Handle], serial: u64) -> bool
 }
 
 /// Takes the handle with this serial and all below it out, and lists them by rising serial.
-pub fn close_below(
+pub(crate) fn close_below(
     entries: &mut Slab<Opened>,
     order: &mut ArrayVec<usize, 64>,
     serial: u64,

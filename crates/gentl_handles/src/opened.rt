@@ -2,7 +2,7 @@ use crate::level::Level;
 
 /// What is known of an open handle.
 #[derive(Clone, Copy, Debug, PartialEq, Eq)]
-pub struct Opened {
+pub(crate) struct Opened {
     /// The number of the opening.
     pub serial: u64,
     /// What it stands for.

@@ -14,7 +14,7 @@ use slab::Slab;
 const MOST_OPEN: usize = 64;
 
 /// The serial of the handle above, if there is one.
-pub fn serial_of(parent: Option<Handle>) -> Option<u64>
+pub(crate) fn serial_of(parent: Option<Handle>) -> Option<u64>
     ensures { result ≡ option_map (λ handle. handle.serial) parent }
 {
     match parent {
@@ -59,7 +59,7 @@ fn child_level(entries: &Slab<Opened>, order: &[usize], parent: Option<Handle>) 
 }
 
 /// The child that opens, or why it's refused.
-pub fn opening(
+pub(crate) fn opening(
     entries: &Slab<Opened>,
     order: &[usize],
     openings: u64,

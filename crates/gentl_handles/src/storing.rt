@@ -17,14 +17,14 @@ const NOTHING_OPENED: Opened = Opened {
 };
 
 /// What is known of the handle under this key.
-pub fn opened_at(entries: &Slab<Opened>, key: usize) -> Opened
+pub(crate) fn opened_at(entries: &Slab<Opened>, key: usize) -> Opened
     ensures { result ≡ opened_at entries.now key }
 {
     entries.get(key).copied().unwrap_or(NOTHING_OPENED)
 }
 
 /// The handle under this key.
-pub fn handle_at(entries: &Slab<Opened>, key: usize) -> Handle
+pub(crate) fn handle_at(entries: &Slab<Opened>, key: usize) -> Handle
     ensures { result.serial ≡ (opened_at entries.now key).serial }
 {
     Handle {
@@ -34,7 +34,7 @@ pub fn handle_at(entries: &Slab<Opened>, key: usize) -> Handle
 }
 
 /// The key of the open handle with this serial.
-pub fn find(entries: &Slab<Opened>, order: &[usize], serial: u64) -> Option<usize>
+pub(crate) fn find(entries: &Slab<Opened>, order: &[usize], serial: u64) -> Option<usize>
     ensures { option_map (λ key. opened_at entries.now key) result ≡ found serial (opened_by entries.now order.now) }
 {
     for key in order {
@@ -46,7 +46,7 @@ pub fn find(entries: &Slab<Opened>, order: &[usize], serial: u64) -> Option<usiz
 }
 
 /// The key of the open handle with this number under this parent.
-pub fn find_child(
+pub(crate) fn find_child(
     entries: &Slab<Opened>,
     order: &[usize],
     parent: Option<u64>,
@@ -80,7 +80,7 @@ fn is_same_parent(a: Option<u64>, b: Option<u64>) -> bool
 
 /// What is known of an open handle. Its key is looked at first; it has another where the handle is of
 /// another tree, or was closed and its key used again.
-pub fn look_up(entries: &Slab<Opened>, order: &[usize], handle: Handle) -> Option<Opened>
+pub(crate) fn look_up(entries: &Slab<Opened>, order: &[usize], handle: Handle) -> Option<Opened>
     requires stored { AreStored entries.now order.now }
     requires ordered { (openings : ℕ) × AreOrdered 0 (opened_by entries.now order.now) openings }
     ensures { result ≡ found handle.serial (opened_by entries.now order.now) }

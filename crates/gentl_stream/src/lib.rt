@@ -3,19 +3,19 @@
 //! stopped, and the stream and its buffers tell of themselves.
 #![tactic(auto)]
 
-mod announce;
+mod announce; // DSAnnounceBuffer
 #[cfg(test)]
 mod buffer_tests;
-mod buffers;
-mod close;
-mod empty;
-mod flush;
-mod info;
+mod buffers; // queue, revoke, borrow and return
+mod close; // DSClose
+mod empty; // the flush of the pool to the output
+mod flush; // the other flushes
+mod info; // DSGetInfo and DSGetBufferInfo
 #[cfg(test)]
 mod info_tests;
-mod looks;
-mod places;
-mod run;
+mod looks; // the look with which calls begin
+mod places; // what is done with each of several places
+mod run; // DSStartAcquisition and DSStopAcquisition
 
 pub use announce::ds_announce;
 pub use buffer_words::Loan;

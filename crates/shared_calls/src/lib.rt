@@ -5,9 +5,9 @@
 mod board_tests;
 #[cfg(test)]
 mod meeting_tests;
-mod share;
+mod share; // one buffer from thread to thread
 #[cfg(test)]
 mod tests;
-mod work;
+mod work; // what the two threads do
 
 pub use share::share_board;
