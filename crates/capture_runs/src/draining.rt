@@ -15,7 +15,7 @@ use gev_types::NoMemory;
 const HELD_BACK: usize = 65_536;
 
 /// Writes the text that is held back, once it's long.
-pub fn drain<K: Sink>(sink: &mut K, out: &mut Vec<u8>) -> Result<(), Failed>
+pub(crate) fn drain<K: Sink>(sink: &mut K, out: &mut Vec<u8>) -> Result<(), Failed>
     ensures drained { OnOk result (Drains (K.written sink.old) (K.written sink.new) out.old.items out.new.items) }
     ensures no_fault { OnOk result (K.faults sink.new ≡ K.faults sink.old) }
     ensures front { OnErr result (WritesFront (K.written sink.old) (K.written sink.new) out.old.items) }
@@ -42,7 +42,7 @@ fn add_rest<T: Telling>(end: CaptureEnd, telling: &mut T, out: &mut Vec<u8>) -> 
 }
 
 /// Writes the text that is held back, and what is still to be written where the capture ends so.
-pub fn write_rest<K: Sink, T: Telling>(
+pub(crate) fn write_rest<K: Sink, T: Telling>(
     end: CaptureEnd,
     sink: &mut K,
     telling: &mut T,

@@ -1,6 +1,6 @@
 /// Why a text wasn't written.
 #[derive(Clone, Copy, Debug, PartialEq, Eq)]
-pub enum Stop {
+pub(crate) enum Stop {
     /// Writing failed.
     WriteFault,
     /// Memory ran out.

@@ -7,7 +7,7 @@ use gev_capture::Content;
 
 /// What is counted of a capture's packets.
 #[derive(Clone, Copy, Debug, PartialEq, Eq)]
-pub struct Counts {
+pub(crate) struct Counts {
     /// Packets.
     pub packets: u64,
     /// Datagrams of UDP over IPv4.
@@ -24,7 +24,7 @@ pub struct Counts {
 
 impl Counts {
     /// Nothing was counted.
-    pub fn none() -> Counts
+    pub(crate) fn none() -> Counts
         ensures { result ≡ no_counts }
     {
         Counts {
@@ -38,7 +38,7 @@ impl Counts {
     }
 
     /// One leader more of a stream that isn't listed.
-    pub fn with_unlisted(self) -> Counts
+    pub(crate) fn with_unlisted(self) -> Counts
         ensures { result ≡ with_unlisted self }
     {
         Counts {
@@ -48,7 +48,7 @@ impl Counts {
     }
 
     /// One packet more.
-    pub fn after(self, what: Content<'_>) -> Counts
+    pub(crate) fn after(self, what: Content<'_>) -> Counts
         ensures { result ≡ counts_after (seen_as what.entry) self }
     {
         let packets = one_more(self.packets);

@@ -4,13 +4,13 @@
 //! `specs/Texts.antt` has the text that lists them, as a function of the capture's packets.
 #![tactic(auto)]
 
-mod counts;
-mod listing;
-mod piece;
-mod sign;
-mod signing;
-mod stream;
-mod stream_text;
-mod table;
+mod counts; // what is counted of packets
+mod listing; // the teller, and the run that lists streams
+mod piece; // a part of a line
+mod sign; // what a datagram is to a stream
+mod signing; // how that is read of its bytes
+mod stream; // one image stream, and what is counted of it
+mod stream_text; // the lines that list streams
+mod table; // the streams so far
 
 pub use listing::list_streams;

@@ -2,7 +2,7 @@ use gev_types::Peer;
 
 /// A part of a line.
 #[derive(Clone, Copy)]
-pub enum Piece<'a> {
+pub(crate) enum Piece<'a> {
     /// A text as it stands.
     Text(&'a [u8]),
     /// A number in decimal.

@@ -25,7 +25,7 @@ fn sign_in(extended: bool, packet: Result<Packet<'_>, WireError>) -> Sign
 
 /// What a datagram is to a stream. One with standard identifiers is widened into the room, in the block of its
 /// own id.
-pub fn sign(bytes: &[u8], room: &mut [u8]) -> Sign
+pub(crate) fn sign(bytes: &[u8], room: &mut [u8]) -> Sign
     requires { length bytes.now + 12 ≤ length room.old }
     ensures { result ≡ sign bytes.now }
 {

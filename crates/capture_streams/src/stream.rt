@@ -8,7 +8,7 @@ use stream_packets::LeaderInfo;
 
 /// An image stream: what one address and port sends to another, from its first leader on.
 #[derive(Clone, Copy, Debug, PartialEq, Eq)]
-pub struct Stream {
+pub(crate) struct Stream {
     /// Who sends.
     pub sender: Peer,
     /// Who receives.
@@ -42,7 +42,7 @@ pub struct Stream {
 }
 
 /// One more, up to the counter's last value.
-pub fn one_more(count: u64) -> u64
+pub(crate) fn one_more(count: u64) -> u64
     ensures { result ≡ one_more count }
 {
     count.saturating_add(1)
@@ -57,7 +57,7 @@ fn same_peer(a: Peer, b: Peer) -> bool
 
 impl Stream {
     /// Whether this is what the one sends to the other.
-    pub fn is_between(&self, sender: Peer, receiver: Peer) -> bool
+    pub(crate) fn is_between(&self, sender: Peer, receiver: Peer) -> bool
         ensures { result ≡ is_between sender receiver self.now }
     {
         same_peer(self.sender, sender) && same_peer(self.receiver, receiver)
@@ -118,7 +118,7 @@ impl Stream {
     }
 
     /// The stream with one more datagram, at this moment.
-    pub fn heard(self, moment: u64, sign: Sign) -> Stream
+    pub(crate) fn heard(self, moment: u64, sign: Sign) -> Stream
         ensures { result ≡ heard moment sign self }
     {
         let counted = Stream {
@@ -130,7 +130,7 @@ impl Stream {
     }
 
     /// The stream that this leader begins.
-    pub fn begun(
+    pub(crate) fn begun(
         sender: Peer,
         receiver: Peer,
         moment: u64,

@@ -103,7 +103,7 @@ fn add_hex(out: &mut Vec<u8>, bytes: &[u8]) -> Result<(), NoMemory>
 }
 
 /// Adds the line of a stream.
-pub fn add_stream(out: &mut Vec<u8>, stream: &Stream) -> Result<(), NoMemory>
+pub(crate) fn add_stream(out: &mut Vec<u8>, stream: &Stream) -> Result<(), NoMemory>
     ensures { OnOk result (out.new.items ≡ out.old.items ++ stream_line stream.now) }
 {
     add(
@@ -141,7 +141,7 @@ pub fn add_stream(out: &mut Vec<u8>, stream: &Stream) -> Result<(), NoMemory>
 }
 
 /// Adds the lines of streams.
-pub fn add_streams(out: &mut Vec<u8>, streams: &[Stream]) -> Result<(), NoMemory>
+pub(crate) fn add_streams(out: &mut Vec<u8>, streams: &[Stream]) -> Result<(), NoMemory>
     ensures { OnOk result (out.new.items ≡ out.old.items ++ stream_lines streams.now) }
 {
     for stream in streams {
@@ -151,7 +151,7 @@ pub fn add_streams(out: &mut Vec<u8>, streams: &[Stream]) -> Result<(), NoMemory
 }
 
 /// Adds the last line.
-pub fn add_end(out: &mut Vec<u8>, counts: Counts, streams: usize) -> Result<(), NoMemory>
+pub(crate) fn add_end(out: &mut Vec<u8>, counts: Counts, streams: usize) -> Result<(), NoMemory>
     ensures { OnOk result (out.new.items ≡ out.old.items ++ end_text counts streams) }
 {
     add(

@@ -21,7 +21,7 @@ const ROOM: usize = 65_539;
 
 /// The streams of a capture so far. Contracts see them and what was counted.
 #[derive(Drop)]
-pub struct Table {
+pub(crate) struct Table {
     streams: Vec<Stream>,
     counts: Counts,
     room: Vec<u8>,
@@ -60,7 +60,7 @@ fn hear_at(streams: &mut Vec<Stream>, place: usize, moment: u64, sign: Sign)
 
 impl Table {
     /// No stream yet. All memory for streams is taken here.
-    pub fn new(alloc: Global) -> Result<Table, NoMemory>
+    pub(crate) fn new(alloc: Global) -> Result<Table, NoMemory>
         ensures { IfOk result (λ table. table ≡ empty_table) }
     {
         let room = vec![in alloc; 0u8; ROOM]?;
@@ -72,14 +72,14 @@ impl Table {
     }
 
     /// The streams, in the order in which they begin.
-    pub fn streams(&self) -> &[Stream]
+    pub(crate) fn streams(&self) -> &[Stream]
         ensures { result.now ≡ self.now.streams }
     {
         self.streams.as_slice()
     }
 
     /// What was counted.
-    pub fn counts(&self) -> Counts
+    pub(crate) fn counts(&self) -> Counts
         ensures { result ≡ self.now.counts }
     {
         self.counts
@@ -113,7 +113,7 @@ impl Table {
     }
 
     /// One more packet of the capture, which came at this moment.
-    pub fn count(&mut self, moment: u64, what: Content<'_>)
+    pub(crate) fn count(&mut self, moment: u64, what: Content<'_>)
         requires { IsShort (seen_as what) }
         ensures { self.new ≡ counted (record { moment = moment; what = seen_as what.entry }) self.old }
     {

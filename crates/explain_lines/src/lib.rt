@@ -5,10 +5,10 @@
 //! which images gave way to others, and what was asked for.
 #![tactic(auto)]
 
-mod asking;
-mod hearing;
-mod lines;
-mod retired;
+mod asking; // requests that are written, and told
+mod hearing; // datagrams that are heard, and told
+mod lines; // the lines `stop`, `t` and `d`
+mod retired; // blocks that retire, and are told
 #[cfg(test)]
 mod tests;
 

@@ -5,24 +5,24 @@
 //! come from a source.
 #![tactic(auto)]
 
-mod blocks;
-mod capture_end;
-mod captured;
-mod classic;
-mod content;
-mod form;
-mod kind;
-mod laws;
-mod moments;
-mod numbers;
-mod options;
-mod order;
-mod reader;
-mod reading;
-mod room;
-mod seeing;
-mod step;
-mod telling;
+mod blocks; // the blocks of pcapng
+mod capture_end; // why no further record comes
+mod captured; // a packet, lent by its reader
+mod classic; // the records of pcap
+mod content; // what a packet is
+mod form; // the file's form, and its interfaces
+mod kind; // why a record is refused
+mod laws; // laws of the definitions, as contracts
+mod moments; // the packets' times, from the first on
+mod numbers; // numbers in the file's byte order
+mod options; // the options of an interface
+mod order; // the byte order
+mod reader; // the reader and its public calls
+mod reading; // the next record, from a source
+mod room; // the bytes that are held
+mod seeing; // the headers of a packet, down to UDP
+mod step; // what the next bytes begin with
+mod telling; // how that is read of them
 #[cfg(test)]
 mod tests;
 

@@ -8,7 +8,7 @@ use byteorder::{BigEndian, ByteOrder, LittleEndian};
 
 /// The two bytes from a place on, as a number.
 #[tactic(auto, unfolding(crate::specs::Numbers::number))]
-pub fn u16_in(order: Order, bytes: &[u8], place: usize) -> u16
+pub(crate) fn u16_in(order: Order, bytes: &[u8], place: usize) -> u16
     requires { place + 2 ≤ length bytes.now }
     ensures { result ≡ number order place 2 bytes.now }
 {
@@ -21,7 +21,7 @@ pub fn u16_in(order: Order, bytes: &[u8], place: usize) -> u16
 
 /// The four bytes from a place on, as a number.
 #[tactic(auto, unfolding(crate::specs::Numbers::number))]
-pub fn u32_in(order: Order, bytes: &[u8], place: usize) -> u32
+pub(crate) fn u32_in(order: Order, bytes: &[u8], place: usize) -> u32
     requires { place + 4 ≤ length bytes.now }
     ensures { result ≡ number order place 4 bytes.now }
 {

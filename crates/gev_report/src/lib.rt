@@ -3,17 +3,17 @@
 //! A call takes memory only where `out` has to grow. After `NoMemory` the text of `out` is as it was.
 #![tactic(auto)]
 
-mod camera_lines;
-mod end_counts;
-mod live_lines;
-mod piece;
-mod replay_lines;
-mod soak_lines;
-mod soak_numbers;
-mod step_text;
+mod camera_lines; // lines of a camera script
+mod end_counts; // the numbers of a replay's last line
+mod live_lines; // the last line of a live run
+mod piece; // a part of a line
+mod replay_lines; // lines of a replay
+mod soak_lines; // the last line of a soak run
+mod soak_numbers; // its numbers
+mod step_text; // what a step was answered
 #[cfg(test)]
 mod tests;
-mod writing;
+mod writing; // lines from their parts
 
 pub use camera_lines::{line_ack, line_executed, line_frame, line_stream};
 pub use end_counts::EndCounts;

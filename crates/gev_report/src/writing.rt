@@ -8,7 +8,7 @@ use gev_types::NoMemory;
 use itoa::Buffer;
 
 /// Adds these pieces, one after the other, or nothing.
-pub fn add(out: &mut Vec<u8>, pieces: &[Piece<'_>]) -> Result<(), NoMemory>
+pub(crate) fn add(out: &mut Vec<u8>, pieces: &[Piece<'_>]) -> Result<(), NoMemory>
     ensures text { OnOk result (out.new.items ≡ out.old.items ++ flat_map piece_text pieces.now) }
     ensures unchanged { OnErr result (out.new.items ≡ out.old.items) }
 {

@@ -8,17 +8,17 @@ use crate::numbers::{number_in, u8_in, u32_of};
 use crate::parts::{next_part, one_part, two_parts};
 
 /// What separates words.
-pub const SPACE: u8 = b' ';
+pub(crate) const SPACE: u8 = b' ';
 
 /// Whether the word is just this one.
-pub fn is(word: &[u8], wanted: &[u8]) -> bool
+pub(crate) fn is(word: &[u8], wanted: &[u8]) -> bool
     ensures { result ≡ bytes_eq word.now wanted.now }
 {
     word == wanted
 }
 
 /// The most bytes of a payload packet in a script of this version.
-pub fn most_p(version: u64) -> u64
+pub(crate) fn most_p(version: u64) -> u64
     ensures value { result ≡ most_p version }
     ensures few { result ≤ 8964 }
 {
@@ -26,7 +26,7 @@ pub fn most_p(version: u64) -> u64
 }
 
 /// The one word that is left, as a number.
-pub fn number_after(rest: Option<&[u8]>) -> Result<u64, ScriptKind>
+pub(crate) fn number_after(rest: Option<&[u8]>) -> Result<u64, ScriptKind>
     ensures { result ≡ number_after most_u64 (parts_after 32 (option_map (λ r. r.now) rest.entry)) }
 {
     let word = one_part(SPACE, rest)?;
@@ -34,7 +34,7 @@ pub fn number_after(rest: Option<&[u8]>) -> Result<u64, ScriptKind>
 }
 
 /// The one word that is left, as a number of at most 32 bits.
-pub fn u32_after(rest: Option<&[u8]>) -> Result<u32, ScriptKind>
+pub(crate) fn u32_after(rest: Option<&[u8]>) -> Result<u32, ScriptKind>
     ensures { result ≡ number_after most_u32 (parts_after 32 (option_map (λ r. r.now) rest.entry)) }
 {
     let word = one_part(SPACE, rest)?;
@@ -42,7 +42,7 @@ pub fn u32_after(rest: Option<&[u8]>) -> Result<u32, ScriptKind>
 }
 
 /// The number that the next word is, within these bounds, and what follows it.
-pub fn next_number(
+pub(crate) fn next_number(
     low: u64,
     high: u64,
     rest: Option<&[u8]>,
@@ -66,7 +66,7 @@ fn id_parts(rest: Option<&[u8]>) -> Result<(u8, u32), ScriptKind>
 }
 
 /// A buffer id, `<place>.<generation>`.
-pub fn id_of(word: &[u8]) -> Result<(u8, u32), ScriptKind>
+pub(crate) fn id_of(word: &[u8]) -> Result<(u8, u32), ScriptKind>
     ensures { result ≡ id_of word.now }
 {
     match id_parts(Some(word)) {
@@ -76,7 +76,7 @@ pub fn id_of(word: &[u8]) -> Result<(u8, u32), ScriptKind>
 }
 
 /// The one word that is left, as a buffer id.
-pub fn id_after(rest: Option<&[u8]>) -> Result<(u8, u32), ScriptKind>
+pub(crate) fn id_after(rest: Option<&[u8]>) -> Result<(u8, u32), ScriptKind>
     ensures { result ≡ id_after (parts_after 32 (option_map (λ r. r.now) rest.entry)) }
 {
     let word = one_part(SPACE, rest)?;
@@ -84,7 +84,7 @@ pub fn id_after(rest: Option<&[u8]>) -> Result<(u8, u32), ScriptKind>
 }
 
 /// A handle's serial, or `-` for none.
-pub fn parent_of(word: &[u8]) -> Result<Option<u64>, ScriptKind>
+pub(crate) fn parent_of(word: &[u8]) -> Result<Option<u64>, ScriptKind>
     ensures { result ≡ parent_of word.now }
 {
     if is(word, b"-") {
@@ -95,7 +95,10 @@ pub fn parent_of(word: &[u8]) -> Result<Option<u64>, ScriptKind>
 }
 
 /// What follows the word that has to stand first.
-pub fn after_word<'a>(wanted: &[u8], rest: Option<&'a [u8]>) -> Result<Option<&'a [u8]>, ScriptKind>
+pub(crate) fn after_word<'a>(
+    wanted: &[u8],
+    rest: Option<&'a [u8]>,
+) -> Result<Option<&'a [u8]>, ScriptKind>
     ensures { read_map (λ found. parts_after 32 (option_map (λ r. r.now) found)) result
         ≡ after_word wanted.now (parts_after 32 (option_map (λ r. r.now) rest.entry)) }
 {

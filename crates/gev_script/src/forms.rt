@@ -42,7 +42,7 @@ fn header_fields(rest: Option<&[u8]>) -> Result<Line<'_>, ScriptKind>
 }
 
 /// `gevacq <version> <p> <window> <timeout> <age> <rounds>`
-pub fn header_line(rest: Option<&[u8]>) -> Result<Line<'_>, ScriptKind>
+pub(crate) fn header_line(rest: Option<&[u8]>) -> Result<Line<'_>, ScriptKind>
     ensures { seen result ≡ header_line (parts_after 32 (option_map (λ r. r.now) rest.entry)) }
 {
     match header_fields(rest) {
@@ -52,7 +52,7 @@ pub fn header_line(rest: Option<&[u8]>) -> Result<Line<'_>, ScriptKind>
 }
 
 /// A line of its first word alone.
-pub fn alone<'a>(line: Line<'a>, rest: Option<&[u8]>) -> Result<Line<'a>, ScriptKind>
+pub(crate) fn alone<'a>(line: Line<'a>, rest: Option<&[u8]>) -> Result<Line<'a>, ScriptKind>
     ensures { seen result ≡ alone (view line.entry) (parts_after 32 (option_map (λ r. r.now) rest.entry)) }
 {
     no_part(SPACE, rest)?;
@@ -60,7 +60,7 @@ pub fn alone<'a>(line: Line<'a>, rest: Option<&[u8]>) -> Result<Line<'a>, Script
 }
 
 /// `announce <size>`
-pub fn announce_line(rest: Option<&[u8]>) -> Result<Line<'_>, ScriptKind>
+pub(crate) fn announce_line(rest: Option<&[u8]>) -> Result<Line<'_>, ScriptKind>
     ensures { seen result ≡ announce_line (parts_after 32 (option_map (λ r. r.now) rest.entry)) }
 {
     let size = number_after(rest)?;
@@ -68,7 +68,7 @@ pub fn announce_line(rest: Option<&[u8]>) -> Result<Line<'_>, ScriptKind>
 }
 
 /// `queue <id>`
-pub fn queue_line(rest: Option<&[u8]>) -> Result<Line<'_>, ScriptKind>
+pub(crate) fn queue_line(rest: Option<&[u8]>) -> Result<Line<'_>, ScriptKind>
     ensures { seen result ≡ queue_line (parts_after 32 (option_map (λ r. r.now) rest.entry)) }
 {
     let (place, generation) = id_after(rest)?;
@@ -76,7 +76,7 @@ pub fn queue_line(rest: Option<&[u8]>) -> Result<Line<'_>, ScriptKind>
 }
 
 /// `revoke <id>`
-pub fn revoke_line(rest: Option<&[u8]>) -> Result<Line<'_>, ScriptKind>
+pub(crate) fn revoke_line(rest: Option<&[u8]>) -> Result<Line<'_>, ScriptKind>
     ensures { seen result ≡ revoke_line (parts_after 32 (option_map (λ r. r.now) rest.entry)) }
 {
     let (place, generation) = id_after(rest)?;
@@ -84,7 +84,7 @@ pub fn revoke_line(rest: Option<&[u8]>) -> Result<Line<'_>, ScriptKind>
 }
 
 /// `flush <n>`
-pub fn flush_line(rest: Option<&[u8]>) -> Result<Line<'_>, ScriptKind>
+pub(crate) fn flush_line(rest: Option<&[u8]>) -> Result<Line<'_>, ScriptKind>
     ensures { seen result ≡ flush_line (parts_after 32 (option_map (λ r. r.now) rest.entry)) }
 {
     let operation = u32_after(rest)?;
@@ -92,7 +92,7 @@ pub fn flush_line(rest: Option<&[u8]>) -> Result<Line<'_>, ScriptKind>
 }
 
 /// `stop <n>`
-pub fn stop_line(rest: Option<&[u8]>) -> Result<Line<'_>, ScriptKind>
+pub(crate) fn stop_line(rest: Option<&[u8]>) -> Result<Line<'_>, ScriptKind>
     ensures { seen result ≡ stop_line (parts_after 32 (option_map (λ r. r.now) rest.entry)) }
 {
     let flags = u32_after(rest)?;
@@ -100,7 +100,7 @@ pub fn stop_line(rest: Option<&[u8]>) -> Result<Line<'_>, ScriptKind>
 }
 
 /// `t <moment>`
-pub fn tick_line(rest: Option<&[u8]>) -> Result<Line<'_>, ScriptKind>
+pub(crate) fn tick_line(rest: Option<&[u8]>) -> Result<Line<'_>, ScriptKind>
     ensures { seen result ≡ tick_line (parts_after 32 (option_map (λ r. r.now) rest.entry)) }
 {
     let moment = number_after(rest)?;
@@ -108,7 +108,7 @@ pub fn tick_line(rest: Option<&[u8]>) -> Result<Line<'_>, ScriptKind>
 }
 
 /// `d <hex>`
-pub fn datagram_line(rest: Option<&[u8]>) -> Result<Line<'_>, ScriptKind>
+pub(crate) fn datagram_line(rest: Option<&[u8]>) -> Result<Line<'_>, ScriptKind>
     ensures { seen result ≡ datagram_line (parts_after 32 (option_map (λ r. r.now) rest.entry)) }
 {
     let word = one_part(SPACE, rest)?;
@@ -117,7 +117,7 @@ pub fn datagram_line(rest: Option<&[u8]>) -> Result<Line<'_>, ScriptKind>
 }
 
 /// `info <n>`
-pub fn info_line(rest: Option<&[u8]>) -> Result<Line<'_>, ScriptKind>
+pub(crate) fn info_line(rest: Option<&[u8]>) -> Result<Line<'_>, ScriptKind>
     ensures { seen result ≡ info_line (parts_after 32 (option_map (λ r. r.now) rest.entry)) }
 {
     let which = u32_after(rest)?;
@@ -125,7 +125,7 @@ pub fn info_line(rest: Option<&[u8]>) -> Result<Line<'_>, ScriptKind>
 }
 
 /// `binfo <id> <n>`
-pub fn buffer_info_line(rest: Option<&[u8]>) -> Result<Line<'_>, ScriptKind>
+pub(crate) fn buffer_info_line(rest: Option<&[u8]>) -> Result<Line<'_>, ScriptKind>
     ensures { seen result ≡ buffer_info_line (parts_after 32 (option_map (λ r. r.now) rest.entry)) }
 {
     let (id, which) = two_parts(SPACE, rest)?;
@@ -139,7 +139,7 @@ pub fn buffer_info_line(rest: Option<&[u8]>) -> Result<Line<'_>, ScriptKind>
 }
 
 /// `open <parent> <index>`
-pub fn open_child_line(rest: Option<&[u8]>) -> Result<Line<'_>, ScriptKind>
+pub(crate) fn open_child_line(rest: Option<&[u8]>) -> Result<Line<'_>, ScriptKind>
     ensures { seen result ≡ open_child_line (parts_after 32 (option_map (λ r. r.now) rest.entry)) }
 {
     let (parent, index) = two_parts(SPACE, rest)?;
@@ -149,7 +149,7 @@ pub fn open_child_line(rest: Option<&[u8]>) -> Result<Line<'_>, ScriptKind>
 }
 
 /// `close <serial>`
-pub fn close_all_line(rest: Option<&[u8]>) -> Result<Line<'_>, ScriptKind>
+pub(crate) fn close_all_line(rest: Option<&[u8]>) -> Result<Line<'_>, ScriptKind>
     ensures { seen result ≡ close_all_line (parts_after 32 (option_map (λ r. r.now) rest.entry)) }
 {
     let serial = number_after(rest)?;
@@ -235,7 +235,7 @@ fn step_of<'a>(actor: &[u8], act: &[u8], rest: Option<&[u8]>) -> Result<Line<'a>
 }
 
 /// `step <actor> <act>` or `step <actor> <act> <place>`
-pub fn step_line(rest: Option<&[u8]>) -> Result<Line<'_>, ScriptKind>
+pub(crate) fn step_line(rest: Option<&[u8]>) -> Result<Line<'_>, ScriptKind>
     ensures { seen result ≡ step_line (parts_after 32 (option_map (λ r. r.now) rest.entry)) }
 {
     let (actor, rest) = next_part(SPACE, rest)?;
@@ -244,7 +244,7 @@ pub fn step_line(rest: Option<&[u8]>) -> Result<Line<'_>, ScriptKind>
 }
 
 /// `mode <n>`
-pub fn mode_line(rest: Option<&[u8]>) -> Result<Line<'_>, ScriptKind>
+pub(crate) fn mode_line(rest: Option<&[u8]>) -> Result<Line<'_>, ScriptKind>
     ensures { seen result ≡ mode_line (parts_after 32 (option_map (λ r. r.now) rest.entry)) }
 {
     let word = one_part(SPACE, rest)?;
@@ -260,7 +260,7 @@ fn camera_header_fields(rest: Option<&[u8]>) -> Result<Line<'_>, ScriptKind>
 }
 
 /// `gevacq-camera 1`
-pub fn camera_header_line(rest: Option<&[u8]>) -> Result<Line<'_>, ScriptKind>
+pub(crate) fn camera_header_line(rest: Option<&[u8]>) -> Result<Line<'_>, ScriptKind>
     ensures { seen result ≡ camera_header_line (parts_after 32 (option_map (λ r. r.now) rest.entry)) }
 {
     match camera_header_fields(rest) {
@@ -270,7 +270,7 @@ pub fn camera_header_line(rest: Option<&[u8]>) -> Result<Line<'_>, ScriptKind>
 }
 
 /// `c <peer> <hex>`
-pub fn command_line(rest: Option<&[u8]>) -> Result<Line<'_>, ScriptKind>
+pub(crate) fn command_line(rest: Option<&[u8]>) -> Result<Line<'_>, ScriptKind>
     ensures { seen result ≡ command_line (parts_after 32 (option_map (λ r. r.now) rest.entry)) }
 {
     let (peer, hex) = two_parts(SPACE, rest)?;

@@ -6,22 +6,22 @@
 //! comes next of the bytes that a source gives.
 #![tactic(auto)]
 
-mod act;
-mod fields;
-mod forms;
-mod kind;
-pub mod laws;
-mod line;
-mod line_end;
-mod lines;
-mod name;
-mod numbers;
-mod parsing;
-mod parts;
+mod act; // a step of the board
+mod fields; // the fields of a line
+mod forms; // the form of each line
+mod kind; // why a line is refused
+pub mod laws; // laws of the definitions, as contracts
+mod line; // what a line says
+mod line_end; // why no further line comes
+mod lines; // the lines and their public calls
+mod name; // what a first word names
+mod numbers; // decimal numbers and hex digits
+mod parsing; // a line, read
+mod parts; // the words of a line
 #[cfg(test)]
 mod tests;
-mod window;
-mod writing;
+mod window; // the bytes that are held of the source
+mod writing; // a line, written
 
 pub use act::Act;
 pub use kind::ScriptKind;

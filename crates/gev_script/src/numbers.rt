@@ -46,14 +46,14 @@ pub fn number_in(low: u64, high: u64, word: &[u8]) -> Result<u64, ScriptKind>
 }
 
 /// The number of at most 32 bits that a word is.
-pub fn u32_of(word: &[u8]) -> Result<u32, ScriptKind>
+pub(crate) fn u32_of(word: &[u8]) -> Result<u32, ScriptKind>
     ensures { result ≡ number_in 0 most_u32 word.now }
 {
     Ok(number_in(0, 4_294_967_295, word)? as u32)
 }
 
 /// The number within these bounds of one byte that a word is.
-pub fn u8_in(low: u8, high: u8, word: &[u8]) -> Result<u8, ScriptKind>
+pub(crate) fn u8_in(low: u8, high: u8, word: &[u8]) -> Result<u8, ScriptKind>
     ensures { result ≡ number_in low high word.now }
 {
     Ok(number_in(u64::from(low), u64::from(high), word)? as u8)
@@ -84,7 +84,7 @@ fn is_hex(word: &[u8]) -> bool
 }
 
 /// The word, if it is lower-case hex digits, two for each byte, of at least one byte.
-pub fn hex_of(word: &[u8]) -> Result<&[u8], ScriptKind>
+pub(crate) fn hex_of(word: &[u8]) -> Result<&[u8], ScriptKind>
     ensures { read_map (λ digits. digits.now) result ≡ hex_of word.now }
 {
     if is_hex(word) {

@@ -5,7 +5,7 @@ use crate::kind::ScriptKind;
 use memchr::memchr;
 
 /// The part of a text before the separator, and what follows it, if it occurs.
-pub fn first_part(separator: u8, text: &[u8]) -> (&[u8], Option<&[u8]>)
+pub(crate) fn first_part(separator: u8, text: &[u8]) -> (&[u8], Option<&[u8]>)
     ensures { parts_of separator text.now ≡ result.0.now ∷ parts_after separator (option_map (λ rest. rest.now) result.1) }
 {
     match memchr(separator, text) {
@@ -15,7 +15,7 @@ pub fn first_part(separator: u8, text: &[u8]) -> (&[u8], Option<&[u8]>)
 }
 
 /// Nothing, where no part is left.
-pub fn no_part(separator: u8, rest: Option<&[u8]>) -> Result<(), ScriptKind>
+pub(crate) fn no_part(separator: u8, rest: Option<&[u8]>) -> Result<(), ScriptKind>
     ensures { result ≡ none_left (parts_after separator (option_map (λ r. r.now) rest.entry)) }
 {
     match rest {
@@ -25,7 +25,10 @@ pub fn no_part(separator: u8, rest: Option<&[u8]>) -> Result<(), ScriptKind>
 }
 
 /// The next part, and what follows it.
-pub fn next_part(separator: u8, rest: Option<&[u8]>) -> Result<(&[u8], Option<&[u8]>), ScriptKind>
+pub(crate) fn next_part(
+    separator: u8,
+    rest: Option<&[u8]>,
+) -> Result<(&[u8], Option<&[u8]>), ScriptKind>
     ensures { read_map (λ found. (found.0.now, parts_after separator (option_map (λ r. r.now) found.1))) result
         ≡ next_of (parts_after separator (option_map (λ r. r.now) rest.entry)) }
 {
@@ -36,7 +39,7 @@ pub fn next_part(separator: u8, rest: Option<&[u8]>) -> Result<(&[u8], Option<&[
 }
 
 /// The one part that is left.
-pub fn one_part(separator: u8, rest: Option<&[u8]>) -> Result<&[u8], ScriptKind>
+pub(crate) fn one_part(separator: u8, rest: Option<&[u8]>) -> Result<&[u8], ScriptKind>
     ensures { read_map (λ part. part.now) result ≡ one_of (parts_after separator (option_map (λ r. r.now) rest.entry)) }
 {
     let (part, rest) = next_part(separator, rest)?;
@@ -45,7 +48,7 @@ pub fn one_part(separator: u8, rest: Option<&[u8]>) -> Result<&[u8], ScriptKind>
 }
 
 /// The two parts that are left.
-pub fn two_parts(separator: u8, rest: Option<&[u8]>) -> Result<(&[u8], &[u8]), ScriptKind>
+pub(crate) fn two_parts(separator: u8, rest: Option<&[u8]>) -> Result<(&[u8], &[u8]), ScriptKind>
     ensures { read_map (λ both. (both.0.now, both.1.now)) result ≡ two_of (parts_after separator (option_map (λ r. r.now) rest.entry)) }
 {
     let (first, rest) = next_part(separator, rest)?;

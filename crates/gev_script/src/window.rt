@@ -19,7 +19,7 @@ const LONGEST_LINE: usize = 20_000;
 
 /// What the bytes that are held begin with.
 #[derive(Clone, Copy)]
-pub enum Found {
+pub(crate) enum Found {
     /// A line, which was taken.
     Line,
     /// More than a line may have.
@@ -31,7 +31,7 @@ pub enum Found {
 /// The room in which lines are found. Each byte is searched once; what is held is moved to the front
 /// only where it reaches the room's end.
 #[derive(Drop)]
-pub struct Window {
+pub(crate) struct Window {
     room: Vec<u8>,
     line_start: usize,
     line_end: usize,
@@ -56,7 +56,7 @@ impl Model for Window {
 
 impl Window {
     /// A room that holds nothing.
-    pub fn new(alloc: Global) -> Result<Window, NoMemory>
+    pub(crate) fn new(alloc: Global) -> Result<Window, NoMemory>
         ensures line { IfOk result (λ w. w.line ≡ []) }
         ensures held { IfOk result (λ w. w.held ≡ []) }
     {
@@ -72,7 +72,7 @@ impl Window {
     }
 
     /// The line that was taken last, until more is read.
-    pub fn line(&self) -> &[u8]
+    pub(crate) fn line(&self) -> &[u8]
         ensures { result.now ≡ self.now.line }
     {
         &self.room.as_slice()[self.line_start..self.line_end]
@@ -188,7 +188,7 @@ fn read_from<S: Source>(source: &mut S, room: &mut [u8], end: usize) -> Result<u
 }
 
 /// Takes the next line, and reads only while the bytes that are held have none and aren't too long.
-pub fn take_line<S: Source>(window: &mut Window, source: &mut S) -> Result<(), LineEnd>
+pub(crate) fn take_line<S: Source>(window: &mut Window, source: &mut S) -> Result<(), LineEnd>
     requires { length window.old.held ≤ 32768 }
     ensures takes { Takes result window.old window.new (S.left source.old) (S.left source.new) (S.faults source.old) (S.faults source.new) }
     ensures steady { result ≢ Err LineEnd.ReadFault → S.faults source.new ≡ S.faults source.old }

@@ -10,7 +10,7 @@ use gev_types::NoMemory;
 use itoa::Buffer;
 
 /// Adds these parts, one after the other.
-pub fn add_basics(out: &mut Vec<u8>, basics: &[Basic<'_>]) -> Result<(), NoMemory>
+pub(crate) fn add_basics(out: &mut Vec<u8>, basics: &[Basic<'_>]) -> Result<(), NoMemory>
     ensures { OnOk result (out.new.items ≡ out.old.items ++ flat_map basic_text basics.now) }
 {
     for basic in basics {

@@ -3,17 +3,17 @@
 //! A call takes memory only where `out` has to grow. After `NoMemory` some front of the line was added.
 #![tactic(auto)]
 
-mod at;
-mod basics;
-mod block_counts;
-mod datagram_notes;
-mod frame_notes;
-mod laws;
-mod lists;
-mod piece;
+mod at; // where a note stands
+mod basics; // simple parts of a line
+mod block_counts; // blocks by kind
+mod datagram_notes; // notes of datagrams
+mod frame_notes; // notes of blocks and frames
+mod laws; // laws of the definitions, as contracts
+mod lists; // reasons and ids, joined by commas
+mod piece; // a part of a line
 #[cfg(test)]
 mod tests;
-mod writing;
+mod writing; // lines from their parts
 
 pub use at::At;
 pub use block_counts::BlockCounts;

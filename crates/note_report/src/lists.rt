@@ -37,7 +37,7 @@ fn add_dash(out: &mut Vec<u8>, some: bool) -> Result<(), NoMemory>
 }
 
 /// Adds the reasons that hold.
-pub fn add_why(out: &mut Vec<u8>, why: Reasons) -> Result<(), NoMemory>
+pub(crate) fn add_why(out: &mut Vec<u8>, why: Reasons) -> Result<(), NoMemory>
     ensures { OnOk result (out.new.items ≡ out.old.items ++ why_text why) }
 {
     let some = add_word(out, false, why.no_leader, b"leader")?;
@@ -80,7 +80,7 @@ fn add_spans(out: &mut Vec<u8>, ranges: &[(u32, u32)]) -> Result<(), NoMemory>
 }
 
 /// Adds the first eight ranges of lost ids, and `..` where there are more.
-pub fn add_ids(out: &mut Vec<u8>, lost: &Lost) -> Result<(), NoMemory>
+pub(crate) fn add_ids(out: &mut Vec<u8>, lost: &Lost) -> Result<(), NoMemory>
     ensures { OnOk result (out.new.items ≡ out.old.items ++ lost_text lost.now) }
 {
     let ranges = lost.first.as_slice();

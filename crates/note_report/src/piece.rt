@@ -4,7 +4,7 @@ use gentl_types::BufferId;
 
 /// A simple part of a line.
 #[derive(Clone, Copy)]
-pub enum Basic<'a> {
+pub(crate) enum Basic<'a> {
     /// A text as it stands.
     Text(&'a [u8]),
     /// A number in decimal.
@@ -28,7 +28,7 @@ pub struct Named {
 
 /// A part of a line.
 #[derive(Clone, Copy)]
-pub enum Piece<'a> {
+pub(crate) enum Piece<'a> {
     /// A text as it stands.
     Text(&'a [u8]),
     /// A number in decimal.

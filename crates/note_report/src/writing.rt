@@ -15,7 +15,7 @@ use gentl_types::BufferId;
 use gev_types::NoMemory;
 
 /// Adds the line with these words.
-pub fn add_note(at: At, words: &[Piece<'_>], out: &mut Vec<u8>) -> Result<(), NoMemory>
+pub(crate) fn add_note(at: At, words: &[Piece<'_>], out: &mut Vec<u8>) -> Result<(), NoMemory>
     ensures { OnOk result (out.new.items ≡ out.old.items ++ words_line at.line at.moment (flat_map piece_text words.now)) }
 {
     add_front(at, out)?;

@@ -4,12 +4,12 @@
 //! and counted for the last note of the script.
 #![tactic(auto)]
 
-mod counting;
-mod laws;
-mod printing;
+mod counting; // what is told of blocks, counted
+mod laws; // laws of the definitions, as contracts
+mod printing; // what is told, printed
 #[cfg(test)]
 mod tests;
-mod told;
+mod told; // what is told of a line
 
 pub use counting::none_counted;
 pub use laws::tallies_are_counted;

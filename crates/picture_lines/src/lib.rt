@@ -6,12 +6,12 @@
 //! `other_lines_note_nothing`).
 #![tactic(auto)]
 
-mod datagrams;
-mod feeding;
-mod hearing;
-mod laws;
-mod lines;
-mod looks;
+mod datagrams; // the line `d`
+mod feeding; // the receiver's inputs, with the looks
+mod hearing; // datagrams that are heard
+mod laws; // laws of the definitions, as contracts
+mod lines; // the lines `stop` and `t`
+mod looks; // the look of each place's last block
 #[cfg(test)]
 mod tests;
 

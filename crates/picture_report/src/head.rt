@@ -45,7 +45,12 @@ fn add_number(out: &mut Vec<u8>, number: u32, behind: u8) -> Result<(), NoMemory
 }
 
 /// Adds the head of a picture of so many columns and rows.
-pub fn add_head(samples: Samples, width: u32, rows: u32, out: &mut Vec<u8>) -> Result<(), NoMemory>
+pub(crate) fn add_head(
+    samples: Samples,
+    width: u32,
+    rows: u32,
+    out: &mut Vec<u8>,
+) -> Result<(), NoMemory>
     ensures text { OnOk result (out.new.items ≡ out.old.items ++ head_text samples width rows) }
     ensures capacity { vec_capacity out.old ≤ vec_capacity out.new }
 {

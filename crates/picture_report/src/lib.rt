@@ -3,13 +3,13 @@
 //! `frame_pictures` says what the picture is, and `specs/Writing.antt` what writing it did, by its answer.
 #![tactic(auto)]
 
-mod head;
-mod pixels;
-mod rows;
-mod stop;
+mod head; // the picture's head
+mod pixels; // one pixel
+mod rows; // rows of pixels, to a sink
+mod stop; // why it wasn't written
 #[cfg(test)]
 mod tests;
-mod writing;
+mod writing; // the whole picture
 
 pub use stop::PictureStop;
 pub use writing::write_picture;

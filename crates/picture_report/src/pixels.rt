@@ -50,7 +50,7 @@ fn add_three(first: u8, second: u8, third: u8, piece: &mut Vec<u8>)
 }
 
 /// Adds the pixel whose bytes begin at this position of its row.
-pub fn add_pixel(samples: Samples, row: &[u8], at: usize, piece: &mut Vec<u8>)
+pub(crate) fn add_pixel(samples: Samples, row: &[u8], at: usize, piece: &mut Vec<u8>)
     requires room { vec_len piece.old + 3 ≤ vec_capacity piece.old }
     requires near { at ≤ 3 * 2 ^ 32 }
     ensures text { piece.new.items ≡ piece.old.items ++ pixel_text samples row.now at }

@@ -12,7 +12,7 @@ use frame_pictures::{Look, Samples, pixel_bytes};
 use gev_links::{Failed, Sink, write_all};
 
 /// Bytes of the piece from which a picture is written.
-pub const PIECE: usize = 65_536;
+pub(crate) const PIECE: usize = 65_536;
 
 /// Writes the piece where it has no room for a pixel.
 fn make_room<K: Sink>(piece: &mut Vec<u8>, sink: &mut K) -> Result<(), Failed>
@@ -74,7 +74,7 @@ fn row_step(samples: Samples, look: Look) -> usize
 }
 
 /// Adds the rows of an image of these bytes, from the top, and writes the piece as often as it's full.
-pub fn write_rows<K: Sink>(
+pub(crate) fn write_rows<K: Sink>(
     samples: Samples,
     look: Look,
     image: &[u8],

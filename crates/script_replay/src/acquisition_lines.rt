@@ -48,7 +48,7 @@ pub fn start(
 
 /// Stops the stream (DSStopAcquisition, with flags 0 or 1 for a kill stop), and with it the acquisition:
 /// each open block retires as it is, and its buffer is filled.
-pub fn stop(
+pub(crate) fn stop(
     alloc: Global,
     board: &mut PlainBoard,
     acq: &mut Acq,
@@ -75,7 +75,7 @@ pub fn stop(
 
 /// Tells the moment, in milliseconds: old blocks retire and their buffers are filled, and a line is added
 /// for each request of packets that are missing.
-pub fn tick(
+pub(crate) fn tick(
     alloc: Global,
     board: &mut PlainBoard,
     acq: &mut Acq,
@@ -147,7 +147,7 @@ pub fn hear(
 /// and the buffers that come back are filled. The bytes are decoded into the room, which is at least half
 /// as long as the digits. The answer is how many datagrams were idle: 1 where the stream isn't running,
 /// else 0.
-pub fn datagram(
+pub(crate) fn datagram(
     board: &mut PlainBoard,
     acq: &mut Acq,
     counts: &mut FillCounts,

@@ -30,7 +30,7 @@ pub fn line_refused(
 }
 
 /// Adds the line of a call that answers nothing but that it was done.
-pub fn line_answer(
+pub(crate) fn line_answer(
     alloc: Global,
     word: &str,
     answer: Result<(), GcError>,
@@ -46,7 +46,7 @@ pub fn line_answer(
 }
 
 /// Adds the line of a call that answers a buffer's id.
-pub fn line_new_id(
+pub(crate) fn line_new_id(
     alloc: Global,
     word: &str,
     answer: Result<BufferId, GcError>,
@@ -62,7 +62,7 @@ pub fn line_new_id(
 }
 
 /// Adds the line of a call that answers the value of an information.
-pub fn line_info(
+pub(crate) fn line_info(
     alloc: Global,
     word: &str,
     which: u32,

@@ -32,7 +32,7 @@ pub fn queue(
 }
 
 /// Ends a wait for a buffer, this one or the next.
-pub fn kill(alloc: Global, board: &mut PlainBoard, out: &mut Vec<u8>) -> Result<(), NoMemory>
+pub(crate) fn kill(alloc: Global, board: &mut PlainBoard, out: &mut Vec<u8>) -> Result<(), NoMemory>
     requires ready { IsReady board.old }
     requires empty { out.old.items ≡ [] }
     ensures acts { OnOk result (Acts KillLine 0 0 board.old out.new.items board.new) }
@@ -44,7 +44,11 @@ pub fn kill(alloc: Global, board: &mut PlainBoard, out: &mut Vec<u8>) -> Result<
 }
 
 /// Gives each buffer of the output to the application.
-pub fn event_flush(alloc: Global, board: &mut PlainBoard, out: &mut Vec<u8>) -> Result<(), NoMemory>
+pub(crate) fn event_flush(
+    alloc: Global,
+    board: &mut PlainBoard,
+    out: &mut Vec<u8>,
+) -> Result<(), NoMemory>
     requires ready { IsReady board.old }
     requires empty { out.old.items ≡ [] }
     ensures acts { OnOk result (Acts EventFlushLine 0 0 board.old out.new.items board.new) }
@@ -56,7 +60,7 @@ pub fn event_flush(alloc: Global, board: &mut PlainBoard, out: &mut Vec<u8>) -> 
 }
 
 /// Tells an information of the stream.
-pub fn info(
+pub(crate) fn info(
     alloc: Global,
     board: &mut PlainBoard,
     which: u32,
@@ -73,7 +77,7 @@ pub fn info(
 }
 
 /// Moves buffers as the flush with this number does (DSFlushQueue).
-pub fn flush(
+pub(crate) fn flush(
     alloc: Global,
     board: &mut PlainBoard,
     operation: u32,
@@ -118,7 +122,7 @@ fn is_want_of_memory(answer: Result<BufferId, GcError>) -> bool
 }
 
 /// Takes a held buffer away from its place, and drops it.
-pub fn revoke(
+pub(crate) fn revoke(
     alloc: Global,
     board: &mut PlainBoard,
     id: BufferId,

@@ -26,7 +26,7 @@ fn is_of_loan(which: u32) -> bool
 }
 
 /// Tells an information of a buffer.
-pub fn buffer_info(
+pub(crate) fn buffer_info(
     alloc: Global,
     board: &mut PlainBoard,
     id: BufferId,
@@ -105,7 +105,7 @@ fn generation_at(board: &PlainBoard, place: u8) -> u32
 }
 
 /// Takes a buffer, where the event of the stream is open. The answer is how many were taken: 1 or 0.
-pub fn take(
+pub(crate) fn take(
     alloc: Global,
     board: &mut PlainBoard,
     tree: &Tree,

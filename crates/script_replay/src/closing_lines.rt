@@ -33,7 +33,7 @@ fn has_serial(closed: &[Handle], serial: u64) -> bool
 }
 
 /// Closes a handle with all below it. Where the stream of the board is among them, the board is closed too.
-pub fn close_all(
+pub(crate) fn close_all(
     alloc: Global,
     tree: &mut Tree,
     board: &mut PlainBoard,

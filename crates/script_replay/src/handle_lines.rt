@@ -30,7 +30,7 @@ fn open_under(tree: &mut Tree, parent: Option<u64>, index: u32) -> Result<Handle
 }
 
 /// Opens a handle, and tells its serial.
-pub fn open_child(
+pub(crate) fn open_child(
     alloc: Global,
     tree: &mut Tree,
     parent: Option<u64>,

@@ -2,30 +2,30 @@
 //! acquisition, and adds to the trace and to the report what `script_trace` says of it.
 #![tactic(auto)]
 
-mod acquisition_lines;
-mod adding;
-mod answers;
-mod beginning;
-mod board_lines;
-mod buffer_lines;
-mod closing_lines;
-mod fill_counts;
-mod got;
-mod handle_lines;
-mod hex_digits;
-mod later;
-mod opening;
-mod replay;
-mod retired;
-mod running;
-mod script;
-mod standard_requests;
-mod step_line;
-mod steps;
+mod acquisition_lines; // the lines `start`, `stop`, `t` and `d`
+mod adding; // which line does what
+mod answers; // what a call was answered, as a line
+mod beginning; // the header
+mod board_lines; // lines that call the stream or its event
+mod buffer_lines; // the lines `take` and `binfo`
+mod closing_lines; // the line `close`
+mod fill_counts; // fills and dropped buffers, counted
+mod got; // what a claim got
+mod handle_lines; // the lines `open` and `close`
+mod hex_digits; // bytes that hex digits spell
+mod later; // a line behind the header
+mod opening; // board and handles behind the header
+mod replay; // the machine that runs a replay script
+mod retired; // buffers that the receiver gives back, and requests
+mod running; // what a script runs on
+mod script; // a script behind its header
+mod standard_requests; // requests in the standard form
+mod step_line; // the line `step`
+mod steps; // one step of the board by one actor
 #[cfg(test)]
 mod tests;
-mod wide_lines;
-mod widening;
+mod wide_lines; // lines of scripts with standard identifiers
+mod widening; // what is kept of standard identifiers
 
 pub use acquisition_lines::{hear, start};
 pub use answers::{line_done, line_refused};

@@ -15,7 +15,7 @@ use gev_types::NoMemory;
 use std::alloc::Global;
 
 /// A board on which the actors 1 to 5 are split off. It reserves all the memory that it needs.
-pub fn open_board(alloc: Global) -> Result<PlainBoard, NoMemory>
+pub(crate) fn open_board(alloc: Global) -> Result<PlainBoard, NoMemory>
     ensures left { IfOk result (λ board. IsLeftBy board opening.entries) }
     ensures ready { IfOk result (λ board. IsReady board) }
 {
@@ -38,7 +38,7 @@ fn split_off(board: &mut PlainBoard)
 }
 
 /// The handles that are open when a script begins, and that of the stream.
-pub fn open_handles(alloc: Global) -> Result<(Tree, Handle), NoMemory>
+pub(crate) fn open_handles(alloc: Global) -> Result<(Tree, Handle), NoMemory>
     ensures handles { IfOk result (λ opened. opened.0 ≡ first_handles) }
     ensures stream { IfOk result (λ opened. opened.1.serial ≡ 4) }
 {

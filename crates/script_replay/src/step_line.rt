@@ -56,7 +56,7 @@ fn make_step(board: &mut PlainBoard, actor: u8, act: Act, place: u8) -> (StepTex
 
 /// Makes the step, and tells it. The answer is how many buffers were taken: 1 or 0. An act that names no
 /// place reads none.
-pub fn step(
+pub(crate) fn step(
     alloc: Global,
     board: &mut PlainBoard,
     actor: u8,

@@ -5,12 +5,12 @@
 //! `specs/Outcomes.antt` what a run has read and written by how it ended.
 #![tactic(auto)]
 
-mod ending;
-mod machine;
-mod modelled;
-mod ran;
-mod running;
-mod stop;
+mod ending; // how a run ended
+mod machine; // what runs the lines
+mod modelled; // a machine whose states stand for plain ones
+mod ran; // what a line did
+mod running; // the loop over the lines
+mod stop; // why a line wasn't run
 #[cfg(test)]
 mod tests;
 

@@ -4,10 +4,10 @@
 //! Each call says which of the notes of `acquisition_notes` it tells.
 #![tactic(auto)]
 
-mod asked;
-mod gaps;
-mod heard;
-mod laws;
+mod asked; // packets that are asked for
+mod gaps; // blocks that retire, and gaps between them
+mod heard; // what becomes of a datagram
+mod laws; // laws of the definitions, as contracts
 #[cfg(test)]
 mod tests;
 
