@@ -7,12 +7,12 @@
 //! `laws` say in the standard's words what the table and the refusals come to. No call takes memory.
 #![tactic(auto)]
 
-pub mod addresses;
-pub mod laws;
-mod lookup;
-mod refusals;
-mod regs;
-pub mod table;
+pub mod addresses; // the registers' addresses
+pub mod laws; // laws of the definitions, as contracts
+mod lookup; // what a word holds at first
+mod refusals; // why an access is refused
+mod regs; // the words and their public calls
+pub mod table; // the registers as data
 #[cfg(test)]
 mod tests;
 

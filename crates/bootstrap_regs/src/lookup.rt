@@ -13,7 +13,7 @@ fn covers(register: &Register, address: u32) -> bool
 
 // The register of the table to which the byte with this address belongs.
 #[tactic(auto, unfolding(crate::specs::Registers::register_at))]
-pub fn register_at(address: u32) -> Option<Register>
+pub(crate) fn register_at(address: u32) -> Option<Register>
     ensures { result ≡ register_at address }
 {
     REGISTERS

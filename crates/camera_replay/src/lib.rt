@@ -5,13 +5,13 @@
 //! report has to grow.
 #![tactic(auto)]
 
-mod beginning;
-mod camera_run;
-mod later;
-mod lines;
-mod packets;
-mod rooms;
-mod running;
+mod beginning; // the header
+mod camera_run; // the machine that runs a camera script
+mod later; // the lines behind the header
+mod lines; // what each line has the camera do
+mod packets; // lines of stream packets
+mod rooms; // where a command and a packet lie
+mod running; // what a script runs on behind its header
 #[cfg(test)]
 mod tests;
 

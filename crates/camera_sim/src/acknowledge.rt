@@ -20,7 +20,7 @@ fn is_asked_for(flags: u8) -> bool
 
 /// Writes the acknowledge of a command with this header to the front of `out`, where one was asked
 /// for. The answer is how many bytes it has.
-pub fn acknowledge(
+pub(crate) fn acknowledge(
     head: CommandHead,
     status: Status,
     body: &[u8],

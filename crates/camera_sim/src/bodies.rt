@@ -20,7 +20,7 @@ const INDEX_SIZE: usize = 4;
 const MAX_MEMORY_SIZE: u16 = 536;
 
 /// Writes a word to a place of the body.
-pub fn put_word(out: &mut [u8; MAX_BODY_SIZE], place: usize, value: u32)
+pub(crate) fn put_word(out: &mut [u8; MAX_BODY_SIZE], place: usize, value: u32)
     requires { place + 4 ≤ MAX_BODY_SIZE }
     ensures { take (place + 4) out.new ≡ take place out.old ++ big_bytes 4 value }
 {
@@ -28,14 +28,14 @@ pub fn put_word(out: &mut [u8; MAX_BODY_SIZE], place: usize, value: u32)
 }
 
 /// Whether so many bytes of memory can be read at once.
-pub fn is_memory_size(count: u16) -> bool
+pub(crate) fn is_memory_size(count: u16) -> bool
     ensures { result ≡ is_memory_size count }
 {
     1 <= count && count <= MAX_MEMORY_SIZE && count % 4 == 0
 }
 
 /// A command that was refused.
-pub fn refused(status: Status) -> Done
+pub(crate) fn refused(status: Status) -> Done
     ensures status { result.status ≡ status }
     ensures len { result.len ≡ 0 }
     ensures has_granted { result.has_granted ≡ false }
@@ -48,7 +48,7 @@ pub fn refused(status: Status) -> Done
 }
 
 /// A command that read words, after which the body has so many bytes.
-pub fn has_read(len: usize) -> Done
+pub(crate) fn has_read(len: usize) -> Done
     ensures status { result.status ≡ Success }
     ensures len { result.len ≡ len }
     ensures has_granted { result.has_granted ≡ false }
@@ -67,7 +67,7 @@ fn status_of(refusal: Option<Status>) -> Status
 }
 
 /// A command that wrote words. The index in its acknowledge counts what was done, each write so much.
-pub fn has_written(writes: Writes, each: u16, out: &mut [u8; MAX_BODY_SIZE]) -> Done
+pub(crate) fn has_written(writes: Writes, each: u16, out: &mut [u8; MAX_BODY_SIZE]) -> Done
     requires each { each ≤ 4 }
     requires done { writes.done ≤ 540 }
     ensures status { result.status ≡ status_of writes.refusal }

@@ -3,7 +3,7 @@ use gvcp_wire::Status;
 /// What executing a register or memory command came to. The body of its acknowledge stands at the front
 /// of a buffer.
 #[derive(Clone, Copy, Debug, PartialEq, Eq)]
-pub struct Done {
+pub(crate) struct Done {
     /// How it went.
     pub status: Status,
     /// How many bytes the acknowledge's body has.

@@ -1,7 +1,7 @@
 /// The latest executed register or memory command of the primary. Its bytes and its acknowledge lie in
 /// the camera.
 #[derive(Clone, Copy, Debug, PartialEq, Eq)]
-pub struct Kept {
+pub(crate) struct Kept {
     /// How many bytes it has.
     pub len: usize,
     /// Its request number.

@@ -4,15 +4,15 @@
 //! The definition is the machine of the crate `camera_machine`; each call here is one of its events.
 #![tactic(auto)]
 
-mod acknowledge;
-mod bodies;
-mod camera;
-mod done;
-mod kept;
-mod messages;
+mod acknowledge; // acknowledges as bytes
+mod bodies; // the bodies of acknowledges
+mod camera; // the camera and its public calls; its folder has what commands do
+mod done; // what executing a command came to
+mod kept; // the latest command, for its repeats
+mod messages; // which commands are kept, and their bytes
 #[cfg(test)]
 mod tests;
-mod writes;
+mod writes; // what became of writes in order
 
 pub use acknowledge::MESSAGE_SIZE;
 pub use camera::Camera;

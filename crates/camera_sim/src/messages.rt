@@ -7,14 +7,14 @@ use crate::acknowledge::MESSAGE_SIZE;
 use gvcp_wire::codes::{READMEM_CMD, READREG_CMD, WRITEMEM_CMD, WRITEREG_CMD};
 
 /// Whether a code is one of the four register and memory commands.
-pub fn is_access(code: u16) -> bool
+pub(crate) fn is_access(code: u16) -> bool
     ensures { result ≡ is_access code }
 {
     code == READREG_CMD || code == WRITEREG_CMD || code == READMEM_CMD || code == WRITEMEM_CMD
 }
 
 /// Whether a request number is 1 to 32,767 places behind the latest one, on the cycle from 1 to 65,535.
-pub fn is_behind(latest: u16, req: u16) -> bool
+pub(crate) fn is_behind(latest: u16, req: u16) -> bool
     ensures { result ≡ is_behind latest req }
 {
     let places = (u32::from(latest) + 65_535 - u32::from(req)) % 65_535;
@@ -22,7 +22,7 @@ pub fn is_behind(latest: u16, req: u16) -> bool
 }
 
 /// Copies a message of this length, where there is one, to the front of `out`.
-pub fn copied(
+pub(crate) fn copied(
     len: Option<usize>,
     from: &[u8; MESSAGE_SIZE],
     out: &mut [u8; MESSAGE_SIZE],

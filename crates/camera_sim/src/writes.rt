@@ -2,7 +2,7 @@ use gvcp_wire::Status;
 
 /// What became of writes in order, up to the first that was refused.
 #[derive(Clone, Copy, Debug, PartialEq, Eq)]
-pub struct Writes {
+pub(crate) struct Writes {
     /// How many were done.
     pub done: usize,
     /// Why the next one wasn't.

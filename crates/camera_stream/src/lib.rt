@@ -6,12 +6,12 @@
 //! pixels, and nothing is copied before.
 #![tactic(auto)]
 
-mod queue;
-mod span;
-mod stream;
+mod queue; // the ranges of packet ids that wait
+mod span; // one such range
+mod stream; // the stream channel and its public calls
 #[cfg(test)]
 mod tests;
-mod writing;
+mod writing; // packets as bytes
 
 pub use span::{QueuedReply, Span};
 pub use stream::{CameraStream, PACKET_ROOM};

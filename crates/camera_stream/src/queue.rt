@@ -11,7 +11,7 @@ use resend_store::Reply;
 use stream_packets::Head;
 
 // The header of the first packet of a range, sent a first time.
-pub fn first_head(span: Span) -> Head
+pub(crate) fn first_head(span: Span) -> Head
     ensures { result ≡ first_head span }
 {
     Head {
@@ -23,7 +23,7 @@ pub fn first_head(span: Span) -> Head
 }
 
 // What is left after the first packet of a range.
-pub fn rest_span(span: Span) -> Option<Span>
+pub(crate) fn rest_span(span: Span) -> Option<Span>
     ensures { result ≡ rest_span span }
 {
     if span.next < span.last {
@@ -38,7 +38,7 @@ pub fn rest_span(span: Span) -> Option<Span>
 }
 
 // What waits where the store answers a PACKETRESEND command like this.
-pub fn queued(resend: Resend, reply: Reply) -> QueuedReply
+pub(crate) fn queued(resend: Resend, reply: Reply) -> QueuedReply
     ensures { result ≡ queued resend reply }
 {
     match reply {
@@ -57,7 +57,7 @@ pub fn queued(resend: Resend, reply: Reply) -> QueuedReply
 }
 
 // Drops all that waits.
-pub fn clear(frame: &mut Option<Span>, replies: &mut ArrayVec<QueuedReply, 64>)
+pub(crate) fn clear(frame: &mut Option<Span>, replies: &mut ArrayVec<QueuedReply, 64>)
     ensures frame { frame.new ≡ None }
     ensures replies { replies.new.items ≡ [] }
 {
@@ -66,7 +66,7 @@ pub fn clear(frame: &mut Option<Span>, replies: &mut ArrayVec<QueuedReply, 64>)
 }
 
 // Puts the reply behind the others, where fewer than 64 wait.
-pub fn push_reply(replies: &mut ArrayVec<QueuedReply, 64>, reply: QueuedReply)
+pub(crate) fn push_reply(replies: &mut ArrayVec<QueuedReply, 64>, reply: QueuedReply)
     ensures { replies.new.items ≡ with_queued replies.old.items reply }
 {
     if replies.len() < 64 {
@@ -75,7 +75,7 @@ pub fn push_reply(replies: &mut ArrayVec<QueuedReply, 64>, reply: QueuedReply)
 }
 
 // The replies after the first packet of them was given.
-pub fn step_replies(replies: &mut ArrayVec<QueuedReply, 64>)
+pub(crate) fn step_replies(replies: &mut ArrayVec<QueuedReply, 64>)
     ensures { replies.new.items ≡ after_reply replies.old.items }
 {
     let Some(first) = replies.get_mut(0) else {
@@ -131,7 +131,7 @@ fn replies_left(replies: &[QueuedReply]) -> usize
 }
 
 // How many packets wait.
-pub fn packet_count(frame: Option<Span>, replies: &[QueuedReply]) -> usize
+pub(crate) fn packet_count(frame: Option<Span>, replies: &[QueuedReply]) -> usize
     requires { length replies.now ≤ 64 }
     ensures { result ≡ frame_left frame + sum_by reply_left replies.now }
 {

@@ -21,7 +21,7 @@ use resend_store::{SentFrame, Store};
 use stream_packets::{Head, leader_info};
 
 // The packet id of the frame's last packet.
-pub fn trailer_id(sent: &SentFrame) -> u32
+pub(crate) fn trailer_id(sent: &SentFrame) -> u32
     requires { IsSentFrame sent.now }
     ensures { result ≡ trailer_id sent.now }
 {
@@ -67,7 +67,7 @@ fn write_packet(frame: &Frame, payload_size: u32, head: Head, out: &mut [u8]) ->
 }
 
 // Writes the packet with this header, where its frame is held. The answer is its length.
-pub fn write_held(store: &Store, head: Head, out: &mut [u8]) -> Option<usize>
+pub(crate) fn write_held(store: &Store, head: Head, out: &mut [u8]) -> Option<usize>
     requires no_notice { IsNotice head → ⊥ }
     requires room { 8972 ≤ length out.old }
     ensures written { out.new ≡ with_front (held_packet (held_in store.now head.block) head) out.old }
@@ -80,7 +80,7 @@ pub fn write_held(store: &Store, head: Head, out: &mut [u8]) -> Option<usize>
 }
 
 // Writes the first packet of the replies, and takes it from them. The answer is its length.
-pub fn next_reply(
+pub(crate) fn next_reply(
     store: &Store,
     replies: &mut ArrayVec<QueuedReply, 64>,
     out: &mut [u8],

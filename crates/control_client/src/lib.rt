@@ -5,10 +5,10 @@
 //! events. `setup_write` gives the commands that make a camera send its stream.
 #![tactic(auto)]
 
-mod client;
-mod sending;
-mod setup;
-mod steps;
+mod client; // the client and its public calls
+mod sending; // the outstanding command
+mod setup; // the commands that make a camera send
+mod steps; // the tests and changes of a step
 #[cfg(test)]
 mod tests;
 

@@ -1,6 +1,6 @@
 /// The outstanding command, apart from its bytes.
 #[derive(Clone, Copy)]
-pub struct Sending {
+pub(crate) struct Sending {
     /// The command's code.
     pub code: u16,
     /// The request number.

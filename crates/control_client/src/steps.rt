@@ -15,7 +15,7 @@ use gvcp_wire::{Ack, Command, Status};
 // 2^64 milliseconds, a moment that never comes.
 const NEVER: u128 = 1 << 64;
 
-pub fn code_of(command: &Command<'_>) -> u16
+pub(crate) fn code_of(command: &Command<'_>) -> u16
     ensures { result ≡ code_of (view command.now) }
 {
     match *command {
@@ -28,13 +28,13 @@ pub fn code_of(command: &Command<'_>) -> u16
 }
 
 // The request number after this one.
-pub fn next_req(req: u16) -> u16
+pub(crate) fn next_req(req: u16) -> u16
     ensures { result ≡ next_req req }
 {
     if req == u16::MAX { 1 } else { req + 1 }
 }
 
-pub fn is_heartbeat_due(ended: Option<u64>, moment: u64) -> bool
+pub(crate) fn is_heartbeat_due(ended: Option<u64>, moment: u64) -> bool
     ensures { result ≡ is_heartbeat_due ended moment }
 {
     match ended {
@@ -44,7 +44,7 @@ pub fn is_heartbeat_due(ended: Option<u64>, moment: u64) -> bool
 }
 
 // Whether the limit of the last send has passed.
-pub fn is_late(asked: &Sending, moment: u64) -> bool
+pub(crate) fn is_late(asked: &Sending, moment: u64) -> bool
     requires { IsSending asked.now }
     ensures { result ≡ nat_le (asked.now.sent + asked.now.limit) moment }
 {
@@ -52,7 +52,7 @@ pub fn is_late(asked: &Sending, moment: u64) -> bool
 }
 
 // The command with a further send, which waits.
-pub fn sent_again(asked: Sending, moment: u64) -> Sending
+pub(crate) fn sent_again(asked: Sending, moment: u64) -> Sending
     requires { asked.sends < 255 }
     ensures { result ≡ record asked { sends = asked.sends + 1; sent = moment; limit = SEND_LIMIT; waits = true } }
 {
@@ -66,7 +66,7 @@ pub fn sent_again(asked: Sending, moment: u64) -> Sending
 }
 
 // The command with a longer limit for its last send.
-pub fn longer(asked: Sending, time: u16) -> Sending
+pub(crate) fn longer(asked: Sending, time: u16) -> Sending
     requires { IsSending asked }
     ensures { result ≡ record asked { limit = min (asked.limit + time) (2 ^ 64) } }
 {
@@ -77,7 +77,7 @@ pub fn longer(asked: Sending, time: u16) -> Sending
 }
 
 // Whether the acknowledge answers the command.
-pub fn is_match(asked: &Sending, ack: &Ack<'_>) -> bool
+pub(crate) fn is_match(asked: &Sending, ack: &Ack<'_>) -> bool
     ensures { result ≡ is_match asked.now.code asked.now.req (ack_view ack.now) }
 {
     ack.req == asked.req
@@ -86,7 +86,7 @@ pub fn is_match(asked: &Sending, ack: &Ack<'_>) -> bool
 }
 
 // The outcome that an acknowledge with this status gives.
-pub fn ack_outcome(status: u16) -> Outcome
+pub(crate) fn ack_outcome(status: u16) -> Outcome
     ensures { result ≡ ack_outcome status }
 {
     if status == Status::Success.code() {

@@ -5,11 +5,11 @@
 //! `specs/Shelf.antt` over what is kept of them; the functions of `laws` tie the two.
 #![tactic(auto)]
 
-mod laws;
-mod reply;
-mod sent;
-mod shelf;
-mod store;
+mod laws; // laws of the definitions, as contracts
+mod reply; // what a request is answered
+mod sent; // a frame that was sent
+mod shelf; // what is done with the list of frames
+mod store; // the store and its public calls
 #[cfg(test)]
 mod tests;
 

@@ -11,7 +11,7 @@ use crate::sent::SentFrame;
 use gvcp_wire::Status;
 
 // Takes the oldest frame out where there is no room for one more.
-pub fn take_oldest(frames: &mut Vec<SentFrame>, room: usize) -> Option<SentFrame>
+pub(crate) fn take_oldest(frames: &mut Vec<SentFrame>, room: usize) -> Option<SentFrame>
     requires some { 1 ≤ room }
     ensures fallen { result ≡ oldest_out room frames.old.items }
     ensures rest { frames.new.items ≡ staying room frames.old.items }
@@ -24,7 +24,7 @@ pub fn take_oldest(frames: &mut Vec<SentFrame>, room: usize) -> Option<SentFrame
 }
 
 // The held frame of a block, of which only the last `room` are held.
-pub fn find(frames: &[SentFrame], room: u8, count: u64, block: u64) -> Option<&SentFrame>
+pub(crate) fn find(frames: &[SentFrame], room: u8, count: u64, block: u64) -> Option<&SentFrame>
     requires filled { length frames.now ≡ min room count }
     ensures { option_copied result ≡ shelved room count frames.now block }
 {
@@ -44,7 +44,7 @@ fn trailer_id(sent: &SentFrame) -> u32
 }
 
 // The reply where the frame is held.
-pub fn packets_reply(sent: &SentFrame, first: u32, last: u32) -> Reply
+pub(crate) fn packets_reply(sent: &SentFrame, first: u32, last: u32) -> Reply
     requires { IsSentFrame sent.now }
     ensures { result ≡ packets_reply sent.now first last }
 {
@@ -59,7 +59,7 @@ pub fn packets_reply(sent: &SentFrame, first: u32, last: u32) -> Reply
 }
 
 // The reply where no frame of the block is held.
-pub fn missing_reply(count: u64, block: u64) -> Reply
+pub(crate) fn missing_reply(count: u64, block: u64) -> Reply
     ensures { result ≡ missing_reply count block }
 {
     let status = if block > count {
