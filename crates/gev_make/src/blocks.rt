@@ -49,7 +49,7 @@ fn write_block<K: Sink>(
 }
 
 /// Writes the lines of all blocks, from block 1 on.
-pub fn write_blocks<K: Sink>(
+pub(crate) fn write_blocks<K: Sink>(
     alloc: Global,
     seed: u64,
     frames: u32,

@@ -5,14 +5,14 @@
 //! go through, and `laws` says that each line is read again.
 #![tactic(auto)]
 
-mod blocks;
-pub mod laws;
-mod lines;
-mod make_end;
-mod making;
-mod network;
-mod packets;
-mod stop;
+mod blocks; // the images and their blocks
+pub mod laws; // laws of the definitions, as contracts
+mod lines; // the script's lines
+mod make_end; // how the making ended
+mod making; // the whole script
+mod network; // the network between camera and script
+mod packets; // the packets of an image
+mod stop; // why the writing stopped
 #[cfg(test)]
 mod tests;
 

@@ -12,7 +12,7 @@ use lossy_queue::{Datagram, LossyQueue};
 use std::alloc::Global;
 
 /// The bytes of the longest line, which is that of a payload, with its line feed.
-pub const LINE_SIZE: usize = 2 + 2 * PACKET_SIZE + 1;
+pub(crate) const LINE_SIZE: usize = 2 + 2 * PACKET_SIZE + 1;
 
 /// The GenTL number of the operation that queues each buffer that isn't.
 const UNQUEUED_TO_INPUT: u32 = 3;
@@ -62,7 +62,11 @@ fn write_lines<K: Sink>(
 }
 
 /// Writes what stands before the first block: a receiver's numbers, four buffers, and the start.
-pub fn write_opening<K: Sink>(alloc: Global, text: &mut Vec<u8>, sink: &mut K) -> Result<(), Stop>
+pub(crate) fn write_opening<K: Sink>(
+    alloc: Global,
+    text: &mut Vec<u8>,
+    sink: &mut K,
+) -> Result<(), Stop>
     ensures { Writes result (K.written sink.old) (K.written sink.new) (K.faults sink.old) (K.faults sink.new)
         (text_of opening_lines) }
 {
@@ -91,7 +95,7 @@ pub fn write_opening<K: Sink>(alloc: Global, text: &mut Vec<u8>, sink: &mut K) -
 }
 
 /// Writes what stands after the datagrams of a block: time goes on, a buffer is taken, and queued again.
-pub fn write_turn<K: Sink>(
+pub(crate) fn write_turn<K: Sink>(
     alloc: Global,
     block: u32,
     text: &mut Vec<u8>,
@@ -110,7 +114,11 @@ pub fn write_turn<K: Sink>(
 }
 
 /// Writes what stands after the last block.
-pub fn write_closing<K: Sink>(alloc: Global, text: &mut Vec<u8>, sink: &mut K) -> Result<(), Stop>
+pub(crate) fn write_closing<K: Sink>(
+    alloc: Global,
+    text: &mut Vec<u8>,
+    sink: &mut K,
+) -> Result<(), Stop>
     ensures { Writes result (K.written sink.old) (K.written sink.new) (K.faults sink.old) (K.faults sink.new)
         (text_of closing_lines) }
 {
@@ -136,7 +144,7 @@ fn write_datagram<K: Sink>(
 }
 
 /// Empties a queue and writes the lines of its datagrams.
-pub fn write_datagrams<K: Sink>(
+pub(crate) fn write_datagrams<K: Sink>(
     alloc: Global,
     queue: &mut LossyQueue,
     text: &mut Vec<u8>,

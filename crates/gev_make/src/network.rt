@@ -9,14 +9,14 @@ use std::alloc::Global;
 /// The network between the camera and the script: a queue, and the generator by which it loses,
 /// repeats and swaps.
 #[derive(Drop)]
-pub struct Network {
+pub(crate) struct Network {
     pub rates: Rates,
     pub generator: Lcg,
     pub queue: LossyQueue,
 }
 
 /// An empty network whose generator starts at the seed.
-pub fn new_network(alloc: Global, seed: u64, rates: Rates) -> Network
+pub(crate) fn new_network(alloc: Global, seed: u64, rates: Rates) -> Network
     ensures { result ≡ new_network seed rates }
 {
     Network {
@@ -28,7 +28,7 @@ pub fn new_network(alloc: Global, seed: u64, rates: Rates) -> Network
 
 /// Puts a packet of the stream into the network, given as its bytes.
 #[tactic(auto, unfolding(crate::specs::Network::carried))]
-pub fn carry(network: &mut Network, bytes: &[u8]) -> Result<(), NoMemory>
+pub(crate) fn carry(network: &mut Network, bytes: &[u8]) -> Result<(), NoMemory>
     ensures { OnOk result (network.new ≡ carried network.old bytes.now) }
 {
     network.queue.put(

@@ -12,10 +12,10 @@ use gvsp_wire::{write_leader, write_payload, write_trailer};
 use stream_packets::{Head, leader_info};
 
 /// The bytes of a payload, where a packet has 1500 with all its headers.
-pub const PAYLOAD_SIZE: usize = 1452;
+pub(crate) const PAYLOAD_SIZE: usize = 1452;
 
 /// The bytes of a payload packet, its header included.
-pub const PACKET_SIZE: usize = PAYLOAD_SIZE + 20;
+pub(crate) const PACKET_SIZE: usize = PAYLOAD_SIZE + 20;
 
 /// The bytes of a leader.
 const LEADER_SIZE: usize = 56;
@@ -88,7 +88,7 @@ fn payload_count(frame: &Frame) -> u32
 }
 
 /// Puts the packets of a frame into the network, in order of their ids.
-pub fn carry_frame(network: &mut Network, frame: &Frame) -> Result<(), NoMemory>
+pub(crate) fn carry_frame(network: &mut Network, frame: &Frame) -> Result<(), NoMemory>
     requires valid { IsFrame frame.now }
     requires block { 1 ≤ frame.now.block }
     ensures { OnOk result (network.new ≡ all_carried network.old (packets_of frame.now payload_size)) }

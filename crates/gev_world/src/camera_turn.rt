@@ -23,7 +23,7 @@ const CLIENT: Peer = Peer {
 
 /// Where the camera writes an acknowledge and a packet.
 #[derive(Drop)]
-pub struct Rooms {
+pub(crate) struct Rooms {
     pub answer: [u8; MESSAGE_SIZE],
     pub packet: [u8; PACKET_ROOM],
 }
@@ -92,7 +92,7 @@ fn look(stage: &mut Stage, rooms: &mut Rooms) -> Result<(), NoMemory>
 }
 
 /// The camera's turn. What is on its way to it goes through the empty queue `arriving`.
-pub fn camera_turn(
+pub(crate) fn camera_turn(
     stage: &mut Stage,
     rooms: &mut Rooms,
     arriving: &mut LossyQueue,
@@ -107,7 +107,7 @@ pub fn camera_turn(
 }
 
 /// The camera's next frame, if one is due. A closed channel ends the sending of frames for good.
-pub fn make(alloc: Global, stage: &mut Stage, rooms: &mut Rooms) -> Result<(), NoMemory>
+pub(crate) fn make(alloc: Global, stage: &mut Stage, rooms: &mut Rooms) -> Result<(), NoMemory>
     requires idle { stage.old.camera.waiting ≡ [] }
     requires count { stage.old.camera.shelf.count ≤ stage.old.made }
     ensures does { OnOk result (Does stage.old makes stage.new) }

@@ -59,7 +59,7 @@ fn send(stage: &mut Stage) -> Result<(), NoMemory>
 }
 
 /// The client's turn, and what it was told.
-pub fn client_turn(stage: &mut Stage) -> Result<Outcome, NoMemory>
+pub(crate) fn client_turn(stage: &mut Stage) -> Result<Outcome, NoMemory>
     requires { stage.old.begun ≤ SETUP_SIZE }
     ensures does { IfOk result (λ outcome. ClientDoes stage.old outcome stage.new) }
     ensures few { stage.new.begun ≤ SETUP_SIZE }

@@ -59,7 +59,7 @@ fn arrive_all(
 }
 
 /// What is on its way to the host reaches it, in order, through the empty queue `arriving`.
-pub fn host_turn(
+pub(crate) fn host_turn(
     stage: &mut Stage,
     host: &mut SoakReceiver,
     arriving: &mut LossyQueue,
@@ -85,7 +85,7 @@ fn put_all(stage: &mut Stage, commands: &[[u8; 28]]) -> Result<(), NoMemory>
 }
 
 /// The receiver ticks, and what it asks for is put into the camera's queue.
-pub fn ask(
+pub(crate) fn ask(
     stage: &mut Stage,
     host: &mut SoakReceiver,
     requests: &mut Vec<[u8; 28]>,

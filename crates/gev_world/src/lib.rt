@@ -4,19 +4,19 @@
 //! `World` runs it, and writes each line as it comes.
 #![tactic(auto)]
 
-mod camera_turn;
-mod client_turn;
-mod host_turn;
-mod network;
-mod rounds;
-mod run_end;
-mod soak_end;
-mod stage;
-mod takes;
+mod camera_turn; // the camera's turn
+mod client_turn; // the client's turn
+mod host_turn; // the host's turn
+mod network; // datagrams on their way
+mod rounds; // a round, and whether it's the last
+mod run_end; // how a run ends
+mod soak_end; // how it ends for the caller
+mod stage; // all of a world but its host
+mod takes; // what the application takes
 #[cfg(test)]
 mod tests;
-mod tools;
-mod world;
+mod tools; // what a round works with
+mod world; // the world and its run
 
 pub use soak_end::SoakEnd;
 pub use world::World;

@@ -10,7 +10,7 @@ use gev_types::NoMemory;
 use lossy_queue::Channel;
 
 /// Puts a command into the camera's queue.
-pub fn put_to_camera(stage: &mut Stage, bytes: &[u8]) -> Result<(), NoMemory>
+pub(crate) fn put_to_camera(stage: &mut Stage, bytes: &[u8]) -> Result<(), NoMemory>
     ensures { OnOk result (Does stage.old (λ run w. to_camera run w bytes.now) stage.new) }
 {
     stage
@@ -19,7 +19,7 @@ pub fn put_to_camera(stage: &mut Stage, bytes: &[u8]) -> Result<(), NoMemory>
 }
 
 /// Puts an acknowledge into the host's queue.
-pub fn put_ack(stage: &mut Stage, bytes: &[u8]) -> Result<(), NoMemory>
+pub(crate) fn put_ack(stage: &mut Stage, bytes: &[u8]) -> Result<(), NoMemory>
     ensures { OnOk result (Does stage.old (λ run w. to_host run w (record { channel = Control; bytes = bytes.now })) stage.new) }
 {
     stage
@@ -28,7 +28,7 @@ pub fn put_ack(stage: &mut Stage, bytes: &[u8]) -> Result<(), NoMemory>
 }
 
 /// Puts a packet into the host's queue.
-pub fn put_packet(stage: &mut Stage, bytes: &[u8]) -> Result<(), NoMemory>
+pub(crate) fn put_packet(stage: &mut Stage, bytes: &[u8]) -> Result<(), NoMemory>
     ensures { OnOk result (Does stage.old (λ run w. to_host run w (record { channel = Stream; bytes = bytes.now })) stage.new) }
 {
     stage

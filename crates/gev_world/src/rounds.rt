@@ -177,7 +177,7 @@ fn host_round<K: Sink>(
 }
 
 /// A round, and whether the run ends with it.
-pub fn round<K: Sink>(
+pub(crate) fn round<K: Sink>(
     alloc: Global,
     stage: &mut Stage,
     host: &mut SoakReceiver,

@@ -5,7 +5,7 @@ use client_machine::Outcome;
 
 /// How a run ends.
 #[derive(Clone, Copy, Debug, PartialEq, Eq)]
-pub enum RunEnd {
+pub(crate) enum RunEnd {
     /// All was sent, and nothing is on its way.
     Done,
     /// The command with this request number had no answer after three sends.
@@ -15,7 +15,7 @@ pub enum RunEnd {
 }
 
 /// The end of a run in which the client was told this.
-pub fn end_of(outcome: Outcome) -> Option<RunEnd>
+pub(crate) fn end_of(outcome: Outcome) -> Option<RunEnd>
     ensures { result ≡ told_end outcome }
 {
     match outcome {

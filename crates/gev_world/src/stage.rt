@@ -5,7 +5,7 @@ use lossy_queue::{LossyQueue, Rates};
 
 /// All of a world but its host: the camera, the client, and the network between them.
 #[derive(Drop)]
-pub struct Stage {
+pub(crate) struct Stage {
     /// The seed of the images and of the network.
     pub seed: u64,
     /// How many frames the run asks for.

@@ -31,7 +31,7 @@ fn write_take<K: Sink>(
 
 /// Takes until the output is empty, and writes each take line. It stops where the sink fails or memory
 /// runs out: what was written then is a front of the lines.
-pub fn write_takes<K: Sink>(
+pub(crate) fn write_takes<K: Sink>(
     alloc: Global,
     host: &mut SoakReceiver,
     text: &mut Vec<u8>,

@@ -3,7 +3,7 @@ use lossy_queue::LossyQueue;
 
 /// What a round works with beside the world.
 #[derive(Drop)]
-pub struct Tools {
+pub(crate) struct Tools {
     pub rooms: Rooms,
     /// Empty but while its datagrams arrive.
     pub arriving: LossyQueue,

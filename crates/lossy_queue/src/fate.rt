@@ -7,7 +7,7 @@ use gev_frames::Lcg;
 
 /// What becomes of a datagram.
 #[derive(Clone, Copy, Debug, PartialEq, Eq)]
-pub enum Fate {
+pub(crate) enum Fate {
     /// It's lost.
     Lost,
     /// It's put once, before the last entry if it's swapped.
@@ -26,7 +26,7 @@ fn happens(rate: u16, generator: &mut Lcg) -> bool
 
 /// Draws what becomes of a datagram. Three numbers are drawn, also where it's lost.
 #[tactic(auto, unfolding(crate::specs::Lossy::after_put))]
-pub fn draw_fate(rates: Rates, generator: &mut Lcg) -> Fate
+pub(crate) fn draw_fate(rates: Rates, generator: &mut Lcg) -> Fate
     ensures drawn { result ≡ fate_of rates generator.old }
     ensures goes_on { generator.new ≡ after_put generator.old }
 {

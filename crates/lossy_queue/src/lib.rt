@@ -4,11 +4,11 @@
 //! queues may share. The functions of `laws` say what it amounts to.
 #![tactic(auto)]
 
-mod datagram;
-mod fate;
-pub mod laws;
-mod queue;
-mod rates;
+mod datagram; // a datagram on its way
+mod fate; // what becomes of it
+pub mod laws; // laws of the definitions, as contracts
+mod queue; // the network and its public calls
+mod rates; // how often it loses, repeats and swaps
 #[cfg(test)]
 mod tests;
 

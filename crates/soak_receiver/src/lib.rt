@@ -5,15 +5,15 @@
 //! replay script. `specs/Moves.antt` has what a call does as such lines do it.
 #![tactic(auto)]
 
-mod counts;
-mod hearing;
-mod laws;
-mod receiver;
-mod starting;
-mod taking;
+mod counts; // what a host counts
+mod hearing; // datagrams
+mod laws; // laws of the definitions, as contracts
+mod receiver; // the host and its public calls
+mod starting; // the beginning of a host
+mod taking; // what the application does
 #[cfg(test)]
 mod tests;
-mod ticking;
+mod ticking; // moments, and their requests
 
 pub use counts::SoakCounts;
 pub use laws::{hosts_keep_promises, inputs_are_heard};

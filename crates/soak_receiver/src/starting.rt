@@ -64,7 +64,7 @@ fn start_stream(alloc: Global, running: &mut Running) -> Result<(), NoMemory>
 }
 
 /// Begins: four buffers are announced and queued, and the stream is started.
-pub fn begin_host(alloc: Global) -> Result<Running, NoMemory>
+pub(crate) fn begin_host(alloc: Global) -> Result<Running, NoMemory>
     ensures { IfOk result (λ running. HasBegun running) }
 {
     let mut running = begin(alloc, config())?;

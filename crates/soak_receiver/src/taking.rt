@@ -55,7 +55,7 @@ fn queue_buffer(running: &mut Running, id: BufferId)
 
 /// Takes the output's first buffer, adds its line, returns it and queues it. The answer is whether its
 /// record is complete; None where there was nothing to take.
-pub fn take_and_queue(
+pub(crate) fn take_and_queue(
     alloc: Global,
     running: &mut Running,
     out: &mut Vec<u8>,

@@ -41,7 +41,7 @@ fn give_requests(acq: &mut Acq, requests: &mut Vec<[u8; 28]>) -> Result<(), NoMe
 
 /// Tells the moment, in milliseconds: buffers of old blocks are filled into the output, and the requests of
 /// packets that are missing are added.
-pub fn tell_moment(
+pub(crate) fn tell_moment(
     running: &mut Running,
     moment: u64,
     requests: &mut Vec<[u8; 28]>,
