@@ -5,11 +5,11 @@
 //! ids of taken buffers, and `specs/Applied.antt` what all turns together did.
 #![tactic(auto)]
 
-mod applying;
-mod handing;
-mod laws;
-mod look_end;
-mod looking;
+mod applying; // all turns
+mod handing; // what becomes of a taken buffer
+mod laws; // laws of the definitions, as contracts
+mod look_end; // how a turn ended
+mod looking; // one turn
 #[cfg(test)]
 mod tests;
 

@@ -5,14 +5,14 @@
 //! up to the first send that fails.
 #![tactic(auto)]
 
-mod acq_end;
-mod controlling;
-mod laws;
-mod sending;
-mod setting_up;
+mod acq_end; // how the reader's worker ended
+mod controlling; // the control part of a turn
+mod laws; // laws of the definitions, as contracts
+mod sending; // what is sent on the link
+mod setting_up; // the camera's setup
 #[cfg(test)]
 mod tests;
-mod turn_end;
+mod turn_end; // how a turn ended
 
 pub use acq_end::AcqEnd;
 pub use controlling::client_turn;

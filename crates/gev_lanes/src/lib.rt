@@ -5,16 +5,16 @@
 //! `specs/Acts.antt` what the reader and a lane do at them, `specs/Messages.antt` what a cell says.
 #![tactic(auto)]
 
-mod cell;
-mod crossing;
-mod ends;
-mod lane_calls;
-mod lanes;
-mod making;
-mod parts;
-mod reader_acts;
-mod reader_calls;
-mod saying;
+mod cell; // what goes to a lane
+mod crossing; // lanes are shared, ends cross to threads
+mod ends; // the lanes and their ends
+mod lane_calls; // what a lane does at its ends
+mod lanes; // all lanes, how they are made and meet
+mod making; // one new lane
+mod parts; // the queues and ends of one lane
+mod reader_acts; // what the reader does at one lane's queues
+mod reader_calls; // the same by the lane's number
+mod saying; // cells with a message
 #[cfg(test)]
 mod tests;
 

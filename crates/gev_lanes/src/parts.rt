@@ -3,7 +3,7 @@ use lane_queues::{Giver, Line, Taker};
 
 /// The three queues of a lane: the free cells, the cells on their way to the lane, and the lane's requests.
 #[derive(Drop)]
-pub struct LaneQueues {
+pub(crate) struct LaneQueues {
     pub(crate) free: Line<Cell>,
     pub(crate) cells: Line<Cell>,
     pub(crate) requests: Line<[u8; 28]>,
@@ -11,7 +11,7 @@ pub struct LaneQueues {
 
 /// The reader's ends of a lane's queues, and the moment of the last cell that it gave, 0 before the first.
 #[derive(Drop)]
-pub struct ReaderLane {
+pub(crate) struct ReaderLane {
     pub(crate) free: Taker<Cell>,
     pub(crate) cells: Giver<Cell>,
     pub(crate) requests: Taker<[u8; 28]>,
@@ -20,7 +20,7 @@ pub struct ReaderLane {
 
 /// The lane's ends of its queues.
 #[derive(Drop)]
-pub struct LaneHands {
+pub(crate) struct LaneHands {
     pub(crate) free: Giver<Cell>,
     pub(crate) cells: Taker<Cell>,
     pub(crate) requests: Giver<[u8; 28]>,

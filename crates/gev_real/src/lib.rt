@@ -3,13 +3,13 @@
 //! Each adapter meets its trait of `gev_links` and tells nothing of what it reads, writes or tells.
 #![tactic(auto)]
 
-mod monotonic_clock;
-mod real_ports;
-mod standard_input;
-mod standard_output;
+mod monotonic_clock; // the system's clock
+mod real_ports; // where links and clocks come from
+mod standard_input; // standard input as a source
+mod standard_output; // standard output as a sink
 #[cfg(test)]
 mod tests;
-mod udp_link;
+mod udp_link; // a UDP socket
 
 pub use monotonic_clock::MonotonicClock;
 pub use real_ports::RealPorts;

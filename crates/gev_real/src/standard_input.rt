@@ -11,6 +11,7 @@ pub struct StandardInput<R: Read + Drop> {
 }
 
 impl<R: Read + Drop> StandardInput<R> {
+    /// The source that reads from this reader, of which nothing has failed yet.
     pub fn new(reader: R) -> StandardInput<R>
         ensures { result.faults ≡ 0 }
     {

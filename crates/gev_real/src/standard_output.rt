@@ -11,6 +11,7 @@ pub struct StandardOutput<W: Write + Drop> {
 }
 
 impl<W: Write + Drop> StandardOutput<W> {
+    /// The sink that writes to this writer, of which nothing has failed yet.
     pub fn new(writer: W) -> StandardOutput<W>
         ensures { result.faults ≡ 0 }
     {

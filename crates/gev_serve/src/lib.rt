@@ -5,13 +5,13 @@
 //! the worker promises of all its turns.
 #![tactic(auto)]
 
-mod ends;
-mod rooms;
-mod sending;
-mod serving;
+mod ends; // how a turn, and the worker, ended
+mod rooms; // where the camera writes
+mod sending; // what the camera has to send
+mod serving; // all turns
 #[cfg(test)]
 mod tests;
-mod turns;
+mod turns; // one turn
 
 pub use ends::{ServeEnd, ServeTurn};
 pub use rooms::Rooms;

@@ -29,7 +29,7 @@ fn send_next<L: Link>(
 }
 
 /// Sends all packets that wait, in order, up to the first send that fails.
-pub fn send_waiting<L: Link>(
+pub(crate) fn send_waiting<L: Link>(
     camera: &mut Camera,
     link: &mut L,
     room: &mut [u8; PACKET_ROOM],

@@ -4,11 +4,11 @@
 //! `specs/Rule.antt` has the rule under which the queue stands, `specs/Ends.antt` the ends as callers see them.
 #![tactic(auto)]
 
-mod crossing;
-mod ends;
-mod line;
-mod log;
-mod rule;
+mod crossing; // queues are shared, ends cross to threads
+mod ends; // the ends
+mod line; // the queue and its public calls
+mod log; // what an end may do and has done
+mod rule; // the rule of the queue
 #[cfg(test)]
 mod tests;
 

@@ -1,7 +1,7 @@
 use std::collections::LinkedList;
 
 /// What a pass of a queue may do, and what it has given and taken. No value of it is made when a program runs.
-pub struct Log<T> {
+pub(crate) struct Log<T> {
     /// Whether the pass may give.
     pub gives: bool,
     /// Whether the pass may take.

@@ -4,7 +4,7 @@ use crate::log::Log;
 use crossbeam_queue::protocol::{Join, Lesson, Outcome, Protocol, Split};
 
 /// One giver and one taker.
-pub struct OneToOne;
+pub(crate) struct OneToOne;
 
 impl<T> Protocol<T, Log<T>> for OneToOne {
     ghost use Rattle.std.specs.Prelude.{true, []};
@@ -16,7 +16,7 @@ impl<T> Protocol<T, Log<T>> for OneToOne {
 }
 
 /// A pass that may do both parts into one that gives and one that takes.
-pub struct Roles;
+pub(crate) struct Roles;
 
 impl<T> Split<Log<T>> for Roles {
     ghost use Rattle.std.specs.Prelude.{true, false, [], length};
@@ -28,7 +28,7 @@ impl<T> Split<Log<T>> for Roles {
 }
 
 /// A giver takes a taker in.
-pub struct WithTaker;
+pub(crate) struct WithTaker;
 
 impl<T> Join<Log<T>> for WithTaker {
     ghost use Rattle.std.specs.Prelude.{true, false, []};
@@ -40,7 +40,7 @@ impl<T> Join<Log<T>> for WithTaker {
 }
 
 /// A taker takes a giver in.
-pub struct WithGiver;
+pub(crate) struct WithGiver;
 
 impl<T> Join<Log<T>> for WithGiver {
     ghost use Rattle.std.specs.Prelude.{true, false, []};
@@ -52,7 +52,7 @@ impl<T> Join<Log<T>> for WithGiver {
 }
 
 /// An item was given.
-pub struct Gave;
+pub(crate) struct Gave;
 
 impl<T> Outcome<T, Log<T>> for Gave {
     ghost use Rattle.std.specs.Prelude.{◌≡◌, [], ◌∷◌, ◌++◌};
@@ -68,7 +68,7 @@ impl<T> Lesson<T, Log<T>> for Gave {
 }
 
 /// An item was taken.
-pub struct Took;
+pub(crate) struct Took;
 
 impl<T> Outcome<T, Log<T>> for Took {
     ghost use Rattle.std.specs.Prelude.{◌≡◌, [], ◌∷◌, ◌++◌};
@@ -84,7 +84,7 @@ impl<T> Lesson<T, Log<T>> for Took {
 }
 
 /// What was given is what was taken, and then what the queue holds.
-pub struct Total;
+pub(crate) struct Total;
 
 impl<T> Lesson<T, Log<T>> for Total {
     ghost use Rattle.std.specs.Prelude.{◌≡◌, ◌++◌};

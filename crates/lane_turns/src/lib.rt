@@ -4,12 +4,12 @@
 //! `specs/Turns.antt` has the turn as a relation between the reader's ends before and after it.
 #![tactic(auto)]
 
-mod asking;
-mod ending;
-mod hearing;
+mod asking; // the lanes' requests, to the camera
+mod ending; // the end, to the lanes
+mod hearing; // a datagram, to its lane
 #[cfg(test)]
 mod tests;
-mod ticking;
+mod ticking; // the moment, to the lanes
 
 pub use asking::ask_lanes;
 pub use ending::end_lanes;
