@@ -13,8 +13,11 @@ import time
 OF_REPLAY_SCRIPTS = ["replay", "explain", "image 1", "image 2"]
 OF_CAMERA_SCRIPTS = ["camera"]
 OF_CAPTURES = ["streams", "capture 49152 1464 4096"]
-# Those that read nothing. The numbers of make and soak are drawn anew, and of all now and then a word is changed.
+# Those that read nothing. Their numbers are drawn anew, and now and then a word is changed. Those of LATER are drawn
+# where the program's help has such a line, as is the mode of live.
 OF_NOTHING = ["make 1 3 50 50 50", "soak 1 3 50 50 50", "soak 1 3 50 0 0 short", "live 1 2 2 1 3"]
+LATER = {"record": "record 1 2 2 3"}
+MODE = r"usage: gevacq live [^\n]* \[<mode>\]\n"
 
 # How long one run may take, and all together, in seconds.
 RUN_SECONDS = 20
@@ -31,6 +34,7 @@ STATUSES = {
     "make": {0},
     "soak": {0, 9, 10},
     "live": {0, 9, 10, 11},
+    "record": {0, 9, 10, 11},
 }
 
 # The text on standard error, by the status.
@@ -429,6 +433,7 @@ def judge_camera(script, status, text, error):
 
 PEER = r"\d+\.\d+\.\d+\.\d+:\d+"
 STREAM = rf"stream {PEER} {PEER} ids=(extended|standard|both) datagrams=(?P<datagrams>\d+) payload=\d+ leaders=(?P<leaders>\d+) width=\d+ height=\d+ pixel=0x[0-9a-f]{{8}} bytes=\d+ first=\d+ last=\d+ ms=\d+"
+RECORD_HEAD = ["gevacq 1 1452 2 200 20 3", *["announce 307200"] * 3, "start"]
 KINDS = "packets datagrams fragments cut other unlisted streams".split()
 LISTED = "end " + " ".join(rf"{name}=(?P<{name}>\d+)" for name in KINDS)
 
@@ -449,13 +454,15 @@ def judge_streams(data, status, text, error):
         wants(end["packets"] == kinds, f"the kinds aren't the packets: {lines[-1]}")
 
 
-def judge_run(data, status, text, error):
-    """Whether the lines are take lines whose blocks rise, and the last line has their number."""
-    lines, before, complete = lines_of(text), None, 0
+def judge_run(lanes, status, text, error):
+    """Whether the lines are take lines whose blocks rise in each lane, and the last line has their number."""
+    lines, before, complete = lines_of(text), {}, 0
     last = lines.pop() if lines and not lines[-1].startswith("take ") else ""
     for line in lines:
-        wants(re.fullmatch(TAKE, line), f"no take line: {line}")
-        before = judge_take(line, None, before)
+        found = re.fullmatch(TAKE, line)
+        wants(found, f"no take line: {line}")
+        lane = (int(found["block"]) - 1) % lanes
+        before[lane] = judge_take(line, None, before.get(lane))
         complete += " complete=1 " in line
     found = re.fullmatch(r"(soak|live) frames=\d+ taken=(\d+)( complete=(\d+) incomplete=(\d+) underrun=\d+ requests=\d+ commands=\d+)?", last)
     wants(found or last == "" and status in (7, 9, 10), f"no last line: {last}")
@@ -471,6 +478,16 @@ def judge_script(data, status, text, error):
     wants(status == 7 or lines and lines[0].startswith("gevacq ") and lines[-1] == "end", "no whole script")
     for line in lines[1:]:
         wants(re.fullmatch(r"(announce|flush|stop|t) \d+|start|take|end|d ([0-9a-f]{2})+", line), f"no line of a script: {line}")
+
+
+def judge_record(data, status, text, error):
+    """Whether the lines are those of a recorded run's script, or of a front of it."""
+    lines, buffer = lines_of(text), r"[0-2]\.1"
+    if status != 7:
+        wants(lines[:5] == RECORD_HEAD and lines[-1] == "end" and "stop 0" in lines, "no whole script")
+    wants(lines[:5] == RECORD_HEAD[: len(lines)], f"another head: {lines[:5]}")
+    for line in lines[5:]:
+        wants(re.fullmatch(rf"queue {buffer}|d ([0-9a-f]{{2}})+|t \d+|take|stop 0|end", line), f"no line of a script: {line}")
 
 
 def judge_picture(script, status, text, error):
@@ -497,6 +514,7 @@ JUDGES = {
     "make": judge_script,
     "soak": judge_run,
     "live": judge_run,
+    "record": judge_record,
 }
 
 # ---------------------------------------------------------------------------------------------------------------
@@ -524,6 +542,8 @@ def judge(program, words, data):
     if first in ("--help", "-h", "--version"):
         return
     wants(status in STATUSES.get(first, ()) or status == 7, f"status {status} of `{first}`")
+    if first in ("soak", "live"):
+        data = int(words[4]) if first == "live" else 1
     if first in JUDGES:
         JUDGES[first](data, status, text.decode("latin-1"), error.decode())
 
@@ -547,7 +567,14 @@ def seeds(program):
     return scripts, cameras, captures
 
 
-def drawn(draw, scripts, cameras, captures):
+def known(program):
+    """The command lines that read nothing and are in the program's help, and whether live has a mode."""
+    text = output_of(program, ["--help"])[1].decode()
+    later = [line for name, line in LATER.items() if f"usage: gevacq {name} " in text]
+    return OF_NOTHING + later, re.search(MODE, text) is not None
+
+
+def drawn(draw, scripts, cameras, captures, of_nothing, has_mode):
     """The words and the input of one run."""
     kind = draw.random()
     if kind < 0.55:
@@ -563,22 +590,27 @@ def drawn(draw, scripts, cameras, captures):
         data = draw.choice([whole, mutated(draw, whole), whole[: draw.randrange(len(whole))], any_lines(draw, b"")])
         return [it.encode() for it in draw.choice(OF_CAPTURES).split()], data
     else:
-        return any_words(draw), b""
+        return any_words(draw, of_nothing, has_mode), b""
     forms = [whole, with_mutated_lines(draw, whole, line_of), with_mutated_lines(draw, whole, line_of)]
     forms += [mutated(draw, whole), any_lines(draw, head)]
     return [it.encode() for it in words], draw.choice(forms)
 
 
-def any_words(draw):
+def any_words(draw, of_nothing, has_mode):
     """Words of a command line, right ones or not."""
-    words = [it.encode() for it in draw.choice(OF_NOTHING + OF_REPLAY_SCRIPTS + OF_CAPTURES).split()]
+    words = [it.encode() for it in draw.choice(of_nothing + OF_REPLAY_SCRIPTS + OF_CAPTURES).split()]
     if words[0] in (b"make", b"soak"):
         numbers = [draw.getrandbits(64), draw.randrange(6)] + [draw.choice([0, 50, 400, 1000]) for _ in range(3)]
         words[1:6] = [b"%d" % it for it in numbers]
-    if words[0] == b"live" and draw.random() < 0.8:
-        words[draw.randrange(1, len(words))] = b"0x1"
+    if words[0] in (b"live", b"record"):
+        words[1:4] = [b"%d" % it for it in (draw.getrandbits(64), draw.randrange(1, 4), draw.randrange(1, 16))]
+        words[-1] = b"%d" % draw.choice([1, 3, 40, 400])
+    if words[0] == b"live":
+        words[4] = b"%d" % draw.randrange(1, 5)
+        if has_mode and draw.random() < 0.7:
+            words.append(b"%d" % draw.randrange(3))
     others = [b"", b"0", b"01", b"-1", b"+1", b"1 ", b"short", b"18446744073709551616", b"\xff\xfe", draw.randbytes(3).replace(b"\0", b"x")]
-    kind = draw.randrange(4)
+    kind = draw.randrange(6)
     if kind == 0:
         words[draw.randrange(len(words))] = draw.choice(others)
     elif kind == 1:
@@ -590,7 +622,7 @@ def any_words(draw):
 
 def main(program, seed, runs):
     draw = random.Random(seed)
-    inputs = seeds(program)
+    inputs = [*seeds(program), *known(program)]
     begun, ran, wrong = time.monotonic(), 0, 0
     while ran < runs and wrong < 5 and time.monotonic() - begun < ALL_SECONDS:
         words, data = drawn(draw, *inputs)
