@@ -1,5 +1,8 @@
 pub mod Words
 pub mod Jobs
+pub mod Waiting
+pub mod Walk
+pub mod Deeds
 pub mod Past
 pub mod FrameCounts
 pub mod Passing

@@ -1,49 +1,38 @@
 -- The state after events says what was done.
-use Rattle.std.proofs.Common.{sym, ◌∙◌, subst, ◌≡◌, ℕ, ◌+◌, ◌/◌, ◌≤◌, Bool, true, false, List, [], ◌∷◌, ◌++◌, length, Option, Some, None, Result, Ok, Err, refl, ap, arith, rules, min}
-use Rattle.std.specs.Prelude.{◌%◌, ◌==◌, ◌&&◌, ◌||◌, not, nat_lt, if◌then◌else◌, ◌-◌, ◌^◌, nat_le, ◌≢◌}
-use Rattle.std.specs.Option.{option_or}
+use Rattle.std.proofs.Common.{sym, ◌∙◌, subst, ◌≡◌, ℕ, ◌+◌, ◌≤◌, Bool, true, false, List, [], ◌∷◌, ◌++◌, Option, Some, None, refl, arith, rules, min}
+use Rattle.std.specs.Prelude.{◌==◌, ◌&&◌, ◌||◌, not, nat_lt, if◌then◌else◌, ◌-◌, ◌^◌, nat_le, ◌≢◌}
 use Rattle.std.proofs.lemmas.Bool.{eqb-true, leb-true, and_parts, eqb-false}
 use Rattle.gev_types.specs.declared.frame.Shape.{Shape}
 use Rattle.gev_types.specs.declared.peer.Peer.{Peer}
-use Rattle.gvcp_wire.specs.Codes.{PACKETRESEND_CMD, DISCOVERY_CMD}
 use Rattle.gvcp_wire.specs.declared.message.CommandHead.{CommandHead}
-use Rattle.gvcp_wire.specs.declared.message.ControlError.{ControlError}
-use Rattle.gvcp_wire.specs.declared.message.ControlError.TheVariants.{Short, Key, ZeroReq, Length, Form}
-use Rattle.gvcp_wire.specs.declared.status.Status.{Status}
-use Rattle.gvcp_wire.specs.declared.status.Status.TheVariants.{BadAlignment, InvalidParameter}
-use Rattle.gvcp_wire.specs.Messages.{PlainCommand, read_reg, write_reg, read_mem, write_mem, other}
+use Rattle.gvcp_wire.specs.declared.status.Status.TheVariants.{InvalidParameter}
 use Rattle.gvcp_wire.specs.Reading.{command_reading}
 use Rattle.gvcp_aux.specs.declared.resend.Resend.{Resend}
-use Rattle.wire_fields.specs.Fields.{spelled}
 use Rattle.bootstrap_regs.specs.Addresses.{CCP, SCP0}
 use Rattle.bootstrap_regs.specs.Registers.{address_refusal, initial_at, value_refusal, register_at}
 use Rattle.bootstrap_regs.specs.Words.{word_at, with_word}
 use Rattle.bootstrap_regs.specs.Changes as changes
 use Rattle.bootstrap_regs.specs.Changes.{Change, value_after, Holds}
 use Rattle.control_privilege.specs.declared.holder.Holder.{Holder}
-use Rattle.control_privilege.specs.Control.{granted, is_primary, ccp_of, is_peer, may_write, renewed_by}
+use Rattle.control_privilege.specs.Control.{granted, is_primary, ccp_of, is_peer, renewed_by}
 use Rattle.resend_store.specs.Laws.{Stands}
 use Rattle.resend_store.specs.Shelf.{empty_shelf}
 use Rattle.resend_store.proofs.Standing.{push_stands}
-use Rattle.camera_machine.specs.Words.{addresses_from}
-use Rattle.camera_machine.specs.Camera.{Kept, Camera, new_camera, is_open, has_lost, released, looked}
-use Rattle.camera_machine.specs.Access.{Write, Written, refusal_of, with_port, written, change_of, write_all, ended_by, after_one, read_all, addresses_in, pairs_in, words_in, denied_unless}
-use Rattle.camera_machine.specs.Stream.{next_frame, framed, with_frame, asked_again, with_reply, reply_count, MAX_REPLIES, replies_to, sent_packets}
-use Rattle.camera_machine.specs.Commands.{Executed, Answered, answered, read_answer, write_answer, read_memory, is_memory_size, only_answered, silent, finished, kept_of, other_answer, executed_as, from_primary, same_bytes, is_behind, is_access, resend_in, resent, obeyed, renewed, heard}
+use Rattle.camera_machine.specs.Camera.{Camera, new_camera, is_open, has_lost, released, looked}
+use Rattle.camera_machine.specs.Access.{Write, refusal_of, with_port, written, change_of}
+use Rattle.camera_machine.specs.Stream.{next_frame, framed, with_frame, with_reply, reply_count, MAX_REPLIES, replies_to, sent_packets}
+use Rattle.camera_machine.specs.Commands.{Executed, finished, kept_of, renewed, heard}
 use Rattle.camera_machine.specs.Events.{Event, command, tick, make_frame, next_packet, set_short, step, after, Deed, changed, made, with_changes, with_look, with_answer, past_with, past, changes_in, last_kept, frames_since_opening, counted_in}
 use Rattle.camera_machine.specs.Laws.{AreFilled, IsLeftBy, StateSaysThePast}
 use Rattle.camera_machine.proofs.Words.{holds_written, holds_released, initial_holds}
 use Rattle.camera_machine.proofs.Jobs.{filled_push, filled_rest, replies_filled}
+use Rattle.camera_machine.proofs.Walk.{IsAllowed, allowed, written_is, writes_keep, writes_in, executes, executes_is, heard_is}
 
 -- one more below a bound
 min-again : (n m : ℕ) → min (min n m + 1) m ≡ min (n + 1) m
 min-again n m = omega arith
 
 -- ---- one write
-
-pub option_or-none : {A : Type 0} (a b : Option A) → option_or a b ≡ None → (a ≡ None) × (b ≡ None)
-option_or-none None b e = (refl, e)
-option_or-none (Some x) b e = absurd (cc)
 
 left_released : (start s : Camera) (ds : List Deed) → IsLeftBy start s ds → IsLeftBy start (released s) (changed changes.released ∷ ds)
 left_released start s ds h = record {
@@ -130,49 +119,16 @@ left_port start s ds value h = record {
 
 left_written : (start s : Camera) (ds : List Deed) (peer : Peer) (moment : ℕ) (w : Write) → refusal_of s peer w ≡ None → IsLeftBy start s ds
     → IsLeftBy start (written s peer moment w) (changed (change_of w) ∷ ds)
-left_written start s ds peer moment w e h = go (w.address == CCP) refl (w.address == SCP0) refl (w.value == 0) refl
+left_written start s ds peer moment w e h =
+    written_is (λ t c. IsLeftBy start t (changed c ∷ ds)) s peer moment w (λ here. left_released start s ds h)
+    (λ here z.
+    let fits : value_refusal CCP w.value ≡ None = subst (λ (a : ℕ). value_refusal a w.value ≡ None) here goes.value in
+    left_word start s ds (granted peer w.value moment) CCP w.value refl refl (granted_value peer w.value moment fits z) h)
+    (left_port start s ds w.value h)
+    (λ c q. left_word start s ds s.holder w.address w.value goes.address q (rw c (same_privilege start s ds h)) h)
   where
-    word : address_refusal w.address ≡ None
-    word = (option_or-none _ _ e).0
-
-    value : value_refusal w.address w.value ≡ None
-    value =
-        (option_or-none (denied_unless (may_write s.holder peer (w.address == CCP))) (value_refusal w.address w.value)
-        (option_or-none (address_refusal w.address) (option_or (denied_unless (may_write s.holder peer (w.address == CCP))) (value_refusal w.address w.value)) e).1).1
-
-    go : (c : Bool) → (w.address == CCP) ≡ c → (p : Bool) → (w.address == SCP0) ≡ p → (z : Bool) → (w.value == 0) ≡ z
-        → IsLeftBy start (if c then (if z then released s else record s { words = with_word s.words CCP w.value; holder = granted peer w.value moment })
-        else (if p then with_port s w.value else record s { words = with_word s.words w.address w.value }))
-        (changed (if c && z then changes.released else changes.written w.address w.value) ∷ ds)
-    go true c p q true z = left_released start s ds h
-    go true c p q false z =
-        let here : w.address ≡ CCP = eqb-true w.address CCP c in
-        let fits : value_refusal CCP w.value ≡ None = subst (λ (a : ℕ). value_refusal a w.value ≡ None) here value in
-        rw here (left_word start s ds (granted peer w.value moment) CCP w.value refl refl (granted_value peer w.value moment fits z) h)
-    go false c true q z v = rw (eqb-true w.address SCP0 q) (left_port start s ds w.value h)
-    go false c false q z v = left_word start s ds s.holder w.address w.value word q (rw c (same_privilege start s ds h)) h
-
--- ---- writes in order
-
-with_changes-push : (cs : List Change) (c : Change) (ds : List Deed) → with_changes (cs ++ c ∷ []) ds ≡ with_changes cs (changed c ∷ ds)
-with_changes-push [] c ds = refl
-with_changes-push (x ∷ cs) c ds = ap (λ (rest : List Deed). changed x ∷ rest) (with_changes-push cs c ds)
-
-left_all : (start s : Camera) (ds : List Deed) (peer : Peer) (moment : ℕ) (ws : List Write) → IsLeftBy start s ds
-    → IsLeftBy start (write_all s peer moment ws).camera (with_changes (write_all s peer moment ws).changes ds)
-left_all start s ds peer moment [] h = h
-left_all start s ds peer moment (w ∷ ws) h =
-    go (refusal_of s peer w) refl (λ e. left_all start (written s peer moment w) (changed (change_of w) ∷ ds) peer moment ws (left_written start s ds peer moment w e h))
-  where
-    rest : Written
-    rest = write_all (written s peer moment w) peer moment ws
-
-    go : (r : Option Status) → refusal_of s peer w ≡ r
-        → (refusal_of s peer w ≡ None → IsLeftBy start (write_all (written s peer moment w) peer moment ws).camera (with_changes (write_all (written s peer moment w) peer moment ws).changes (changed (change_of w) ∷ ds)))
-        → IsLeftBy start (ended_by r s (after_one w (write_all (written s peer moment w) peer moment ws))).camera
-        (with_changes (ended_by r s (after_one w (write_all (written s peer moment w) peer moment ws))).changes ds)
-    go None e f = rw (with_changes-push (write_all (written s peer moment w) peer moment ws).changes (change_of w) ds) (f e)
-    go (Some status) e f = h
+    goes : IsAllowed s peer w
+    goes = allowed s peer w e
 
 -- ---- commands
 
@@ -200,81 +156,12 @@ left_finished start was_primary peer bytes head e ds h = record {
     go true = refl
     go false = h.kept
 
-left_read : (start s : Camera) (ds : List Deed) (front : List ℕ) (r : Result (List ℕ) Status) → IsLeftBy start s ds
-    → IsLeftBy start (read_answer s front r).camera (with_changes (read_answer s front r).changes ds)
-left_read start s ds front (Ok values) h = h
-left_read start s ds front (Err status) h = h
-
-left_memory : (start s : Camera) (ds : List Deed) (peer : Peer) (address count : ℕ) → IsLeftBy start s ds
-    → IsLeftBy start (read_memory s peer address count).camera (with_changes (read_memory s peer address count).changes ds)
-left_memory start s ds peer address count h = go (address % 4 == 0) (is_memory_size count)
-  where
-    read : Executed
-    read = read_answer s (spelled ((4, address) ∷ [])) (read_all s peer (addresses_from (count / 4) address))
-
-    go : (a b : Bool) → IsLeftBy start (if a then (if b then read_answer s (spelled ((4, address) ∷ [])) (read_all s peer (addresses_from (count / 4) address)) else answered s InvalidParameter []) else answered s BadAlignment []).camera
-        (with_changes (if a then (if b then read_answer s (spelled ((4, address) ∷ [])) (read_all s peer (addresses_from (count / 4) address)) else answered s InvalidParameter []) else answered s BadAlignment []).changes ds)
-    go true true = left_read start s ds (spelled ((4, address) ∷ [])) (read_all s peer (addresses_from (count / 4) address)) h
-    go true false = h
-    go false b = h
-
--- an answer that leaves what its deeds say
-abbrev IsLeftIn : Camera → Answered → List Deed → Type 0
-IsLeftIn start a ds = IsLeftBy start a.camera (with_answer a ds)
-
-left_if : (start : Camera) (b : Bool) (x y : Answered) (ds : List Deed) → IsLeftIn start x ds → IsLeftIn start y ds → IsLeftIn start (if b then x else y) ds
-left_if start true x y ds p q = p
-left_if start false x y ds p q = q
-
-left_other : (start s : Camera) (ds : List Deed) (head : CommandHead) → IsLeftBy start s ds → IsLeftIn start (other_answer s head) ds
-left_other start s ds head h = left_if start (head.code == DISCOVERY_CMD) _ _ ds h h
-
-left_executed : (start s : Camera) (ds : List Deed) (peer : Peer) (bytes : List ℕ) (moment : ℕ) (head : CommandHead) (c : Option PlainCommand)
-    → IsLeftBy start s ds → IsLeftIn start (executed_as s peer bytes moment head c) ds
-left_executed start s ds peer bytes moment head None h = h
-left_executed start s ds peer bytes moment head (Some (read_reg addresses)) h =
-    left_finished start (is_primary s.holder peer) peer bytes head (read_answer s [] (read_all s peer (addresses_in (length addresses / 4) addresses))) ds
-    (left_read start s ds [] (read_all s peer (addresses_in (length addresses / 4) addresses)) h)
-left_executed start s ds peer bytes moment head (Some (write_reg pairs)) h =
-    left_finished start (is_primary s.holder peer) peer bytes head (write_answer 1 (write_all s peer moment (pairs_in (length pairs / 8) pairs))) ds
-    (left_all start s ds peer moment (pairs_in (length pairs / 8) pairs) h)
-left_executed start s ds peer bytes moment head (Some (read_mem address count)) h =
-    left_finished start (is_primary s.holder peer) peer bytes head (read_memory s peer address count) ds (left_memory start s ds peer address count h)
-left_executed start s ds peer bytes moment head (Some (write_mem address data_bytes)) h =
-    left_finished start (is_primary s.holder peer) peer bytes head (write_answer 4 (write_all s peer moment (words_in (length data_bytes / 4) address data_bytes))) ds
-    (left_all start s ds peer moment (words_in (length data_bytes / 4) address data_bytes) h)
-left_executed start s ds peer bytes moment head (Some (other code body)) h = left_other start s ds head h
-
-left_primary : (start : Camera) (kept : Option Kept) (s : Camera) (ds : List Deed) (peer : Peer) (bytes : List ℕ) (moment : ℕ) (head : CommandHead) (c : Option PlainCommand)
-    → IsLeftBy start s ds → IsLeftIn start (from_primary kept s peer bytes moment head c) ds
-left_primary start None s ds peer bytes moment head c h = left_executed start s ds peer bytes moment head c h
-left_primary start (Some kept) s ds peer bytes moment head c h =
-    left_if start (same_bytes bytes kept.bytes) (only_answered s kept.ack) (if is_behind kept.req head.req then silent s else executed_as s peer bytes moment head c) ds h
-    (left_if start (is_behind kept.req head.req) (silent s) (executed_as s peer bytes moment head c) ds h (left_executed start s ds peer bytes moment head c h))
-
 left_reply : (start s : Camera) (ds : List Deed) (r : Resend) → IsLeftBy start s ds → IsLeftBy start (with_reply s r) ds
 left_reply start s ds r h = go (nat_lt (reply_count s.waiting) MAX_REPLIES)
   where
     go : (b : Bool) → IsLeftBy start (record s { waiting = if b then s.waiting ++ record { is_reply = true; packets = replies_to s.shelf r } ∷ [] else s.waiting }) ds
     go true = record { words = h.words; privilege = h.privilege; kept = h.kept; executed = h.executed; waiting = filled_push s.waiting (record { is_reply = true; packets = replies_to s.shelf r }) h.waiting (replies_filled s.shelf r); seed_is = h.seed_is; shape_is = h.shape_is; room_is = h.room_is; store = h.store }
     go false = h
-
-left_resent : (start s : Camera) (ds : List Deed) (peer : Peer) (r : Option Resend) → IsLeftBy start s ds → IsLeftBy start (resent s peer r) ds
-left_resent start s ds peer r h = go (is_primary s.holder peer && is_open s) r
-  where
-    go : (b : Bool) (r : Option Resend) → IsLeftBy start (if b then asked_again s r else s) ds
-    go true None = h
-    go true (Some r) = left_reply start s ds r h
-    go false r = h
-
-left_obeyed : (start s : Camera) (ds : List Deed) (peer : Peer) (bytes : List ℕ) (moment : ℕ) (head : CommandHead) (c : Option PlainCommand)
-    → IsLeftBy start s ds → IsLeftIn start (obeyed s peer bytes moment head c) ds
-left_obeyed start s ds peer bytes moment head c h =
-    left_if start (head.code == PACKETRESEND_CMD) (silent (resent s peer (resend_in head c)))
-    (if is_access head.code && is_primary s.holder peer then from_primary s.kept s peer bytes moment head c else executed_as s peer bytes moment head c) ds
-    (left_resent start s ds peer (resend_in head c) h)
-    (left_if start (is_access head.code && is_primary s.holder peer) (from_primary s.kept s peer bytes moment head c) (executed_as s peer bytes moment head c) ds
-    (left_primary start s.kept s ds peer bytes moment head c h) (left_executed start s ds peer bytes moment head c h))
 
 privilege_renewed : (holder : Option Holder) (peer : Peer) (moment : ℕ) → ccp_of (renewed_by holder peer moment) ≡ ccp_of holder
 privilege_renewed None peer moment = refl
@@ -287,16 +174,23 @@ privilege_renewed (Some h) peer moment = go (is_peer h.peer peer)
 left_renewed : (start s : Camera) (ds : List Deed) (peer : Peer) (moment : ℕ) → IsLeftBy start s ds → IsLeftBy start (renewed s peer moment) ds
 left_renewed start s ds peer moment h = record { words = h.words; privilege = h.privilege ∙ sym (privilege_renewed s.holder peer moment); kept = h.kept; executed = h.executed; waiting = h.waiting; seed_is = h.seed_is; shape_is = h.shape_is; room_is = h.room_is; store = h.store }
 
-left_heard : (start s : Camera) (ds : List Deed) (peer : Peer) (bytes : List ℕ) (moment : ℕ) (r : Result (CommandHead × PlainCommand) ControlError)
-    → IsLeftBy start s ds → IsLeftIn start (heard s peer bytes moment r) ds
-left_heard start s ds peer bytes moment (Ok x) h =
-    left_obeyed start (renewed s peer moment) ds peer bytes moment x.0 (Some x.1) (left_renewed start s ds peer moment h)
-left_heard start s ds peer bytes moment (Err (Form head)) h =
-    left_obeyed start (renewed s peer moment) ds peer bytes moment head None (left_renewed start s ds peer moment h)
-left_heard start s ds peer bytes moment (Err (Short len)) h = h
-left_heard start s ds peer bytes moment (Err (Key key)) h = h
-left_heard start s ds peer bytes moment (Err ZeroReq) h = h
-left_heard start s ds peer bytes moment (Err (Length field real)) h = h
+-- whatever a datagram comes to
+left_heard : (start s : Camera) (ds : List Deed) (peer : Peer) (bytes : List ℕ) (moment : ℕ) → IsLeftBy start s ds
+    → IsLeftBy start (heard s peer bytes moment (command_reading bytes)).camera (with_answer (heard s peer bytes moment (command_reading bytes)) ds)
+left_heard start s ds peer bytes moment h =
+    heard_is (λ a. IsLeftBy start a.camera (with_answer a ds)) s peer bytes moment h (record {
+      replies = λ head ack is. has;
+      asks = λ r p e. left_reply start t ds r has;
+      acts = λ head c e is. left_finished start (is_primary t.holder peer) peer bytes head (executes t peer moment c) ds
+          (executes_is (λ x. IsLeftBy start x.camera (with_changes x.changes ds)) t peer moment c (λ status body. has)
+          (λ each. writes_keep (λ v cs. IsLeftBy start v (with_changes cs ds)) peer moment (λ v cs w. left_written start v (with_changes cs ds) peer moment w) t (writes_in c) has));
+    })
+  where
+    t : Camera
+    t = renewed s peer moment
+
+    has : IsLeftBy start t ds
+    has = left_renewed start s ds peer moment h
 
 left_looked : (start s : Camera) (ds : List Deed) (moment : ℕ) → IsLeftBy start s ds → IsLeftBy start (looked s moment) (with_look s moment ds)
 left_looked start s ds moment h = go (has_lost s moment)
@@ -324,7 +218,7 @@ left_framed start s ds h = go (is_open s)
 
 left_step : (start s : Camera) (ds : List Deed) (e : Event) → IsLeftBy start s ds → IsLeftBy start (step s e) (past_with s e ds)
 left_step start s ds (command peer bytes moment) h =
-    left_heard start (looked s moment) (with_look s moment ds) peer bytes moment (command_reading bytes) (left_looked start s ds moment h)
+    left_heard start (looked s moment) (with_look s moment ds) peer bytes moment (left_looked start s ds moment h)
 left_step start s ds (tick moment) h = left_looked start s ds moment h
 left_step start s ds make_frame h = left_framed start s ds h
 left_step start s ds next_packet h = record { words = h.words; privilege = h.privilege; kept = h.kept; executed = h.executed; waiting = filled_rest s.waiting h.waiting; seed_is = h.seed_is; shape_is = h.shape_is; room_is = h.room_is; store = h.store }

@@ -1,29 +1,28 @@
 -- Repeats of the kept command, and commands behind it.
-use Rattle.std.proofs.Common.{◌≡◌, ℕ, Bool, true, false, List, [], ◌∷◌, length, Option, Some, None, Result, Ok, Err, refl, ap, sym, ◌∙◌, subst}
-use Rattle.std.specs.Prelude.{◌==◌, ◌&&◌, ◌||◌, nat_lt, if◌then◌else◌, slice_index, IfSome}
+use Rattle.std.proofs.Common.{◌≡◌, ℕ, Bool, true, false, List, [], ◌∷◌, Option, Some, None, Result, Ok, Err, refl, ap, sym, ◌∙◌, subst}
+use Rattle.std.specs.Prelude.{◌==◌, ◌&&◌, if◌then◌else◌}
 use Rattle.std.proofs.lemmas.Bool.{eqb-true, eq-eqb, and_parts}
 use Rattle.gev_types.specs.declared.frame.Shape.{Shape}
 use Rattle.gev_types.specs.declared.peer.Peer.{Peer}
-use Rattle.gvcp_wire.specs.Codes.{KEY, MAX_BODY_SIZE, PACKETRESEND_CMD, DISCOVERY_CMD, READREG_CMD, WRITEREG_CMD, READMEM_CMD, WRITEMEM_CMD}
+use Rattle.gvcp_wire.specs.Codes.{PACKETRESEND_CMD}
 use Rattle.gvcp_wire.specs.declared.message.CommandHead.{CommandHead}
 use Rattle.gvcp_wire.specs.declared.message.ControlError.{ControlError}
 use Rattle.gvcp_wire.specs.declared.message.ControlError.TheVariants.{Short, Key, ZeroReq, Length, Form}
-use Rattle.gvcp_wire.specs.Messages.{PlainCommand, read_reg, write_reg, read_mem, write_mem, other}
-use Rattle.gvcp_wire.specs.Reading.{is_other, read_reg_in, write_reg_in, read_mem_in, write_mem_in, other_in, command_in, or_form, body_reading, head_at, command_of, command_reading}
+use Rattle.gvcp_wire.specs.Messages.{PlainCommand}
+use Rattle.gvcp_wire.specs.Reading.{command_reading}
 use Rattle.control_privilege.specs.declared.holder.Holder.{Holder}
 use Rattle.control_privilege.specs.Control.{is_primary, renewed_by}
-use Rattle.bootstrap_regs.specs.Changes as changes
-use Rattle.bootstrap_regs.specs.Changes.{Change}
-use Rattle.camera_machine.specs.Camera.{Kept, Camera, new_camera, is_open, has_lost, looked}
-use Rattle.camera_machine.specs.Stream.{next_frame}
-use Rattle.camera_machine.specs.Commands.{Execution, Answered, only_answered, silent, executed_as, from_primary, same_bytes, is_behind, is_access, resend_in, resent, obeyed, renewed, heard, commanded}
-use Rattle.camera_machine.specs.Events.{Event, command, tick, make_frame, next_packet, set_short, after, Deed, changed, executed, made, with_execution, with_changes, with_look, past_with, past, last_kept, is_release}
+use Rattle.camera_machine.specs.Camera.{Kept, Camera, new_camera, looked}
+use Rattle.camera_machine.specs.Commands.{only_answered, silent, executed_as, from_primary, same_bytes, is_behind, is_access, resend_in, resent, obeyed, renewed, heard}
+use Rattle.camera_machine.specs.Events.{Event, command, tick, make_frame, next_packet, set_short, after, Deed, changed, executed, made, with_look, with_answer, past_with, past, last_kept, is_release}
 use Rattle.camera_machine.specs.Primary.{head_in, IsAccess, RepeatIsAnswered, BehindIsDropped}
 use Rattle.camera_machine.proofs.Past.{state_says}
+use Rattle.camera_machine.proofs.Walk.{register_code, executes, heard_is}
+use Rattle.camera_machine.proofs.Deeds.{on_changes, on_look, on_frame}
 
 -- ---- a command of the primary that reads as a register command
 
-same_bytes-refl : (xs : List ℕ) → same_bytes xs xs ≡ true
+pub same_bytes-refl : (xs : List ℕ) → same_bytes xs xs ≡ true
 same_bytes-refl [] = refl
 same_bytes-refl (x ∷ xs) = rw (eq-eqb x x refl) (same_bytes-refl xs)
 
@@ -93,97 +92,7 @@ behind_dropped s kept peer bytes moment req held a ne behind =
     go true e = absurd (ne (same_bytes-true bytes kept.bytes e))
     go false e = refl
 
--- ---- what was executed is a register command
-
-is_register : Option PlainCommand → Bool
-is_register None = false
-is_register (Some (read_reg addresses)) = true
-is_register (Some (write_reg pairs)) = true
-is_register (Some (read_mem address count)) = true
-is_register (Some (write_mem address data_bytes)) = true
-is_register (Some (other code body)) = false
-
-in_code : (head : CommandHead) (body : List ℕ) → is_register (command_in head body) ≡ true → is_access head.code ≡ true
-unfolding is_register
-in_code head body = go (nat_lt MAX_BODY_SIZE (length body)) (head.code == READREG_CMD) (head.code == WRITEREG_CMD) (head.code == READMEM_CMD) (head.code == WRITEMEM_CMD)
-  where
-    stands : (b : Bool) → is_register (if b then Some (other head.code body) else None) ≡ true → ⊥
-    stands true e = cc
-    stands false e = cc
-
-    go : (b r w m n : Bool)
-        → is_register (if b then None else (if r then read_reg_in body else (if w then write_reg_in body else (if m then read_mem_in body else (if n then write_mem_in body else other_in head body))))) ≡ true
-        → (r || w || m || n) ≡ true
-    go true r w m n e = absurd (cc)
-    go false true w m n e = refl
-    go false false true m n e = refl
-    go false false false true n e = refl
-    go false false false false true e = refl
-    go false false false false false e = absurd (stands (is_other head body) e)
-
-formed : (head : CommandHead) (o : Option PlainCommand) (x : CommandHead × PlainCommand) → (is_register o ≡ true → is_access head.code ≡ true)
-    → or_form head o ≡ Ok x → is_register (Some x.1) ≡ true → is_access x.0.code ≡ true
-formed head None x f e = absurd (cc)
-formed head (Some c) x f e =
-    let same : (head, c) ≡ x = cc in
-    subst (λ (y : CommandHead × PlainCommand). is_register (Some y.1) ≡ true → is_access y.0.code ≡ true) same f
-
-reading_access : (bytes : List ℕ) (x : CommandHead × PlainCommand) → command_reading bytes ≡ Ok x → is_register (Some x.1) ≡ true → is_access x.0.code ≡ true
-reading_access bytes x = go (nat_lt (length bytes) 8) (slice_index bytes 0 == KEY) (body_reading bytes)
-  where
-    go : (short key : Bool) (r : Result (List ℕ) ControlError)
-        → (if short then Err (Short (length bytes)) else (if key then command_of (head_at bytes) r else Err (Key (slice_index bytes 0)))) ≡ Ok x
-        → is_register (Some x.1) ≡ true → is_access x.0.code ≡ true
-    go true key r e i = absurd (cc)
-    go false false r e i = absurd (cc)
-    go false true (Err y) e i = absurd (cc)
-    go false true (Ok body) e i = formed (head_at bytes) (command_in (head_at bytes) body) x (in_code (head_at bytes) body) e i
-
-abbrev ExecutesAccess : Answered → Type 0
-ExecutesAccess a = IfSome a.execution (λ x. IsAccess x.kept.bytes x.kept.req)
-
-executes_if : (b : Bool) (x y : Answered) → ExecutesAccess x → ExecutesAccess y → ExecutesAccess (if b then x else y)
-executes_if true x y p q = p
-executes_if false x y p q = q
-
-executes_as : (s : Camera) (peer : Peer) (bytes : List ℕ) (moment : ℕ) (head : CommandHead) (c : Option PlainCommand)
-    → (is_register c ≡ true → IsAccess bytes head.req) → ExecutesAccess (executed_as s peer bytes moment head c)
-unfolding is_register
-executes_as s peer bytes moment head None f = tt
-executes_as s peer bytes moment head (Some (read_reg addresses)) f = f refl
-executes_as s peer bytes moment head (Some (write_reg pairs)) f = f refl
-executes_as s peer bytes moment head (Some (read_mem address count)) f = f refl
-executes_as s peer bytes moment head (Some (write_mem address data_bytes)) f = f refl
-executes_as s peer bytes moment head (Some (other code body)) f = executes_if (head.code == DISCOVERY_CMD) _ _ tt tt
-
-executes_primary : (kept : Option Kept) (s : Camera) (peer : Peer) (bytes : List ℕ) (moment : ℕ) (head : CommandHead) (c : Option PlainCommand)
-    → ExecutesAccess (executed_as s peer bytes moment head c) → ExecutesAccess (from_primary kept s peer bytes moment head c)
-executes_primary None s peer bytes moment head c h = h
-executes_primary (Some kept) s peer bytes moment head c h =
-    executes_if (same_bytes bytes kept.bytes) (only_answered s kept.ack) (if is_behind kept.req head.req then silent s else executed_as s peer bytes moment head c) tt
-    (executes_if (is_behind kept.req head.req) (silent s) (executed_as s peer bytes moment head c) tt h)
-
-executes_obeyed : (s : Camera) (peer : Peer) (bytes : List ℕ) (moment : ℕ) (head : CommandHead) (c : Option PlainCommand)
-    → (is_register c ≡ true → IsAccess bytes head.req) → ExecutesAccess (obeyed s peer bytes moment head c)
-executes_obeyed s peer bytes moment head c f =
-    executes_if (head.code == PACKETRESEND_CMD) (silent (resent s peer (resend_in head c)))
-    (if is_access head.code && is_primary s.holder peer then from_primary s.kept s peer bytes moment head c else executed_as s peer bytes moment head c) tt
-    (executes_if (is_access head.code && is_primary s.holder peer) (from_primary s.kept s peer bytes moment head c) (executed_as s peer bytes moment head c)
-    (executes_primary s.kept s peer bytes moment head c (executes_as s peer bytes moment head c f)) (executes_as s peer bytes moment head c f))
-
-executes_heard : (s : Camera) (peer : Peer) (bytes : List ℕ) (moment : ℕ) (r : Result (CommandHead × PlainCommand) ControlError) → command_reading bytes ≡ r
-    → ExecutesAccess (heard s peer bytes moment r)
-unfolding is_register
-executes_heard s peer bytes moment (Ok x) e =
-    executes_obeyed (renewed s peer moment) peer bytes moment x.0 (Some x.1)
-    (λ i. record { head = x.0; read = rw e refl; access = reading_access bytes x e i; req_is = refl })
-executes_heard s peer bytes moment (Err (Form head)) e = executes_obeyed (renewed s peer moment) peer bytes moment head None (λ i. absurd (cc))
-executes_heard s peer bytes moment (Err (Short len)) e = tt
-executes_heard s peer bytes moment (Err (Key key)) e = tt
-executes_heard s peer bytes moment (Err ZeroReq) e = tt
-executes_heard s peer bytes moment (Err (Length field real)) e = tt
-
--- ---- so is each of the past
+-- ---- each that was executed is a register command
 
 abbrev AllAccess : List Deed → Type 0
 AllAccess [] = Unit {0}
@@ -191,32 +100,22 @@ AllAccess (changed c ∷ ds) = AllAccess ds
 AllAccess (executed x ∷ ds) = IsAccess x.kept.bytes x.kept.req × AllAccess ds
 AllAccess (made sent ∷ ds) = AllAccess ds
 
-all_changes : (cs : List Change) (ds : List Deed) → AllAccess ds → AllAccess (with_changes cs ds)
-all_changes [] ds h = h
-all_changes (c ∷ cs) ds h = all_changes cs ds h
-
-all_execution : (o : Option Execution) (ds : List Deed) → IfSome o (λ x. IsAccess x.kept.bytes x.kept.req) → AllAccess ds → AllAccess (with_execution o ds)
-all_execution None ds p h = h
-all_execution (Some x) ds p h = (p, h)
-
-all_look : (s : Camera) (moment : ℕ) (ds : List Deed) → AllAccess ds → AllAccess (with_look s moment ds)
-all_look s moment ds h = go (has_lost s moment)
-  where
-    go : (b : Bool) → AllAccess (if b then changed changes.released ∷ ds else ds)
-    go true = h
-    go false = h
+all_heard : (s : Camera) (peer : Peer) (bytes : List ℕ) (moment : ℕ) (ds : List Deed) → AllAccess ds
+    → AllAccess (with_answer (heard s peer bytes moment (command_reading bytes)) ds)
+all_heard s peer bytes moment ds h =
+    heard_is (λ a. AllAccess (with_answer a ds)) s peer bytes moment h (record {
+      replies = λ head ack is. h;
+      asks = λ r p e. h;
+      acts = λ head c e is. (
+        record { head = head; read = ap head_in e; access = register_code bytes head c e is; req_is = refl },
+        on_changes AllAccess (λ d xs k. k) (executes (renewed s peer moment) peer moment c).changes ds h,
+      );
+    })
 
 all_step : (s : Camera) (e : Event) (ds : List Deed) → AllAccess ds → AllAccess (past_with s e ds)
-all_step s (command peer bytes moment) ds h =
-    all_execution (commanded s peer bytes moment).execution (with_changes (commanded s peer bytes moment).changes (with_look s moment ds))
-    (executes_heard (looked s moment) peer bytes moment (command_reading bytes) refl)
-    (all_changes (commanded s peer bytes moment).changes (with_look s moment ds) (all_look s moment ds h))
-all_step s (tick moment) ds h = all_look s moment ds h
-all_step s make_frame ds h = go (is_open s)
-  where
-    go : (b : Bool) → AllAccess (if b then made (next_frame s) ∷ ds else ds)
-    go true = h
-    go false = h
+all_step s (command peer bytes moment) ds h = all_heard (looked s moment) peer bytes moment (with_look s moment ds) (on_look AllAccess (λ xs k. k) s moment ds h)
+all_step s (tick moment) ds h = on_look AllAccess (λ xs k. k) s moment ds h
+all_step s make_frame ds h = on_frame AllAccess s ds h h
 all_step s next_packet ds h = h
 all_step s (set_short short) ds h = h
 

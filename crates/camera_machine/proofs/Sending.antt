@@ -1,8 +1,8 @@
 -- The packets that a camera gives are those of the frames that it made.
-use Rattle.std.proofs.Common.{◌≡◌, ℕ, ◌+◌, ◌≤◌, Bool, true, false, List, [], ◌∷◌, length, drop, Option, Some, None, refl, ap, sym, ◌∙◌, subst, arith}
-use Rattle.std.specs.Prelude.{◌==◌, nat_lt, if◌then◌else◌, All}
+use Rattle.std.proofs.Common.{◌≡◌, ℕ, ◌+◌, ◌≤◌, Bool, true, false, List, [], ◌∷◌, Option, Some, refl, ap, sym, ◌∙◌, subst, arith}
+use Rattle.std.specs.Prelude.{◌==◌, if◌then◌else◌, IfSome}
 use Rattle.std.proofs.lemmas.Bool.{eqb-true, eq-eqb}
-use Rattle.std.proofs.lemmas.List.Elements.{All-nil, All-push, All-drop}
+use Rattle.std.proofs.lemmas.List.Elements.{All-nil}
 use Rattle.gev_types.specs.declared.frame.Frame.{Frame}
 use Rattle.gev_types.specs.declared.frame.Shape.{Shape}
 use Rattle.gev_types.specs.declared.peer.Peer.{Peer}
@@ -12,20 +12,19 @@ use Rattle.gev_frames.proofs.Draws.{camera_makes}
 use Rattle.stream_packets.specs.Sent.{AreFrames, IsSent}
 use Rattle.resend_store.specs.declared.sent.SentFrame.{SentFrame}
 use Rattle.resend_store.specs.Pushes.{reply_of}
-use Rattle.resend_store.specs.Shelf.{staying}
 use Rattle.resend_store.proofs.Standing.{store_answers}
-use Rattle.camera_machine.specs.Camera.{Camera, new_camera, is_open, has_lost}
-use Rattle.camera_machine.specs.Stream.{sent_packets, next_frame, with_frame}
-use Rattle.bootstrap_regs.specs.Changes as changes
-use Rattle.bootstrap_regs.specs.Changes.{Change}
-use Rattle.gvcp_wire.specs.Reading.{command_reading}
-use Rattle.camera_machine.specs.Camera.{looked}
-use Rattle.camera_machine.specs.Commands.{Execution, commanded}
-use Rattle.camera_machine.specs.Events.{Event, command, tick, make_frame, next_packet, set_short, step, Deed, changed, executed, made, with_changes, with_execution, with_look, past_with, after, past, last_short, frames_made, frames_since_opening}
+use Rattle.camera_machine.specs.Camera.{Camera, new_camera, is_open}
+use Rattle.camera_machine.specs.Stream.{stream_of, next_frame, with_frame}
+use Rattle.gvcp_aux.specs.declared.resend.Resend.{Resend}
+use Rattle.camera_machine.specs.Events.{Event, command, tick, make_frame, next_packet, set_short, step, Deed, changed, executed, made, with_look, past_with, after, past, last_short, frames_made, frames_since_opening}
 use Rattle.camera_machine.specs.Sending.{HaveRows, FramesAreGenerated, IsNeverSet, IsSetFirst, FramesAreShort, HaveSize, AskFromOne, PacketsAreSent, RepliesSayThePast}
+use Rattle.camera_machine.specs.Laws.{IsLeftBy}
 use Rattle.camera_machine.proofs.Past.{state_says}
 use Rattle.camera_machine.proofs.FrameCounts.{short_is}
-use Rattle.camera_machine.proofs.Sound.{Frames, Grows, IsStored, IsSound, sound_more, stored_packets, waiting_push, waiting_rest, next_sent, sound_heard, sound_looked}
+use Rattle.camera_machine.proofs.Walk.{stays_looked, stays_commanded}
+use Rattle.camera_machine.proofs.Deeds.{GoesOn, on_look, on_command, on_event}
+use Rattle.camera_machine.proofs.Waiting.{waiting_rest, next_sent}
+use Rattle.camera_machine.proofs.Sound.{Frames, Grows, IsStored, IsSound, sound_more, sound_pushed, sound_stays}
 
 -- ---- replies
 
@@ -102,41 +101,15 @@ made_grows short seed shape ds sent h rows b f e = go (sent.frame.block == b) re
         ap (λ (x : Frame). Some x) (new ∙ (ap (λ (n : ℕ). camera_frame short seed n shape) id ∙ sym old))
     go false t = e
 
-frames_changes : (cs : List Change) (ds : List Deed) (b : ℕ) → frames_made (with_changes cs ds) b ≡ frames_made ds b
-frames_changes [] ds b = refl
-frames_changes (c ∷ cs) ds b = frames_changes cs ds b
-
-frames_execution : (o : Option Execution) (ds : List Deed) (b : ℕ) → frames_made (with_execution o ds) b ≡ frames_made ds b
-frames_execution None ds b = refl
-frames_execution (Some x) ds b = refl
+frames_on : (ds : List Deed) → GoesOn (λ xs. (b : ℕ) → frames_made xs b ≡ frames_made ds b)
+frames_on ds = record { change = λ c xs h. h; execution = λ x xs h. h }
 
 frames_look : (s : Camera) (moment : ℕ) (ds : List Deed) (b : ℕ) → frames_made (with_look s moment ds) b ≡ frames_made ds b
-frames_look s moment ds b = go (has_lost s moment)
-  where
-    go : (t : Bool) → frames_made (if t then changed changes.released ∷ ds else ds) b ≡ frames_made ds b
-    go true = refl
-    go false = refl
+frames_look s moment ds = on_look (λ xs. (b : ℕ) → frames_made xs b ≡ frames_made ds b) (λ xs h. h) s moment ds (λ b. refl)
 
 frames_command : (s : Camera) (peer : Peer) (bytes : List ℕ) (moment : ℕ) (ds : List Deed) (b : ℕ)
     → frames_made (past_with s (command peer bytes moment) ds) b ≡ frames_made ds b
-frames_command s peer bytes moment ds b =
-    frames_execution (commanded s peer bytes moment).execution (with_changes (commanded s peer bytes moment).changes (with_look s moment ds)) b
-    ∙ (frames_changes (commanded s peer bytes moment).changes (with_look s moment ds) b ∙ frames_look s moment ds b)
-
-made_changes : (seed : ℕ) (shape : Shape) (cs : List Change) (ds : List Deed) → AreMade seed shape ds → AreMade seed shape (with_changes cs ds)
-made_changes seed shape [] ds h = h
-made_changes seed shape (c ∷ cs) ds h = made_changes seed shape cs ds h
-
-made_execution : (seed : ℕ) (shape : Shape) (o : Option Execution) (ds : List Deed) → AreMade seed shape ds → AreMade seed shape (with_execution o ds)
-made_execution seed shape None ds h = h
-made_execution seed shape (Some x) ds h = h
-
-made_look : (seed : ℕ) (shape : Shape) (s : Camera) (moment : ℕ) (ds : List Deed) → AreMade seed shape ds → AreMade seed shape (with_look s moment ds)
-made_look seed shape s moment ds h = go (has_lost s moment)
-  where
-    go : (t : Bool) → AreMade seed shape (if t then changed changes.released ∷ ds else ds)
-    go true = h
-    go false = h
+frames_command s peer bytes moment ds = on_command (λ xs. (b : ℕ) → frames_made xs b ≡ frames_made ds b) (frames_on ds) s peer bytes moment ds (λ b. refl)
 
 next_is_made : (seed : ℕ) (shape : Shape) (s : Camera) (ds : List Deed) → s.seed ≡ seed → s.shape ≡ shape → AreMade seed shape ds
     → AreMade seed shape (made (next_frame s) ∷ ds)
@@ -151,34 +124,17 @@ next_is_made seed shape s ds a b h = (
 
 made_step : (seed : ℕ) (shape : Shape) (s : Camera) (e : Event) (ds : List Deed) → s.seed ≡ seed → s.shape ≡ shape → AreMade seed shape ds
     → AreMade seed shape (past_with s e ds)
-made_step seed shape s (command peer bytes moment) ds a b h =
-    made_execution seed shape (commanded s peer bytes moment).execution (with_changes (commanded s peer bytes moment).changes (with_look s moment ds))
-    (made_changes seed shape (commanded s peer bytes moment).changes (with_look s moment ds) (made_look seed shape s moment ds h))
-made_step seed shape s (tick moment) ds a b h = made_look seed shape s moment ds h
-made_step seed shape s make_frame ds a b h = go (is_open s)
-  where
-    go : (t : Bool) → AreMade seed shape (if t then made (next_frame s) ∷ ds else ds)
-    go true = next_is_made seed shape s ds a b h
-    go false = h
-made_step seed shape s next_packet ds a b h = h
-made_step seed shape s (set_short short) ds a b h = h
+made_step seed shape s e ds a b h =
+    on_event (AreMade seed shape) (record { change = λ c xs k. k; execution = λ x xs k. k }) s e ds (next_is_made seed shape s ds a b h) h
 
 grows_same : (frames more : Frames) → ((b : ℕ) → more b ≡ frames b) → Grows frames more
 grows_same frames more same b f e = same b ∙ e
 
 grows_step : (short : Bool) (seed : ℕ) (shape : Shape) (s : Camera) (e : Event) (ds : List Deed) → s.seed ≡ seed → s.shape ≡ shape → AreMade seed shape ds
     → HaveRows short shape (past_with s e ds) → Grows (frames_made ds) (frames_made (past_with s e ds))
-grows_step short seed shape s (command peer bytes moment) ds a b h rows =
-    grows_same (frames_made ds) (frames_made (past_with s (command peer bytes moment) ds)) (frames_command s peer bytes moment ds)
-grows_step short seed shape s (tick moment) ds a b h rows = grows_same (frames_made ds) (frames_made (with_look s moment ds)) (frames_look s moment ds)
-grows_step short seed shape s make_frame ds a b h rows = go (is_open s) rows
-  where
-    go : (t : Bool) → HaveRows short shape (if t then made (next_frame s) ∷ ds else ds)
-        → Grows (frames_made ds) (frames_made (if t then made (next_frame s) ∷ ds else ds))
-    go true rows = made_grows short seed shape ds (next_frame s) (next_is_made seed shape s ds a b h) rows
-    go false rows = λ k f e. e
-grows_step short seed shape s next_packet ds a b h rows = λ k f e. e
-grows_step short seed shape s (set_short to) ds a b h rows = λ k f e. e
+grows_step short seed shape s e ds a b h =
+    on_event (λ xs. HaveRows short shape xs → Grows (frames_made ds) (frames_made xs)) (record { change = λ c xs k. k; execution = λ x xs k. k }) s e ds
+    (made_grows short seed shape ds (next_frame s) (next_is_made seed shape s ds a b h)) (λ rows k f e. e)
 
 made_past : (seed : ℕ) (shape : Shape) (room : ℕ) (es : List Event) → AreMade seed shape (past (new_camera seed shape room) es)
 made_past seed shape room [] = tt
@@ -222,35 +178,12 @@ frames_are seed shape room es =
 
 -- ---- short frames
 
-rows_changes : (short : Bool) (shape : Shape) (cs : List Change) (ds : List Deed) → HaveRows short shape ds → HaveRows short shape (with_changes cs ds)
-rows_changes short shape [] ds h = h
-rows_changes short shape (c ∷ cs) ds h = rows_changes short shape cs ds h
-
-rows_execution : (short : Bool) (shape : Shape) (o : Option Execution) (ds : List Deed) → HaveRows short shape ds → HaveRows short shape (with_execution o ds)
-rows_execution short shape None ds h = h
-rows_execution short shape (Some x) ds h = h
-
-rows_look : (short : Bool) (shape : Shape) (s : Camera) (moment : ℕ) (ds : List Deed) → HaveRows short shape ds → HaveRows short shape (with_look s moment ds)
-rows_look short shape s moment ds h = go (has_lost s moment)
-  where
-    go : (t : Bool) → HaveRows short shape (if t then changed changes.released ∷ ds else ds)
-    go true = h
-    go false = h
-
 -- a frame that is made has the lines of the camera's shortness
 rows_step : (short : Bool) (shape : Shape) (s : Camera) (e : Event) (ds : List Deed) → s.short ≡ short → s.shape ≡ shape → HaveRows short shape ds
     → HaveRows short shape (past_with s e ds)
-rows_step short shape s (command peer bytes moment) ds a b h =
-    rows_execution short shape (commanded s peer bytes moment).execution (with_changes (commanded s peer bytes moment).changes (with_look s moment ds))
-    (rows_changes short shape (commanded s peer bytes moment).changes (with_look s moment ds) (rows_look short shape s moment ds h))
-rows_step short shape s (tick moment) ds a b h = rows_look short shape s moment ds h
-rows_step short shape s make_frame ds a b h = go (is_open s)
-  where
-    go : (t : Bool) → HaveRows short shape (if t then made (next_frame s) ∷ ds else ds)
-    go true = (ap (λ (t : Bool). rows_of t (s.shelf.count + 1) s.shape) a ∙ ap (λ (x : Shape). rows_of short (s.shelf.count + 1) x) b, h)
-    go false = h
-rows_step short shape s next_packet ds a b h = h
-rows_step short shape s (set_short to) ds a b h = h
+rows_step short shape s e ds a b h =
+    on_event (HaveRows short shape) (record { change = λ c xs k. k; execution = λ x xs k. k }) s e ds
+    (ap (λ (t : Bool). rows_of t (s.shelf.count + 1) s.shape) a ∙ ap (λ (x : Shape). rows_of short (s.shelf.count + 1) x) b, h) h
 
 rows_past : (short : Bool) (seed : ℕ) (shape : Shape) (room : ℕ) (e : Event) (es : List Event) → last_short es ≡ short
     → HaveRows short shape (past (new_camera seed shape room) es) → HaveRows short shape (past (new_camera seed shape room) (e ∷ es))
@@ -312,61 +245,13 @@ frames_short seed shape room es =
 
 -- ---- any events
 
-size_changes : (p : ℕ) (cs : List Change) (ds : List Deed) → HaveSize p (with_changes cs ds) → HaveSize p ds
-size_changes p [] ds h = h
-size_changes p (c ∷ cs) ds h = size_changes p cs ds h
-
-size_execution : (p : ℕ) (o : Option Execution) (ds : List Deed) → HaveSize p (with_execution o ds) → HaveSize p ds
-size_execution p None ds h = h
-size_execution p (Some x) ds h = h
-
-size_look : (p : ℕ) (s : Camera) (moment : ℕ) (ds : List Deed) → HaveSize p (with_look s moment ds) → HaveSize p ds
-size_look p s moment ds = go (has_lost s moment)
-  where
-    go : (t : Bool) → HaveSize p (if t then changed changes.released ∷ ds else ds) → HaveSize p ds
-    go true h = h
-    go false h = h
-
 pub size_step : (p : ℕ) (s : Camera) (e : Event) (ds : List Deed) → HaveSize p (past_with s e ds) → HaveSize p ds
-size_step p s (command peer bytes moment) ds h =
-    size_look p s moment ds (size_changes p (commanded s peer bytes moment).changes (with_look s moment ds)
-    (size_execution p (commanded s peer bytes moment).execution (with_changes (commanded s peer bytes moment).changes (with_look s moment ds)) h))
-size_step p s (tick moment) ds h = size_look p s moment ds h
-size_step p s make_frame ds h = go (is_open s) h
-  where
-    go : (t : Bool) → HaveSize p (if t then made (next_frame s) ∷ ds else ds) → HaveSize p ds
-    go true h = h.1
-    go false h = h
-size_step p s next_packet ds h = h
-size_step p s (set_short short) ds h = h
-
-lines_changes : (short : Bool) (shape : Shape) (cs : List Change) (ds : List Deed) → HaveRows short shape (with_changes cs ds) → HaveRows short shape ds
-lines_changes short shape [] ds h = h
-lines_changes short shape (c ∷ cs) ds h = lines_changes short shape cs ds h
-
-lines_execution : (short : Bool) (shape : Shape) (o : Option Execution) (ds : List Deed) → HaveRows short shape (with_execution o ds) → HaveRows short shape ds
-lines_execution short shape None ds h = h
-lines_execution short shape (Some x) ds h = h
-
-lines_look : (short : Bool) (shape : Shape) (s : Camera) (moment : ℕ) (ds : List Deed) → HaveRows short shape (with_look s moment ds) → HaveRows short shape ds
-lines_look short shape s moment ds = go (has_lost s moment)
-  where
-    go : (t : Bool) → HaveRows short shape (if t then changed changes.released ∷ ds else ds) → HaveRows short shape ds
-    go true h = h
-    go false h = h
+size_step p s e ds =
+    on_event (λ xs. HaveSize p xs → HaveSize p ds) (record { change = λ c xs k. k; execution = λ x xs k. k }) s e ds (λ h. h.1) (λ h. h)
 
 pub lines_step : (short : Bool) (shape : Shape) (s : Camera) (e : Event) (ds : List Deed) → HaveRows short shape (past_with s e ds) → HaveRows short shape ds
-lines_step short shape s (command peer bytes moment) ds h =
-    lines_look short shape s moment ds (lines_changes short shape (commanded s peer bytes moment).changes (with_look s moment ds)
-    (lines_execution short shape (commanded s peer bytes moment).execution (with_changes (commanded s peer bytes moment).changes (with_look s moment ds)) h))
-lines_step short shape s (tick moment) ds h = lines_look short shape s moment ds h
-lines_step short shape s make_frame ds h = go (is_open s) h
-  where
-    go : (t : Bool) → HaveRows short shape (if t then made (next_frame s) ∷ ds else ds) → HaveRows short shape ds
-    go true h = h.1
-    go false h = h
-lines_step short shape s next_packet ds h = h
-lines_step short shape s (set_short to) ds h = h
+lines_step short shape s e ds =
+    on_event (λ xs. HaveRows short shape xs → HaveRows short shape ds) (record { change = λ c xs k. k; execution = λ x xs k. k }) s e ds (λ h. h.1) (λ h. h)
 
 pub asks_rest : (e : Event) (es : List Event) → AskFromOne (e ∷ es) → AskFromOne es
 asks_rest (command peer bytes moment) es h = h.1
@@ -375,70 +260,58 @@ asks_rest make_frame es h = h
 asks_rest next_packet es h = h
 asks_rest (set_short short) es h = h
 
-staying_stored : (P : SentFrame → Type 0) (room : ℕ) (held : List SentFrame) → All P held → All P (staying room held)
-staying_stored P room held h = go (nat_lt (length held) room)
-  where
-    go : (b : Bool) → All P (if b then held else drop 1 held)
-    go true = h
-    go false = All-drop P 1 held h
+-- The camera after these events holds frames of the map that it made, and its packets are of them.
+abbrev SoundAfter : ℕ → ℕ → Shape → ℕ → List Event → Type 0
+SoundAfter p seed shape room es =
+    IsSound (frames_made (past (new_camera seed shape room) es)) p (stream_of (after (new_camera seed shape room) es))
 
--- a camera with one more frame, of a map that has it
-sound_made : (frames : Frames) (p seed : ℕ) (shape : Shape) (s : Camera) (sent : SentFrame) → IsStored frames p sent → IsSound frames p seed shape s
-    → IsSound frames p seed shape (with_frame s sent)
-sound_made frames p seed shape s sent k h = record {
-  seed_is = h.seed_is;
-  shape_is = h.shape_is;
-  stored = All-push (IsStored frames p) (staying s.shelf.room s.shelf.frames) sent (staying_stored (IsStored frames p) s.shelf.room s.shelf.frames h.stored) k;
-  waiting = waiting_push (IsSent frames p) s.waiting (record { is_reply = false; packets = sent_packets sent }) h.waiting (stored_packets frames p sent k);
-}
-
-sound_framed : (p seed : ℕ) (shape : Shape) (short : Bool) (s : Camera) (ds : List Deed) → AreMade seed shape ds → HaveSize p (past_with s make_frame ds)
-    → HaveRows short shape (past_with s make_frame ds) → IsSound (frames_made ds) p seed shape s → IsSound (frames_made (past_with s make_frame ds)) p seed shape (step s make_frame)
-sound_framed p seed shape short s ds all size rows h = go (is_open s) size rows
+sound_framed : (p seed : ℕ) (shape : Shape) (short : Bool) (s : Camera) (ds : List Deed) → s.seed ≡ seed → s.shape ≡ shape → AreMade seed shape ds
+    → HaveSize p (past_with s make_frame ds) → HaveRows short shape (past_with s make_frame ds) → IsSound (frames_made ds) p (stream_of s)
+    → IsSound (frames_made (past_with s make_frame ds)) p (stream_of (step s make_frame))
+sound_framed p seed shape short s ds a b all size rows h = go (is_open s) size rows
   where
     go : (t : Bool) → HaveSize p (if t then made (next_frame s) ∷ ds else ds) → HaveRows short shape (if t then made (next_frame s) ∷ ds else ds)
-        → IsSound (frames_made (if t then made (next_frame s) ∷ ds else ds)) p seed shape (if t then with_frame s (next_frame s) else s)
+        → IsSound (frames_made (if t then made (next_frame s) ∷ ds else ds)) p (stream_of (if t then with_frame s (next_frame s) else s))
     go true size rows =
-        let more : AreMade seed shape (made (next_frame s) ∷ ds) = next_is_made seed shape s ds h.seed_is h.shape_is all in
-        sound_made (frames_made (made (next_frame s) ∷ ds)) p seed shape s (next_frame s)
+        let more : AreMade seed shape (made (next_frame s) ∷ ds) = next_is_made seed shape s ds a b all in
+        sound_pushed (frames_made (made (next_frame s) ∷ ds)) p (stream_of s) (next_frame s)
         (record { of_block = rw (eq-eqb (s.shelf.count + 1) (s.shelf.count + 1) refl) refl; size = size.0 })
-        (sound_more (frames_made ds) (frames_made (made (next_frame s) ∷ ds)) p seed shape s (made_grows short seed shape ds (next_frame s) more rows) h)
+        (sound_more (frames_made ds) (frames_made (made (next_frame s) ∷ ds)) p (stream_of s) (made_grows short seed shape ds (next_frame s) more rows) h)
     go false size rows = h
 
-sound_step : (p seed : ℕ) (shape : Shape) (short : Bool) (s : Camera) (e : Event) (es : List Event) (ds : List Deed) → AreMade seed shape ds → AskFromOne (e ∷ es)
-    → HaveSize p (past_with s e ds) → HaveRows short shape (past_with s e ds) → IsSound (frames_made ds) p seed shape s → IsSound (frames_made (past_with s e ds)) p seed shape (step s e)
-sound_step p seed shape short s (command peer bytes moment) es ds all asks size rows h =
-    sound_more (frames_made ds) (frames_made (past_with s (command peer bytes moment) ds)) p seed shape (step s (command peer bytes moment))
-    (grows_same (frames_made ds) (frames_made (past_with s (command peer bytes moment) ds)) (frames_command s peer bytes moment ds))
-    (sound_heard (frames_made ds) p seed shape (looked s moment) peer bytes moment (command_reading bytes) asks.0 (sound_looked (frames_made ds) p seed shape s moment h))
-sound_step p seed shape short s (tick moment) es ds all asks size rows h =
-    sound_more (frames_made ds) (frames_made (with_look s moment ds)) p seed shape (looked s moment)
-    (grows_same (frames_made ds) (frames_made (with_look s moment ds)) (frames_look s moment ds)) (sound_looked (frames_made ds) p seed shape s moment h)
-sound_step p seed shape short s make_frame es ds all asks size rows h = sound_framed p seed shape short s ds all size rows h
-sound_step p seed shape short s next_packet es ds all asks size rows h = record {
-  seed_is = h.seed_is;
-  shape_is = h.shape_is;
-  stored = h.stored;
-  waiting = waiting_rest (IsSent (frames_made ds) p) s.waiting h.waiting;
-}
-sound_step p seed shape short s (set_short to) es ds all asks size rows h =
-    record { seed_is = h.seed_is; shape_is = h.shape_is; stored = h.stored; waiting = h.waiting }
-
 sound_past : (p seed : ℕ) (shape : Shape) (room : ℕ) (short : Bool) (es : List Event) → AskFromOne es → HaveSize p (past (new_camera seed shape room) es)
-    → HaveRows short shape (past (new_camera seed shape room) es)
-    → IsSound (frames_made (past (new_camera seed shape room) es)) p seed shape (after (new_camera seed shape room) es)
+    → HaveRows short shape (past (new_camera seed shape room) es) → SoundAfter p seed shape room es
 sound_past p seed shape room short [] asks size rows =
-    record { seed_is = refl; shape_is = refl; stored = All-nil (IsStored (frames_made []) p); waiting = All-nil (IsSent (frames_made []) p) }
-sound_past p seed shape room short (e ∷ es) asks size rows =
-    let s : Camera = after (new_camera seed shape room) es in
-    let ds : List Deed = past (new_camera seed shape room) es in
-    sound_step p seed shape short s e es ds (made_past seed shape room es) asks size rows
+    record { stored = All-nil (IsStored (frames_made []) p); waiting = All-nil (IsSent (frames_made []) p) }
+sound_past p seed shape room short (e ∷ es) asks size rows = go e asks size rows
     (sound_past p seed shape room short es (asks_rest e es asks) (size_step p s e ds size) (lines_step short shape s e ds rows))
+  where
+    s : Camera
+    s = after (new_camera seed shape room) es
+
+    ds : List Deed
+    ds = past (new_camera seed shape room) es
+
+    left : IsLeftBy (new_camera seed shape room) s ds
+    left = state_says seed shape room es
+
+    go : (e : Event) → AskFromOne (e ∷ es) → HaveSize p (past_with s e ds) → HaveRows short shape (past_with s e ds) → IsSound (frames_made ds) p (stream_of s)
+        → IsSound (frames_made (past_with s e ds)) p (stream_of (step s e))
+    go (command peer bytes moment) asks size rows h =
+        sound_more (frames_made ds) (frames_made (past_with s (command peer bytes moment) ds)) p _
+        (grows_same (frames_made ds) (frames_made (past_with s (command peer bytes moment) ds)) (frames_command s peer bytes moment ds))
+        (stays_commanded _ _ (sound_stays (frames_made ds) p) s peer bytes moment
+        (λ r e. subst (λ (o : Option Resend). IfSome o (λ x. 1 ≤ x.block)) e asks.0) h)
+    go (tick moment) asks size rows h =
+        sound_more (frames_made ds) (frames_made (with_look s moment ds)) p _
+        (grows_same (frames_made ds) (frames_made (with_look s moment ds)) (frames_look s moment ds)) (stays_looked _ _ (sound_stays (frames_made ds) p) s moment h)
+    go make_frame asks size rows h = sound_framed p seed shape short s ds left.seed_is left.shape_is (made_past seed shape room es) size rows h
+    go next_packet asks size rows h = record { stored = h.stored; waiting = waiting_rest (IsSent (frames_made ds) p) s.waiting h.waiting }
+    go (set_short to) asks size rows h = h
 
 pub packets_sent : (seed : ℕ) (shape : Shape) (room p : ℕ) (short : Bool) (es : List Event) → PacketsAreSent seed shape room p short es
 packets_sent seed shape room p short es asks size rows =
-    let sound : IsSound (frames_made (past (new_camera seed shape room) es)) p seed shape (after (new_camera seed shape room) es) =
-    sound_past p seed shape room short es asks size rows in
+    let sound : SoundAfter p seed shape room es = sound_past p seed shape room short es asks size rows in
     record {
       waiting = sound.waiting;
       next = next_sent (IsSent (frames_made (past (new_camera seed shape room) es)) p) (after (new_camera seed shape room) es).waiting sound.waiting;
