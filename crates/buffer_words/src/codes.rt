@@ -15,7 +15,7 @@ const SIZES: u64 = 1 << 27;
 const GENERATIONS: u64 = 1 << 32;
 
 /// The word of which this is the number.
-pub fn word_of(number: u64) -> Word
+pub(crate) fn word_of(number: u64) -> Word
     ensures { result ≡ decode number }
 {
     let state = match number % 4 {
@@ -31,7 +31,7 @@ pub fn word_of(number: u64) -> Word
 }
 
 /// The number of this word.
-pub fn number_of(word: Word) -> u64
+pub(crate) fn number_of(word: Word) -> u64
     requires { word.size ≤ max_buffer_size }
     ensures { result ≡ code word }
 {
@@ -44,14 +44,14 @@ pub fn number_of(word: Word) -> u64
 }
 
 /// Whether a grab of this generation gets the buffer.
-pub fn is_held_as(word: Word, generation: u32) -> bool
+pub(crate) fn is_held_as(word: Word, generation: u32) -> bool
     ensures { MatchBool result (IsHeldAs word generation) (¬ IsHeldAs word generation) }
 {
     word.state == State::Held && word.generation == generation
 }
 
 /// Whether a new buffer can be announced at the place.
-pub fn can_enrol(word: Word) -> bool
+pub(crate) fn can_enrol(word: Word) -> bool
     ensures { MatchBool result (CanEnrol word) (¬ CanEnrol word) }
 {
     word.state == State::Vacant && word.generation < u32::MAX

@@ -2,34 +2,21 @@
 //! words.
 #![tactic(auto)]
 
-mod calls_claim;
-mod calls_loans;
-mod calls_marks;
-mod calls_output;
-mod calls_passes;
-mod calls_places;
-mod calls_pool;
-mod codes;
-mod crossing;
-mod laws;
-mod loan;
-mod mark_plays;
-mod marks;
-#[cfg(test)]
-mod marks_tests;
-mod output;
-mod output_plays;
-mod pass;
-mod plays;
-mod pool;
-mod rule;
-mod seats;
+mod calls; // the public calls on a board, a file for each kind
+mod codes; // ownership words as numbers
+mod crossing; // boards are shared, passes cross to threads
+mod laws; // laws of the definitions, as contracts
+mod loan; // a buffer that is lent out
+mod pass; // what a thread acts on the board with
+mod plays; // the kinds of step, as the rule of the table sees them
+mod rule; // the rule of the table
+mod steps; // the single steps on the other words
 #[cfg(test)]
 mod tests;
-mod tried;
-mod view;
-mod witness;
-mod words;
+mod tried; // how one try ended
+mod view; // what a pass is about
+mod witness; // what a pass shows of the history
+mod words; // the board, and the single steps on a place
 
 pub use crossing::{board_is_shared, tokens_cross};
 pub use gentl_types::{State, Word};

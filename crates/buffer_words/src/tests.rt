@@ -3,6 +3,8 @@ ghost use Rattle.gev_types.specs.Limits.{place_count};
 ghost use Rattle.buffer_words.specs.Boards.{board_id};
 ghost use Rattle.buffer_words.specs.Passes.{IsEmptyHanded};
 
+mod marks;
+
 use super::*;
 use board_machine::TakeEnd;
 use gentl_types::{BufferId, GcError, State, Word};

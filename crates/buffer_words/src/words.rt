@@ -21,7 +21,7 @@ use std::alloc::Global;
 use std::marker::Brand;
 
 /// A pass without the order of its slots.
-pub type Seat = atomic_table::Seat<Option<Buf>, View>;
+pub(crate) type Seat = atomic_table::Seat<Option<Buf>, View>;
 
 /// The board that threads share.
 #[derive(Drop)]

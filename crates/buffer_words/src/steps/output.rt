@@ -8,8 +8,8 @@ ghost use Rattle.buffer_words.specs.Plays.{IsIdle, HoldsBuffer, LooksAt};
 ghost use Rattle.buffer_words.specs.Swept.{TakesAll};
 ghost use Rattle.buffer_words.specs.Output.{AreFields, HasFields, IsMarked, ReadsOut, TakesOut, first_in, IsUnit, HasLast, RefusesFill, FillsOut};
 
-use crate::output_plays::{CloseOut, Fill, LookOut, SeeFirst, SeeMark, SweepOut, TakeFirst};
 use crate::plays::Asked;
+use crate::plays::output::{CloseOut, Fill, LookOut, SeeFirst, SeeMark, SweepOut, TakeFirst};
 use crate::words::{Board, Seat};
 use arrayvec::ArrayVec;
 

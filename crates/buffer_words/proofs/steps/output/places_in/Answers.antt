@@ -1,6 +1,6 @@
 use Rattle.std.proofs.Common.{arith, subst, sym, List, ℕ, ◌/◌}
 use Rattle.buffer_words.proofs.Fields.{Reading, reading_first, reading_next, reading_done}
-use Rattle.buffer_words.proofs.output.places_in.Goals as goal
+use Rattle.buffer_words.proofs.steps.output.places_in.Goals as goal
 
 pub loop-rest-init : goal.loop-rest-init
 loop-rest-init c = subst (λ (xs : List ℕ). Reading c.args.number c.args.number xs) (sym c.new-places.ensures) (reading_first _ c.requires.fields)

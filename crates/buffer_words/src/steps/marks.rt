@@ -5,7 +5,7 @@ ghost use Rattle.buffer_words.specs.Boards.{board_id};
 ghost use Rattle.buffer_words.specs.Plays.{IsIdle, LooksAt};
 ghost use Rattle.buffer_words.specs.Marks.{stopped_run};
 
-use crate::mark_plays::{LookRun, Post, Start, Stop, Unpost};
+use crate::plays::marks::{LookRun, Post, Start, Stop, Unpost};
 use crate::words::{Board, Seat};
 
 /// The words of the kill mark and of the run word in the table.

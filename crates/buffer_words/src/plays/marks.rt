@@ -5,31 +5,31 @@ use crate::view::View;
 use atomic_table::Play;
 use gev_types::Buf;
 
-pub struct LookRun;
+pub(crate) struct LookRun;
 
 impl Play<Option<Buf>, View> for LookRun {
     ghost then = { looked_run };
 }
 
-pub struct Start;
+pub(crate) struct Start;
 
 impl Play<Option<Buf>, View> for Start {
     ghost then = { started };
 }
 
-pub struct Stop;
+pub(crate) struct Stop;
 
 impl Play<Option<Buf>, View> for Stop {
     ghost then = { stopped };
 }
 
-pub struct Post;
+pub(crate) struct Post;
 
 impl Play<Option<Buf>, View> for Post {
     ghost then = { posted };
 }
 
-pub struct Unpost;
+pub(crate) struct Unpost;
 
 impl Play<Option<Buf>, View> for Unpost {
     ghost then = { unposted };

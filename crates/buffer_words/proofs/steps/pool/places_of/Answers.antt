@@ -1,8 +1,8 @@
 use Rattle.std.proofs.Common.{rules, arith, subst, sym, ap, ◌∙◌, ◌+◌, ◌≡◌, List, ℕ}
 use Rattle.arrayvec.specs.ArrayVec.{ArrayVec, array_vec_len}
 use Rattle.buffer_words.proofs.Bits.{HasBits, bits_none, bits_set, bits_clear, bits_all}
-use Rattle.buffer_words.proofs.pool.places_of.Goals as goal
-use Rattle.buffer_words.proofs.pool.places_of.Goals.{then-number-place-eq1, else-number-place-eq1}
+use Rattle.buffer_words.proofs.steps.pool.places_of.Goals as goal
+use Rattle.buffer_words.proofs.steps.pool.places_of.Goals.{then-number-place-eq1, else-number-place-eq1}
 
 pub loop-place-init : goal.loop-place-init
 loop-place-init c = (search rules, subst (λ (xs : List ℕ). HasBits c.args.number 0 xs) (sym c.new-places.ensures) (bits_none c.args.number))

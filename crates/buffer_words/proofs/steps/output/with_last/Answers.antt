@@ -2,7 +2,7 @@ use Rattle.std.proofs.Common.{arith, ◌+◌, ◌*◌, ◌≤◌, ℕ, sym, subs
 use Rattle.std.proofs.lemmas.Nat.{mul-le}
 use Rattle.buffer_words.specs.Output.{HasLast}
 use Rattle.buffer_words.proofs.Fields.{unit_bound, has_last}
-use Rattle.buffer_words.proofs.output.with_last.Goals as goal
+use Rattle.buffer_words.proofs.steps.output.with_last.Goals as goal
 
 pub overflow_mul-result : goal.overflow_mul-result
 overflow_mul-result c =

@@ -8,9 +8,9 @@ ghost use Rattle.buffer_words.specs.Tries.{IfDid, IfLost, LostTo};
 ghost use Rattle.buffer_words.specs.Output.{SeesOut};
 ghost use Rattle.buffer_words.specs.Handing.{HandsOne, DidFill};
 
-use crate::calls_claim::take_on;
-use crate::output::{first_place, is_marked};
+use crate::calls::claim::take_on;
 use crate::pass::{Pass, bring};
+use crate::steps::output::{first_place, is_marked};
 use crate::tried::Tried;
 use crate::words::Board;
 use arrayvec::ArrayVec;

@@ -7,43 +7,43 @@ use atomic_table::Play;
 use gev_types::Buf;
 use std::marker::PhantomData;
 
-pub struct LookOut;
+pub(crate) struct LookOut;
 
 impl Play<Option<Buf>, View> for LookOut {
     ghost then = { looked_out };
 }
 
-pub struct CloseOut;
+pub(crate) struct CloseOut;
 
 impl Play<Option<Buf>, View> for CloseOut {
     ghost then = { closed_out };
 }
 
-pub struct SweepOut;
+pub(crate) struct SweepOut;
 
 impl Play<Option<Buf>, View> for SweepOut {
     ghost then = { swept_out };
 }
 
-pub struct SeeFirst;
+pub(crate) struct SeeFirst;
 
 impl Play<Option<Buf>, View> for SeeFirst {
     ghost then = { saw_first };
 }
 
-pub struct TakeFirst;
+pub(crate) struct TakeFirst;
 
 impl Play<Option<Buf>, View> for TakeFirst {
     ghost then = { took };
 }
 
-pub struct SeeMark<J: Asked>(PhantomData<J>);
+pub(crate) struct SeeMark<J: Asked>(PhantomData<J>);
 
 impl<J: Asked> Play<Option<Buf>, View> for SeeMark<J> {
     ghost then = { saw_mark J.number };
 }
 
-pub struct Fill<J: Asked>(PhantomData<J>);
+pub(crate) struct Fill<J: Asked>(PhantomData<J>);
 
 impl<J: Asked> Play<Option<Buf>, View> for Fill<J> {
     ghost then = { filled J.number };
