@@ -13,20 +13,20 @@ use Rattle.script_runs.specs.Verdicts.{goes_on, ends, bad}
 use Rattle.camera_trace.specs.Serving.{Serving, Part, local_peer, Does}
 use Rattle.camera_trace.specs.Standing.{Standing, first, running, later_kind, first_verdict, last_or_not, later_verdict, camera_verdict, IsBehind, RunsLater, CameraRuns, CameraRefuses}
 use Rattle.camera_trace.specs.Laws.{LinesAreJudged}
-use Rattle.camera_trace.proofs.Few.{IsFew, few_looked, few_commanded, few_framed}
+use Rattle.camera_machine.proofs.FrameCounts.{Counts, counts_looked, counts_commanded, counts_framed}
 
 -- ---- few frames
 
 few_more : (n : ℕ) (m : ℕ) → m ≤ n → m ≤ n + 1
 few_more n m h = omega (arith, h)
 
-few_does : (n : ℕ) (s : Serving) (l : ScriptLine) (part : Part) → IsFew n s.camera → Does s l part → IsFew (n + 1) part.serving.camera
+few_does : (n : ℕ) (s : Serving) (l : ScriptLine) (part : Part) → Counts n s.camera → Does s l part → Counts (n + 1) part.serving.camera
 few_does n s (line.tick moment) part h is =
-    subst (λ (p : Part). IsFew (n + 1) p.serving.camera) (sym is) (few_looked (n + 1) s.camera (max s.moment moment) (few_more n s.camera.shelf.count h))
+    subst (λ (p : Part). Counts (n + 1) p.serving.camera) (sym is) (counts_looked (n + 1) s.camera (max s.moment moment) (few_more n s.camera.shelf.count h))
 few_does n s (line.command port digits) part h (bytes, decoded, is) =
-    subst (λ (p : Part). IsFew (n + 1) p.serving.camera) (sym is)
-    (few_commanded (n + 1) s.camera (local_peer port) bytes s.moment (few_more n s.camera.shelf.count h))
-few_does n s line.frame part h is = subst (λ (p : Part). IsFew (n + 1) p.serving.camera) (sym is) (few_framed n s.camera h)
+    subst (λ (p : Part). Counts (n + 1) p.serving.camera) (sym is)
+    (counts_commanded (n + 1) s.camera (local_peer port) bytes s.moment (few_more n s.camera.shelf.count h))
+few_does n s line.frame part h is = subst (λ (p : Part). Counts (n + 1) p.serving.camera) (sym is) (counts_framed s.camera n h)
 few_does n s _ part h is = absurd is
 
 behind_later : (n : ℕ) (s : Serving) (text report : List ℕ) (new : Standing) → IsBehind (running s) n → RunsLater s text report new → IsBehind new (n + 1)

@@ -1,4 +1,3 @@
-pub mod Few
 pub mod InPlace
 pub mod Judging
 pub mod OneReport

@@ -1,16 +1,14 @@
 -- The client and the camera of a schedule by themselves, and what the camera's past says of it.
-use Rattle.std.proofs.Common.{◌≡◌, ℕ, Bool, true, false, List, [], ◌∷◌, Option, Some, None, refl, ap, sym, ◌∙◌}
-use Rattle.std.specs.Prelude.{if◌then◌else◌}
+use Rattle.std.proofs.Common.{◌≡◌, ℕ, List, [], ◌∷◌, Option, Some, None, refl, ap, sym, ◌∙◌}
 use Rattle.gev_types.specs.declared.frame.Shape.{Shape}
 use Rattle.bootstrap_regs.specs.Changes as changes
-use Rattle.bootstrap_regs.specs.Changes.{Change}
 use Rattle.client_machine.specs.Machine.{Client}
 use Rattle.client_machine.specs.Events as clients
-use Rattle.camera_machine.specs.Camera.{Camera, is_open, has_lost, new_camera}
-use Rattle.camera_machine.specs.Stream.{next_frame}
+use Rattle.camera_machine.specs.Camera.{Camera, new_camera}
 use Rattle.camera_machine.specs.Commands.{Execution, commanded}
 use Rattle.camera_machine.specs.Events as cameras
-use Rattle.camera_machine.specs.Events.{Deed, changed, made, with_execution, with_changes, with_look, past_with, past}
+use Rattle.camera_machine.specs.Events.{Deed, with_execution, with_changes, with_look, past_with, past}
+use Rattle.camera_machine.proofs.Deeds.{on_changes, on_look, on_frame}
 use Rattle.control_session.specs.Schedule.{Act, at_client, at_camera, new_line, execution_of, with_last, after, client_events, camera_events}
 use Rattle.control_session.specs.Laws.{executions_in, AreApart}
 
@@ -29,16 +27,9 @@ camera_apart seed shape room (at_camera e ∷ rest) = ap (λ (s : Camera). camer
 
 -- ---- what was executed
 
-in_changes : (cs : List Change) (ds : List Deed) → executions_in (with_changes cs ds) ≡ executions_in ds
-in_changes [] ds = refl
-in_changes (c ∷ cs) ds = in_changes cs ds
-
-in_look : (s : Camera) (moment : ℕ) (ds : List Deed) → executions_in (with_look s moment ds) ≡ executions_in ds
-in_look s moment ds = go (has_lost s moment)
-  where
-    go : (b : Bool) → executions_in (if b then changed changes.released ∷ ds else ds) ≡ executions_in ds
-    go true = refl
-    go false = refl
+-- what adds no execution
+abbrev Executes : List Execution → List Deed → Type 0
+Executes xs ds = executions_in ds ≡ xs
 
 in_execution : (o : Option Execution) (ds : List Deed) → executions_in (with_execution o ds) ≡ with_last (executions_in ds) o
 in_execution None ds = refl
@@ -49,13 +40,10 @@ in_past : (s : Camera) (e : cameras.Event) (ds : List Deed) → executions_in (p
 in_past s (cameras.command peer bytes moment) ds =
     in_execution (commanded s peer bytes moment).execution (with_changes (commanded s peer bytes moment).changes (with_look s moment ds))
     ∙ ap (λ (xs : List Execution). with_last xs (commanded s peer bytes moment).execution)
-    (in_changes (commanded s peer bytes moment).changes (with_look s moment ds) ∙ in_look s moment ds)
-in_past s (cameras.tick moment) ds = in_look s moment ds
-in_past s cameras.make_frame ds = go (is_open s)
-  where
-    go : (b : Bool) → executions_in (if b then made (next_frame s) ∷ ds else ds) ≡ executions_in ds
-    go true = refl
-    go false = refl
+    (on_changes (Executes (executions_in ds)) (λ c xs h. h) (commanded s peer bytes moment).changes (with_look s moment ds)
+    (on_look (Executes (executions_in ds)) (λ xs h. h) s moment ds refl))
+in_past s (cameras.tick moment) ds = on_look (Executes (executions_in ds)) (λ xs h. h) s moment ds refl
+in_past s cameras.make_frame ds = on_frame (Executes (executions_in ds)) s ds refl refl
 in_past s cameras.next_packet ds = refl
 in_past s (cameras.set_short short) ds = refl
 

@@ -18,7 +18,8 @@ use Rattle.control_session.specs.Sessions.{Sessions, all_changed_by, joined, exe
 use Rattle.control_session.specs.Schedule.{with_last, IsNoAccess}
 use Rattle.control_session.proofs.Lists.{At, at_below, at_same, at_more}
 use Rattle.control_session.proofs.Clients.{IsNumbered}
-use Rattle.control_session.proofs.Sessions.{is_peer-refl, FitsAs, Fits, executes, IsLater, fits_looked, fits_acts, fits_quiet}
+use Rattle.camera_machine.proofs.Walk.{executes}
+use Rattle.control_session.proofs.Sessions.{is_peer-refl, FitsAs, Fits, IsLater, fits_looked, fits_acts, fits_quiet}
 use Rattle.control_session.proofs.Acks.{low_status, status_read, req_read, IsForeign, QuietAck, no_ack, kept_ack, foreign_ack}
 use Rattle.control_session.proofs.Turns.{IsQuiet, Acts, Turn, client_turn, primary_renewed, is_primary_renewed, other_turn}
 
@@ -227,4 +228,4 @@ pub effect_other : (peer : Peer) (subs : List (List ℕ)) (executed : List Execu
     → Effect peer subs executed (is_primary (looked s moment).holder from) bytes (after_look s moment z) (commanded s from bytes moment)
 effect_other peer subs executed from bytes s z moment n f k =
     effect_quiet peer subs executed (is_primary (looked s moment).holder from) bytes (looked s moment) (after_look s moment z) (commanded s from bytes moment)
-    (fits_looked peer subs s moment z f) (kept_looked subs executed s moment k) (other_turn (looked s moment) from bytes moment (command_reading bytes) n)
+    (fits_looked peer subs s moment z f) (kept_looked subs executed s moment k) (other_turn (looked s moment) from bytes moment n)

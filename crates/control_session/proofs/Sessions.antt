@@ -1,24 +1,18 @@
 -- What a camera keeps fits the session that lasts: its members were submitted in order, the kept command last.
-use Rattle.std.proofs.Common.{◌≡◌, ℕ, suc, ◌<◌, Bool, true, false, List, [], ◌∷◌, ◌++◌, length, Option, Some, None, Result, Ok, Err, refl, ap, arith}
-use Rattle.std.specs.Prelude.{◌/◌, ◌%◌, ◌==◌, ◌&&◌, if◌then◌else◌, All}
+use Rattle.std.proofs.Common.{◌≡◌, ℕ, suc, ◌<◌, Bool, true, false, List, [], ◌∷◌, ◌++◌, Option, Some, None, refl, arith}
+use Rattle.std.specs.Prelude.{if◌then◌else◌, All}
 use Rattle.std.proofs.lemmas.Bool.{eq-eqb}
 use Rattle.std.proofs.lemmas.List.Elements.{All-cons, All-weaker}
 use Rattle.gev_types.specs.declared.peer.Peer.{Peer}
 use Rattle.gvcp_wire.specs.declared.message.CommandHead.{CommandHead}
-use Rattle.gvcp_wire.specs.declared.status.Status.{Status}
-use Rattle.gvcp_wire.specs.declared.status.Status.TheVariants.{Success, InvalidParameter, BadAlignment}
-use Rattle.gvcp_wire.specs.Messages.{PlainCommand, read_reg, write_reg, read_mem, write_mem, other}
-use Rattle.wire_fields.specs.Fields.{spelled}
-use Rattle.bootstrap_regs.specs.Addresses.{CCP, SCP0}
-use Rattle.bootstrap_regs.specs.Words.{with_word}
+use Rattle.gvcp_wire.specs.Messages.{PlainCommand}
 use Rattle.bootstrap_regs.specs.Changes as changes
-use Rattle.bootstrap_regs.specs.Changes.{Change}
 use Rattle.control_privilege.specs.declared.holder.Holder.{Holder}
-use Rattle.control_privilege.specs.Control.{is_peer, is_primary, primary_of, granted}
-use Rattle.camera_machine.specs.Words.{addresses_from}
+use Rattle.control_privilege.specs.Control.{is_peer, is_primary, primary_of}
 use Rattle.camera_machine.specs.Camera.{Kept, Camera, has_lost, released, looked}
-use Rattle.camera_machine.specs.Access.{Write, refusal_of, with_port, written, change_of, write_all, ended_by, after_one, read_all, addresses_in, pairs_in, words_in}
-use Rattle.camera_machine.specs.Commands.{Executed, answered, read_answer, write_answer, read_memory, is_memory_size, kept_of, finished}
+use Rattle.camera_machine.specs.Access.{Write, written, change_of}
+use Rattle.camera_machine.specs.Commands.{Executed, kept_of, finished}
+use Rattle.camera_machine.proofs.Walk.{written_is, writes_keep, writes_in, executes, executes_is}
 use Rattle.control_session.specs.Sessions.{Sessions, with_ended, closed, begun, changed_by, all_changed_by, joined, after_look}
 use Rattle.control_session.proofs.Lists.{At, Within, within_more, within_push, at_more}
 
@@ -124,78 +118,19 @@ runs_begun peer subs place (Some p) kept (x ∷ xs) bytes at m = record { peer_i
 
 mid_written : (peer : Peer) (subs : List (List ℕ)) (place : ℕ) (bytes : List ℕ) (s : Camera) (z : Sessions) (moment : ℕ) (w : Write) → At subs place bytes
     → Mid peer subs (suc place) s z → Mid peer subs (suc place) (written s peer moment w) (changed_by bytes (change_of w) z)
-mid_written peer subs place bytes s z moment w at m = go (w.address == CCP) refl (w.value == 0) refl (w.address == SCP0)
-  where
-    go : (c : Bool) → (w.address == CCP) ≡ c → (v : Bool) → (w.value == 0) ≡ v → (p : Bool)
-        → Mid peer subs (suc place)
-        (if c then (if v then released s else record s { words = with_word s.words CCP w.value; holder = granted peer w.value moment })
-        else (if p then with_port s w.value else record s { words = with_word s.words w.address w.value }))
-        (changed_by bytes (if c && v then changes.released else changes.written w.address w.value) z)
-    go true c true v p = mid_released peer subs (suc place) s z m
-    go true c false v p = rw (c, v) (record {
-      ended = m.ended;
-      state = runs_begun peer subs place (primary_of s.holder) s.kept z.running bytes at m.state;
-    })
-    go false c v e true = rw c (record { ended = m.ended; state = m.state })
-    go false c v e false = rw c (record { ended = m.ended; state = m.state })
-
-all_changed-push : (bytes : List ℕ) (cs : List Change) (c : Change) (z : Sessions)
-    → all_changed_by bytes (cs ++ c ∷ []) z ≡ all_changed_by bytes cs (changed_by bytes c z)
-all_changed-push bytes [] c z = refl
-all_changed-push bytes (d ∷ cs) c z = ap (changed_by bytes d) (all_changed-push bytes cs c z)
-
-mid_all : (peer : Peer) (subs : List (List ℕ)) (place : ℕ) (bytes : List ℕ) (s : Camera) (z : Sessions) (moment : ℕ) (ws : List Write) → At subs place bytes
-    → Mid peer subs (suc place) s z
-    → Mid peer subs (suc place) (write_all s peer moment ws).camera (all_changed_by bytes (write_all s peer moment ws).changes z)
-mid_all peer subs place bytes s z moment [] at m = m
-mid_all peer subs place bytes s z moment (w ∷ ws) at m =
-    go (refusal_of s peer w)
-    (mid_all peer subs place bytes (written s peer moment w) (changed_by bytes (change_of w) z) moment ws at (mid_written peer subs place bytes s z moment w at m))
-  where
-    go : (r : Option Status)
-        → Mid peer subs (suc place) (write_all (written s peer moment w) peer moment ws).camera
-        (all_changed_by bytes (write_all (written s peer moment w) peer moment ws).changes (changed_by bytes (change_of w) z))
-        → Mid peer subs (suc place) (ended_by r s (after_one w (write_all (written s peer moment w) peer moment ws))).camera
-        (all_changed_by bytes (ended_by r s (after_one w (write_all (written s peer moment w) peer moment ws))).changes z)
-    go None f = rw (all_changed-push bytes (write_all (written s peer moment w) peer moment ws).changes (change_of w) z) f
-    go (Some status) f = m
+mid_written peer subs place bytes s z moment w at m =
+    written_is (λ t c. Mid peer subs (suc place) t (changed_by bytes c z)) s peer moment w (λ here. mid_released peer subs (suc place) s z m)
+    (λ here v. rw v (record { ended = m.ended; state = runs_begun peer subs place (primary_of s.holder) s.kept z.running bytes at m.state }))
+    (record { ended = m.ended; state = m.state }) (λ c q. rw c (record { ended = m.ended; state = m.state }))
 
 -- ---- commands
 
--- what executing a register or memory command leaves; any other leaves all as it is
-abbrev pub executes : Camera → Peer → ℕ → PlainCommand → Executed
-executes s peer moment (read_reg addresses) = read_answer s [] (read_all s peer (addresses_in (length addresses / 4) addresses))
-executes s peer moment (write_reg pairs) = write_answer 1 (write_all s peer moment (pairs_in (length pairs / 8) pairs))
-executes s peer moment (read_mem address count) = read_memory s peer address count
-executes s peer moment (write_mem address data_bytes) = write_answer 4 (write_all s peer moment (words_in (length data_bytes / 4) address data_bytes))
-executes s peer moment (other code body) = answered s Success []
-
-abbrev MidIn : Peer → List (List ℕ) → ℕ → List ℕ → Sessions → Executed → Type 0
-MidIn peer subs hi bytes z e = Mid peer subs hi e.camera (all_changed_by bytes e.changes z)
-
-mid_read : (peer : Peer) (subs : List (List ℕ)) (hi : ℕ) (bytes : List ℕ) (s : Camera) (z : Sessions) (front : List ℕ) (r : Result (List ℕ) Status)
-    → Mid peer subs hi s z → MidIn peer subs hi bytes z (read_answer s front r)
-mid_read peer subs hi bytes s z front (Ok values) m = m
-mid_read peer subs hi bytes s z front (Err status) m = m
-
-mid_memory : (peer : Peer) (subs : List (List ℕ)) (hi : ℕ) (bytes : List ℕ) (s : Camera) (z : Sessions) (address count : ℕ)
-    → Mid peer subs hi s z → MidIn peer subs hi bytes z (read_memory s peer address count)
-mid_memory peer subs hi bytes s z address count m = go (address % 4 == 0) (is_memory_size count)
-  where
-    go : (a b : Bool) → MidIn peer subs hi bytes z (if a then (if b then read_answer s (spelled ((4, address) ∷ [])) (read_all s peer (addresses_from (count / 4) address)) else answered s InvalidParameter []) else answered s BadAlignment [])
-    go true true = mid_read peer subs hi bytes s z (spelled ((4, address) ∷ [])) (read_all s peer (addresses_from (count / 4) address)) m
-    go true false = m
-    go false b = m
-
 mid_executes : (peer : Peer) (subs : List (List ℕ)) (place : ℕ) (bytes : List ℕ) (s : Camera) (z : Sessions) (moment : ℕ) (c : PlainCommand) → At subs place bytes
-    → Mid peer subs (suc place) s z → MidIn peer subs (suc place) bytes z (executes s peer moment c)
-mid_executes peer subs place bytes s z moment (read_reg addresses) at m =
-    mid_read peer subs (suc place) bytes s z [] (read_all s peer (addresses_in (length addresses / 4) addresses)) m
-mid_executes peer subs place bytes s z moment (write_reg pairs) at m = mid_all peer subs place bytes s z moment (pairs_in (length pairs / 8) pairs) at m
-mid_executes peer subs place bytes s z moment (read_mem address count) at m = mid_memory peer subs (suc place) bytes s z address count m
-mid_executes peer subs place bytes s z moment (write_mem address data_bytes) at m =
-    mid_all peer subs place bytes s z moment (words_in (length data_bytes / 4) address data_bytes) at m
-mid_executes peer subs place bytes s z moment (other code body) at m = m
+    → Mid peer subs (suc place) s z → Mid peer subs (suc place) (executes s peer moment c).camera (all_changed_by bytes (executes s peer moment c).changes z)
+mid_executes peer subs place bytes s z moment c at m =
+    executes_is (λ e. Mid peer subs (suc place) e.camera (all_changed_by bytes e.changes z)) s peer moment c (λ status body. m)
+    (λ each. writes_keep (λ t cs. Mid peer subs (suc place) t (all_changed_by bytes cs z)) peer moment
+    (λ t cs w e. mid_written peer subs place bytes t (all_changed_by bytes cs z) moment w at) s (writes_in c) m)
 
 -- the command is kept where the client has control after it
 fits_kept : (peer : Peer) (subs : List (List ℕ)) (place : ℕ) (k : Kept) (holder : Option Holder) (kept : Option Kept) (running : List (List ℕ))

@@ -1,19 +1,14 @@
 -- A camera whose commands leave the packet size sends each frame in payloads of 1452 bytes.
-use Rattle.std.proofs.Common.{◌≡◌, ℕ, suc, ◌≤◌, Bool, true, false, List, [], ◌∷◌, length, Option, Some, None, Result, Ok, Err, refl, sym, ap, ◌∙◌, arith, length-append}
-use Rattle.std.specs.Prelude.{◌/◌, ◌%◌, ◌-◌, ◌^◌, ◌==◌, ◌&&◌, if◌then◌else◌, IfSome}
+use Rattle.std.proofs.Common.{◌≡◌, ℕ, suc, ◌≤◌, Bool, true, false, List, [], ◌∷◌, length, Option, Some, None, Ok, refl, sym, subst, ap, ◌∙◌, arith, length-append}
+use Rattle.std.specs.Prelude.{◌%◌, ◌-◌, ◌^◌, ◌==◌, ◌&&◌, if◌then◌else◌, IfSome}
 use Rattle.std.specs.List.{AllByRecursion}
 use Rattle.std.proofs.lemmas.Bool.{eqb-true, le-leb}
 use Rattle.gev_types.specs.declared.frame.Frame.{Frame}
 use Rattle.gev_types.specs.declared.peer.Peer.{Peer}
 use Rattle.stream_packets.specs.Packets.{StreamPacket, leader, payload, trailer, notice, head_of}
 use Rattle.stream_packets.specs.Sent.{CarriesFrame, IsSent}
-use Rattle.wire_fields.specs.Fields.{spelled}
-use Rattle.gvcp_wire.specs.Codes.{PACKETRESEND_CMD, DISCOVERY_CMD}
 use Rattle.gvcp_wire.specs.declared.message.CommandHead.{CommandHead}
-use Rattle.gvcp_wire.specs.declared.message.ControlError.{ControlError}
-use Rattle.gvcp_wire.specs.declared.message.ControlError.TheVariants.{Short, Key, ZeroReq, Length, Form}
 use Rattle.gvcp_wire.specs.declared.status.Status.{Status}
-use Rattle.gvcp_wire.specs.declared.status.Status.TheVariants.{InvalidParameter, BadAlignment}
 use Rattle.gvcp_wire.specs.Messages.{PlainCommand, read_reg, write_reg, read_mem, write_mem, other}
 use Rattle.gvcp_wire.specs.Reading.{command_reading}
 use Rattle.bootstrap_regs.specs.Addresses.{CCP, SCP0, SCPS0}
@@ -21,15 +16,15 @@ use Rattle.bootstrap_regs.specs.Registers.{register_at}
 use Rattle.bootstrap_regs.specs.Words.{word_at}
 use Rattle.bootstrap_regs.specs.Changes as changes
 use Rattle.bootstrap_regs.specs.Changes.{Change, value_after}
-use Rattle.control_privilege.specs.Control.{is_primary}
 use Rattle.acquisition_machine.proofs.Order.{all_append}
-use Rattle.camera_machine.specs.Words.{addresses_from}
-use Rattle.camera_machine.specs.Camera.{Camera, Kept, new_camera, is_open, has_lost, looked}
+use Rattle.camera_machine.specs.Camera.{Camera, new_camera, looked}
 use Rattle.camera_machine.specs.Stream.{first_waiting, next_frame}
-use Rattle.camera_machine.specs.Access.{Write, change_of, refusal_of, written, write_all, ended_by, after_one, read_all, addresses_in}
-use Rattle.camera_machine.specs.Commands.{Execution, Answered, answered, read_answer, read_memory, is_memory_size, only_answered, silent, executed_as, from_primary, same_bytes, is_behind, is_access, resend_in, resent, obeyed, renewed, heard, commanded}
-use Rattle.camera_machine.specs.Events.{Event, command, tick, make_frame, next_packet, set_short, Deed, changed, made, with_changes, with_execution, with_look, past_with, after, past, changes_in, opens, frames_since_opening, frames_made, executed}
+use Rattle.camera_machine.specs.Access.{Write, change_of, refusal_of, written, write_all, ended_by, after_one}
+use Rattle.camera_machine.specs.Commands.{renewed, heard}
+use Rattle.camera_machine.specs.Events.{Event, command, tick, make_frame, next_packet, set_short, Deed, changed, made, with_changes, with_look, with_answer, past_with, after, past, changes_in, opens, frames_since_opening, frames_made, executed}
 use Rattle.camera_machine.specs.Sending.{HaveRows, HaveSize, asked_in, AskFromOne}
+use Rattle.camera_machine.proofs.Walk.{writes_in, executes, executes_is, heard_is}
+use Rattle.camera_machine.proofs.Deeds.{GoesOn, on_look, on_command, on_frame}
 use Rattle.camera_machine.proofs.Past.{state_says}
 use Rattle.camera_machine.proofs.Sending.{frames_are, packets_sent}
 use Rattle.world_machine.specs.State.{Run, image_shape, STORE_ROOM}
@@ -63,60 +58,17 @@ writes_leave s peer moment (w ∷ ws) h = go (refusal_of s peer w) (writes_leave
     go None k = all_append LeavesSize (write_all (written s peer moment w) peer moment ws).changes (change_of w ∷ []) k (change_leaves w h.0, tt)
     go (Some status) k = tt
 
-read_leaves : (s : Camera) (front : List ℕ) (r : Result (List ℕ) Status) → LeaveSize (read_answer s front r).changes
-read_leaves s front (Ok values) = tt
-read_leaves s front (Err status) = tt
-
-memory_leaves : (s : Camera) (peer : Peer) (address count : ℕ) → LeaveSize (read_memory s peer address count).changes
-memory_leaves s peer address count = go (address % 4 == 0) (is_memory_size count)
+-- the writes of a command that was read
+sizes_read : (bytes : List ℕ) (head : CommandHead) (c : PlainCommand) → command_reading bytes ≡ Ok (head, c) → ReadsSize (command_reading bytes)
+    → AllByRecursion KeepsSize (writes_in c)
+sizes_read bytes head c e h = go c (subst ReadsSize e h)
   where
-    go : (a b : Bool) → LeaveSize
-        (if a then (if b then read_answer s (spelled ((4, address) ∷ [])) (read_all s peer (addresses_from (count / 4) address)) else answered s InvalidParameter []) else answered s BadAlignment []).changes
-    go true true = read_leaves s (spelled ((4, address) ∷ [])) (read_all s peer (addresses_from (count / 4) address))
-    go true false = tt
-    go false b = tt
-
-leaves_if : (b : Bool) (x y : Answered) → LeaveSize x.changes → LeaveSize y.changes → LeaveSize (if b then x else y).changes
-leaves_if true x y h k = h
-leaves_if false x y h k = k
-
--- the writes of a command, if there is one
-abbrev SizeIn : Option PlainCommand → Type 0
-SizeIn None = Unit {0}
-SizeIn (Some c) = WritesSize c
-
-executed_leaves : (s : Camera) (peer : Peer) (bytes : List ℕ) (moment : ℕ) (head : CommandHead) (c : Option PlainCommand) → SizeIn c
-    → LeaveSize (executed_as s peer bytes moment head c).changes
-executed_leaves s peer bytes moment head None h = tt
-executed_leaves s peer bytes moment head (Some (read_reg addresses)) h = read_leaves s [] (read_all s peer (addresses_in (length addresses / 4) addresses))
-executed_leaves s peer bytes moment head (Some (write_reg pairs)) h = writes_leave s peer moment _ h
-executed_leaves s peer bytes moment head (Some (read_mem address count)) h = memory_leaves s peer address count
-executed_leaves s peer bytes moment head (Some (write_mem address data_bytes)) h = writes_leave s peer moment _ h
-executed_leaves s peer bytes moment head (Some (other code body)) h = leaves_if (head.code == DISCOVERY_CMD) _ _ tt tt
-
-primary_leaves : (kept : Option Kept) (s : Camera) (peer : Peer) (bytes : List ℕ) (moment : ℕ) (head : CommandHead) (c : Option PlainCommand) → SizeIn c
-    → LeaveSize (from_primary kept s peer bytes moment head c).changes
-primary_leaves None s peer bytes moment head c h = executed_leaves s peer bytes moment head c h
-primary_leaves (Some kept) s peer bytes moment head c h =
-    leaves_if (same_bytes bytes kept.bytes) (only_answered s kept.ack) (if is_behind kept.req head.req then silent s else executed_as s peer bytes moment head c) tt
-    (leaves_if (is_behind kept.req head.req) (silent s) (executed_as s peer bytes moment head c) tt (executed_leaves s peer bytes moment head c h))
-
-obeyed_leaves : (s : Camera) (peer : Peer) (bytes : List ℕ) (moment : ℕ) (head : CommandHead) (c : Option PlainCommand) → SizeIn c
-    → LeaveSize (obeyed s peer bytes moment head c).changes
-obeyed_leaves s peer bytes moment head c h =
-    leaves_if (head.code == PACKETRESEND_CMD) (silent (resent s peer (resend_in head c)))
-    (if is_access head.code && is_primary s.holder peer then from_primary s.kept s peer bytes moment head c else executed_as s peer bytes moment head c) tt
-    (leaves_if (is_access head.code && is_primary s.holder peer) (from_primary s.kept s peer bytes moment head c) (executed_as s peer bytes moment head c)
-    (primary_leaves s.kept s peer bytes moment head c h) (executed_leaves s peer bytes moment head c h))
-
-heard_leaves : (s : Camera) (peer : Peer) (bytes : List ℕ) (moment : ℕ) (r : Result (CommandHead × PlainCommand) ControlError) → ReadsSize r
-    → LeaveSize (heard s peer bytes moment r).changes
-heard_leaves s peer bytes moment (Ok x) h = obeyed_leaves (renewed s peer moment) peer bytes moment x.0 (Some x.1) h
-heard_leaves s peer bytes moment (Err (Form head)) h = obeyed_leaves (renewed s peer moment) peer bytes moment head None tt
-heard_leaves s peer bytes moment (Err (Short len)) h = tt
-heard_leaves s peer bytes moment (Err (Key key)) h = tt
-heard_leaves s peer bytes moment (Err ZeroReq) h = tt
-heard_leaves s peer bytes moment (Err (Length field real)) h = tt
+    go : (c : PlainCommand) → WritesSize c → AllByRecursion KeepsSize (writes_in c)
+    go (read_reg addresses) h = tt
+    go (write_reg pairs) h = h
+    go (read_mem address count) h = tt
+    go (write_mem address data_bytes) h = h
+    go (other code body) h = tt
 
 -- ---- what was done
 
@@ -140,16 +92,24 @@ size_changes : (cs : List Change) (ds : List Deed) → LeaveSize cs → HasSize 
 size_changes [] ds h k = k
 size_changes (c ∷ cs) ds h k = let rest = size_changes cs ds h.1 k in record { left = (h.0, rest.left); size = rest.size }
 
-size_execution : (o : Option Execution) (ds : List Deed) → HasSize ds → HasSize (with_execution o ds)
-size_execution None ds k = k
-size_execution (Some x) ds k = record { left = k.left; size = k.size }
-
 size_look : (s : Camera) (moment : ℕ) (ds : List Deed) → HasSize ds → HasSize (with_look s moment ds)
-size_look s moment ds k = go (has_lost s moment)
+size_look s moment ds = on_look HasSize (λ xs k. record { left = (tt, k.left); size = k.size }) s moment ds
+
+size_heard : (s : Camera) (peer : Peer) (bytes : List ℕ) (moment : ℕ) (ds : List Deed) → ReadsSize (command_reading bytes) → HasSize ds
+    → HasSize (with_answer (heard s peer bytes moment (command_reading bytes)) ds)
+size_heard s peer bytes moment ds sizes k =
+    heard_is (λ a. HasSize (with_answer a ds)) s peer bytes moment k (record {
+      replies = λ head ack is. k;
+      asks = λ r p e. k;
+      acts = λ head c e is.
+          let done : HasSize (with_changes (executes t peer moment c).changes ds) =
+          size_changes (executes t peer moment c).changes ds
+          (executes_is (λ x. LeaveSize x.changes) t peer moment c (λ status body. tt) (λ each. writes_leave t peer moment (writes_in c) (sizes_read bytes head c e sizes))) k in
+          record { left = done.left; size = done.size };
+    })
   where
-    go : (b : Bool) → HasSize (if b then changed changes.released ∷ ds else ds)
-    go true = record { left = (tt, k.left); size = k.size }
-    go false = k
+    t : Camera
+    t = renewed s peer moment
 
 value_is : (cs : List Change) → LeaveSize cs → value_after cs SCPS0 ≡ PACKET_SIZE
 unfolding register_at
@@ -174,16 +134,10 @@ size_step seed e es f before = go e f
     stands : word_at (after (new_camera seed image_shape STORE_ROOM) es).words SCPS0 ≡ PACKET_SIZE
     stands = (state_says seed image_shape STORE_ROOM es).words.values 833 (omega arith) ∙ value_is (changes_in ds) before.left
 
-    framed : (b : Bool) → HasSize (if b then made (next_frame s) ∷ ds else ds)
-    framed true = record { left = before.left; size = (ap (λ (n : ℕ). n % 2 ^ 16 - 48) stands, before.size) }
-    framed false = before
-
     go : (e : Event) → IsFineEvent e → HasSize (past_with s e ds)
-    go (command peer bytes moment) f =
-        size_execution (commanded s peer bytes moment).execution (with_changes (commanded s peer bytes moment).changes (with_look s moment ds))
-        (size_changes (commanded s peer bytes moment).changes (with_look s moment ds) (heard_leaves (looked s moment) peer bytes moment (command_reading bytes) f.1) (size_look s moment ds before))
+    go (command peer bytes moment) f = size_heard (looked s moment) peer bytes moment (with_look s moment ds) f.1 (size_look s moment ds before)
     go (tick moment) f = size_look s moment ds before
-    go make_frame f = framed (is_open s)
+    go make_frame f = on_frame HasSize s ds (record { left = before.left; size = (ap (λ (n : ℕ). n % 2 ^ 16 - 48) stands, before.size) }) before
     go next_packet f = before
     go (set_short short) f = before
 
@@ -235,24 +189,15 @@ few_changed n c ds h = record { low = h.low; few = go (opens c (value_after (cha
     go true = omega arith
     go false = h.few
 
-few_changes : (n : ℕ) (cs : List Change) (ds : List Deed) → HasFew n ds → HasFew n (with_changes cs ds)
-few_changes n [] ds h = h
-few_changes n (c ∷ cs) ds h = few_changed n c (with_changes cs ds) (few_changes n cs ds h)
-
-few_execution : (n : ℕ) (o : Option Execution) (ds : List Deed) → HasFew n ds → HasFew n (with_execution o ds)
-few_execution n None ds h = h
-few_execution n (Some x) ds h = record { low = h.low; few = h.few }
-
-few_look : (n : ℕ) (s : Camera) (moment : ℕ) (ds : List Deed) → HasFew n ds → HasFew n (with_look s moment ds)
-few_look n s moment ds h = go (has_lost s moment)
-  where
-    go : (b : Bool) → HasFew n (if b then changed changes.released ∷ ds else ds)
-    go true = few_changed n changes.released ds h
-    go false = h
+few_goes : (n : ℕ) → GoesOn (HasFew n)
+few_goes n = record { change = few_changed n; execution = λ x xs h. record { low = h.low; few = h.few } }
 
 few_made : (seed n : ℕ) (es : List Event) → HasFew n (past (new_camera seed image_shape STORE_ROOM) es)
     → HasFew (suc n) (past (new_camera seed image_shape STORE_ROOM) (make_frame ∷ es))
-few_made seed n es h = go (is_open s)
+few_made seed n es h = on_frame (HasFew (suc n)) s ds (record {
+  low = (next, low_more n (suc n) ds (omega arith) h.low);
+  few = let few = h.few in omega (arith, length-append (frames_since_opening ds) (next_frame s ∷ []));
+}) (record { low = low_more n (suc n) ds (omega arith) h.low; few = let few = h.few in omega arith })
   where
     s : Camera
     s = after (new_camera seed image_shape STORE_ROOM) es
@@ -266,23 +211,14 @@ few_made seed n es h = go (is_open s)
         let few = h.few in
         omega (arith, stands.count_is)
 
-    go : (b : Bool) → HasFew (suc n) (if b then made (next_frame s) ∷ ds else ds)
-    go true = record {
-      low = (next, low_more n (suc n) ds (omega arith) h.low);
-      few = let few = h.few in omega (arith, length-append (frames_since_opening ds) (next_frame s ∷ []));
-    }
-    go false = record { low = low_more n (suc n) ds (omega arith) h.low; few = let few = h.few in omega arith }
-
 few_past : (seed : ℕ) (es : List Event) → HasFew (frame_events es) (past (new_camera seed image_shape STORE_ROOM) es)
 few_past seed [] = record { low = tt; few = omega arith }
 few_past seed (command peer bytes moment ∷ es) =
-    let s = after (new_camera seed image_shape STORE_ROOM) es in
-    let ds = past (new_camera seed image_shape STORE_ROOM) es in
-    let a = commanded s peer bytes moment in
-    few_execution (frame_events es) a.execution (with_changes a.changes (with_look s moment ds))
-    (few_changes (frame_events es) a.changes (with_look s moment ds) (few_look (frame_events es) s moment ds (few_past seed es)))
+    on_command (HasFew (frame_events es)) (few_goes (frame_events es)) (after (new_camera seed image_shape STORE_ROOM) es) peer bytes moment
+    (past (new_camera seed image_shape STORE_ROOM) es) (few_past seed es)
 few_past seed (tick moment ∷ es) =
-    few_look (frame_events es) (after (new_camera seed image_shape STORE_ROOM) es) moment (past (new_camera seed image_shape STORE_ROOM) es) (few_past seed es)
+    on_look (HasFew (frame_events es)) (few_changed (frame_events es) changes.released) (after (new_camera seed image_shape STORE_ROOM) es) moment
+    (past (new_camera seed image_shape STORE_ROOM) es) (few_past seed es)
 few_past seed (make_frame ∷ es) = few_made seed (frame_events es) es (few_past seed es)
 few_past seed (next_packet ∷ es) = few_past seed es
 few_past seed (set_short short ∷ es) = few_past seed es
