@@ -2,7 +2,10 @@
 -- does to both.
 use Rattle.std.specs.Prelude.{◌≡◌, ◌≢◌, ⊤, ℕ, ◌<◌, Bool, if◌then◌else◌, List, [], ◌∷◌, ◌++◌, length, Option, None, Some, Result, OnOk, slice_set}
 use Rattle.gev_types.specs.declared.memory.NoMemory.{NoMemory}
+use Rattle.gev_script.specs.declared.act.Act.{Act}
 use Rattle.gev_report.specs.ReplayLines.{request_line}
+use Rattle.gev_report.specs.declared.step_text.StepText.{StepText}
+use Rattle.gev_report.specs.StepLine.{step_line}
 use Rattle.board_machine.specs.declared.events.Entry.{Entry}
 use Rattle.board_machine.specs.declared.events.Event.{Event}
 use Rattle.board_machine.specs.Machine.{Board, InHand, word_at}
@@ -27,6 +30,7 @@ use Rattle.script_trace.specs.Modes.{FillsInMode, place_of, handed_out}
 use Rattle.script_replay.specs.declared.fill_counts.FillCounts.{FillCounts}
 use Rattle.script_replay.specs.Boards.{IsLeftBy, IsReady, Acts}
 use Rattle.script_replay.specs.Counting.{with_fill, with_dropped, counted_in}
+use Rattle.script_replay.specs.Steps.{word_of}
 
 -- ---- the buffers of open blocks
 
@@ -68,6 +72,13 @@ pub record KeepsLifted (s new : PlainState) : Type 0 where
 -- hand out nothing. With each answer the board is ready for the next line, and what is lifted stays lifted.
 pub record CallsBoard (Line : Trace → Part → Type 0) (answer : Result ⊤ NoMemory) (s : PlainState) (said : List ℕ) (new : PlainState) : Type 0 where
   pub acts : OnOk answer (Acts Line caller 0 s said new)
+  pub ready : IsReady new
+  pub lifted : KeepsLifted s new
+
+-- A step of actor k was made, of which its line tells this: it adds acts that hand out so many buffers. The board is ready
+-- for the next line, and what is lifted stays lifted.
+pub record StepsBoard (Line : Trace → Part → Type 0) (k count : ℕ) (act : Act) (text : StepText) (s new : PlainState) : Type 0 where
+  pub acts : (said : List ℕ) → said ≡ step_line k (word_of act) text → Acts Line k count s said new
   pub ready : IsReady new
   pub lifted : KeepsLifted s new
 
