@@ -7,7 +7,7 @@ use Rattle.gev_types.specs.Filling.{Filling}
 use Rattle.board_machine.specs.declared.events.Entry.{Entry}
 use Rattle.board_machine.specs.declared.events.Event.{Event}
 use Rattle.gentl_types.specs.declared.word.Word.{Word}
-use Rattle.board_machine.specs.Machine.{Board, Item, item, IsActor, InHand, word_at, vacant}
+use Rattle.board_machine.specs.Machine.{Board, item, IsActor, InHand, word_at, vacant}
 use Rattle.board_machine.specs.Places.{tail}
 use Rattle.board_machine.specs.Adding.{entries_of, Adds, AddsOf}
 use Rattle.board_machine.specs.Histories.{RunsFrom}
@@ -41,7 +41,6 @@ use Rattle.script_trace.specs.StreamLines.{HeardAgain, Hears, outcome, told_twic
 use Rattle.script_replay.specs.declared.fill_counts.FillCounts.{FillCounts}
 use Rattle.script_replay.specs.Boards.{LiesAsTold, IsLeftBy, IsReady}
 use Rattle.script_replay.specs.Acquiring.{IsAway, AreApart, AreAway, IsAtRest, FillsAll, Settled, IsBehindTrace, DrivesAt, Drives, Claims}
-use Rattle.script_replay.specs.declared.got.Got.{Got}
 use Rattle.script_replay.specs.Telling.{claim_of, GaveWay, TellsClaim}
 use Rattle.script_replay.specs.Counting.{counted_claim, counted_in}
 use Rattle.script_replay.proofs.Counted.{counted-more, own_hands}

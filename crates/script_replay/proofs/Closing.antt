@@ -1,5 +1,8 @@
 -- What a `close` line does, as a line of its trace.
-use Rattle.std.proofs.Common.{◌≡◌, ℕ, Bool, true, false, List, [], codes, Some, Result, Ok, Err, MatchResult, IsOkAnd, refl, sym, ap, subst, ◌∙◌}
+use Rattle.std.specs.Prelude.{⊤}
+use Rattle.std.proofs.Common.{◌≡◌, ℕ, Bool, true, false, List, [], codes, Some, Result, Ok, Err, MatchResult, OnOk, IsOkAnd, refl, sym, ap, subst, ◌∙◌}
+use Rattle.std.proofs.lemmas.Result.{on_ok_weaker}
+use Rattle.gev_types.specs.declared.memory.NoMemory.{NoMemory}
 use Rattle.gentl_types.specs.declared.errors.GcError.{GcError}
 use Rattle.gentl_handles.specs.Handles.{Handles}
 use Rattle.gentl_handles.specs.Closing.{closing, without_closed, is_among}
@@ -10,10 +13,13 @@ use Rattle.board_model.specs.Plain.{PlainState}
 use Rattle.script_trace.specs.Trace.{Trace, Part, acts, caller}
 use Rattle.script_trace.specs.Answers.{done_text, refused_text}
 use Rattle.script_trace.specs.HandleLines.{CloseLine, ClosesHandle, ClosesStream, handles_are, left_open}
-use Rattle.script_replay.specs.Boards.{Acts}
+use Rattle.script_replay.specs.Boards.{IsReady, Acts}
+use Rattle.script_replay.specs.Acquiring.{CallsBoard}
 use Rattle.script_replay.specs.Closes.{ClosesUnder, ClosesIf}
 use Rattle.script_replay.proofs.Quiet.{close_quiet}
-use Rattle.script_replay.proofs.Lines.{quiet_acts, silent_as, caller_apart}
+use Rattle.script_replay.proofs.Lines.{silent_as, caller_apart}
+use Rattle.script_replay.proofs.Resting.{lifted_same}
+use Rattle.script_replay.proofs.Calling.{quiet_calls}
 
 -- a part, with other handles open after it
 abbrev pub with_handles : Handles → Part → Part
@@ -59,12 +65,17 @@ refused_close s handles serial error said refused text t same left =
       left = a.left;
     }
 
-pub board_closes : (s new : PlainState) (said : List ℕ) → AddsOf s.board 0 Closes new.board → new.contents ≡ s.contents → said ≡ done_text (codes "close") → Acts (λ t. ClosesIf t true) 0 0 s said new
-board_closes s new said called same text =
-    quiet_acts s new 0 Closes (λ t. ClosesIf t true) (done_text (codes "close")) said caller_apart close_quiet (λ t es kind. (es, kind, refl)) called same text
+pub board_closes : (report : Result ⊤ NoMemory) (s new : PlainState) (said : List ℕ) → AddsOf s.board 0 Closes new.board → new.contents ≡ s.contents → IsReady s → OnOk report (said ≡ done_text (codes "close"))
+    → CallsBoard (λ t. ClosesIf t true) report s said new
+board_closes report s new said called same ready told =
+    quiet_calls report s new Closes (λ t. ClosesIf t true) (done_text (codes "close")) said close_quiet (λ t es kind. (es, kind, refl)) ready called same told
 
-pub board_stays : (s : PlainState) (said : List ℕ) → said ≡ done_text (codes "close") → Acts (λ t. ClosesIf t false) 0 0 s said s
-board_stays s said text t left = silent_as s 0 (λ u. ClosesIf u false) (done_text (codes "close")) said t caller_apart refl text left
+pub board_stays : (report : Result ⊤ NoMemory) (s : PlainState) (said : List ℕ) → IsReady s → OnOk report (said ≡ done_text (codes "close")) → CallsBoard (λ t. ClosesIf t false) report s said s
+board_stays report s said ready told = record {
+  acts = on_ok_weaker report (λ text t left. silent_as s 0 (λ u. ClosesIf u false) (done_text (codes "close")) said t caller_apart refl text left) told;
+  ready = ready;
+  lifted = lifted_same s s refl;
+}
 
 -- ---- what the tree answered
 
@@ -79,12 +90,14 @@ pub refused_so : (T : Type 0) (r : Result (List ℕ) GcError) (given : Result T 
 refused_so T (Ok xs) given error serials is told = absurd (subst (λ (g : Result T GcError). IsOkAnd g (λ hs. serials hs ≡ xs)) is told)
 refused_so T (Err refusal) given error serials is told = let both = sym is ∙ told in let same : refusal ≡ error = cc in cc
 
-pub closes_if : (s closed new : PlainState) (named : Bool) (said : List ℕ) → named ≡ true → new ≡ closed → AddsOf s.board 0 Closes closed.board → closed.contents ≡ s.contents → said ≡ done_text (codes "close") → Acts (λ t. ClosesIf t named) 0 0 s said new
-closes_if s closed new named said yes_named same called contents text =
-    subst (λ (b : Bool). Acts (λ t. ClosesIf t b) 0 0 s said new) (sym yes_named)
-    (subst (λ (n : PlainState). Acts (λ t. ClosesIf t true) 0 0 s said n) (sym same) (board_closes s closed said called contents text))
+-- the same, of a board that is one of these
+pub closes_if : (report : Result ⊤ NoMemory) (s closed new : PlainState) (named : Bool) (said : List ℕ) → named ≡ true → new ≡ closed → AddsOf s.board 0 Closes closed.board → closed.contents ≡ s.contents → IsReady s
+    → OnOk report (said ≡ done_text (codes "close")) → CallsBoard (λ t. ClosesIf t named) report s said new
+closes_if report s closed new named said yes_named same called contents ready told =
+    subst (λ (b : Bool). CallsBoard (λ t. ClosesIf t b) report s said new) (sym yes_named)
+    (subst (λ (n : PlainState). CallsBoard (λ t. ClosesIf t true) report s said n) (sym same) (board_closes report s closed said called contents ready told))
 
-pub stays_if : (s new : PlainState) (named : Bool) (said : List ℕ) → named ≡ false → new ≡ s → said ≡ done_text (codes "close") → Acts (λ t. ClosesIf t named) 0 0 s said new
-stays_if s new named said not_named same text =
-    subst (λ (b : Bool). Acts (λ t. ClosesIf t b) 0 0 s said new) (sym not_named)
-    (subst (λ (n : PlainState). Acts (λ t. ClosesIf t false) 0 0 s said n) (sym same) (board_stays s said text))
+pub stays_if : (report : Result ⊤ NoMemory) (s new : PlainState) (named : Bool) (said : List ℕ) → named ≡ false → new ≡ s → IsReady s → OnOk report (said ≡ done_text (codes "close")) → CallsBoard (λ t. ClosesIf t named) report s said new
+stays_if report s new named said not_named same ready told =
+    subst (λ (b : Bool). CallsBoard (λ t. ClosesIf t b) report s said new) (sym not_named)
+    (subst (λ (n : PlainState). CallsBoard (λ t. ClosesIf t false) report s said n) (sym same) (board_stays report s said ready told))

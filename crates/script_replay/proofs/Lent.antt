@@ -1,6 +1,9 @@
 -- Buffers that are lent to the application and given back.
-use Rattle.std.proofs.Common.{◌≡◌, ℕ, Bool, true, false, List, [], ◌∷◌, ◌++◌, length, slice_get, codes, option_map, Option, Some, None, Result, Ok, Err, IfOk, refl, sym, ap, subst, ◌∙◌, inl, inr}
+use Rattle.std.specs.Prelude.{⊤}
+use Rattle.std.proofs.Common.{◌≡◌, ℕ, Bool, true, false, List, [], ◌∷◌, ◌++◌, length, slice_get, codes, option_map, Option, Some, None, Result, Ok, Err, IfOk, OnOk, refl, sym, ap, subst, ◌∙◌, inl, inr}
+use Rattle.std.proofs.lemmas.Result.{on_ok_weaker}
 use Rattle.gev_types.specs.Filling.{Filling}
+use Rattle.gev_types.specs.declared.memory.NoMemory.{NoMemory}
 use Rattle.gentl_types.specs.declared.buffer_id.BufferId.{BufferId}
 use Rattle.gentl_types.specs.declared.errors.GcError.{GcError}
 use Rattle.gentl_types.specs.declared.errors.GcError.TheVariants.{InvalidHandle}
@@ -26,9 +29,12 @@ use Rattle.script_trace.specs.Answers.{refused_text, value_text}
 use Rattle.script_trace.specs.BoardLines.{AsksBuffer, BufferInfoLine, is_of_loan, TakeIfOpen, TakeLine, open_event, buffer}
 use Rattle.script_trace.specs.Contents.{contents_of, contents_from, FillsFrom}
 use Rattle.script_replay.specs.Boards.{LiesAsTold, IsLeftBy, IsReady, Acts}
+use Rattle.script_replay.specs.Acquiring.{CallsBoard}
 use Rattle.script_replay.specs.Takes.{ActsUnder}
 use Rattle.script_replay.proofs.Quiet.{AreQuiet, quiet_as, both_quiet, borrow_quiet, return_quiet, get_quiet, buffer_info_quiet}
 use Rattle.script_replay.proofs.Lines.{left_by, lies_after, acts_by, calm_acts, ready_by, quiet_acts, quiet_ready, acts_line, silent_as, caller_apart}
+use Rattle.script_replay.proofs.Resting.{lifted_same}
+use Rattle.script_replay.proofs.Calling.{quiet_calls}
 
 -- ---- binfo
 
@@ -53,11 +59,14 @@ lies_so s told i f (inr lifted) has = absurd (nothing_lies f (sym lifted.0 ∙ h
     nothing_lies : (g : Filling) → nothing ≡ Some g → ⊥
     nothing_lies g e = cc
 
-pub loan_acts : (s mid new : PlainState) (id : BufferId) (which place : ℕ) (f : Filling) (said : List ℕ) → place ≡ id.place → AddsOf s.board 0 (Borrows {T = ℕ} id (Ok place)) mid.board → mid.contents ≡ s.contents
+pub loan_calls : (report : Result ⊤ NoMemory) (s mid new : PlainState) (id : BufferId) (which place : ℕ) (f : Filling) (said : List ℕ) → place ≡ id.place → AddsOf s.board 0 (Borrows {T = ℕ} id (Ok place)) mid.board → mid.contents ≡ s.contents
     → content_at mid place ≡ Some f → AddsOf mid.board 0 (Returns place) new.board → new.contents ≡ mid.contents
-    → said ≡ value_text (codes "binfo") which (loan_value f.rec which) → Acts (λ t. AsksBuffer t id which true) 0 0 s said new
-loan_acts s mid new id which place f said is borrowed same lies returned same_too text =
-    calm_acts s new 0 (Lends id) (λ t. AsksBuffer t id which true) (value_text (codes "binfo") which (loan_value f.rec which)) said caller_apart called (lends_quiet id called.events called.kind) spells (same_too ∙ same) text
+    → IsReady s → OnOk report (said ≡ value_text (codes "binfo") which (loan_value f.rec which)) → CallsBoard (λ t. AsksBuffer t id which true) report s said new
+loan_calls report s mid new id which place f said is borrowed same lies returned same_too ready told = record {
+  acts = on_ok_weaker report (calm_acts s new 0 (Lends id) (λ t. AsksBuffer t id which true) (value_text (codes "binfo") which (loan_value f.rec which)) said caller_apart called (lends_quiet id called.events called.kind) spells (same_too ∙ same)) told;
+  ready = quiet_ready s new 0 (Lends id) caller_apart (lends_quiet id) ready called (same_too ∙ same);
+  lifted = lifted_same s new (same_too ∙ same);
+}
   where
     called : AddsOf s.board 0 (Lends id) new.board
     called = lends s.board mid.board new.board id place is borrowed returned
@@ -77,11 +86,6 @@ loan_acts s mid new id which place f said is borrowed same lies returned same_to
             ∙ ap (λ (g : Filling). acts t 0 (called.kind.0 ++ called.kind.1) (value_text (codes "binfo") which (loan_value g.rec which))) (sym (lies_so s (contents_of t.entries) id.place f (left.lies id.place) has)),
       ),
     )
-
-pub loan_ready : (s mid new : PlainState) (id : BufferId) (place : ℕ) → place ≡ id.place → AddsOf s.board 0 (Borrows {T = ℕ} id (Ok place)) mid.board → mid.contents ≡ s.contents
-    → AddsOf mid.board 0 (Returns place) new.board → new.contents ≡ mid.contents → IsReady s → IsReady new
-loan_ready s mid new id place is borrowed same returned same_too ready =
-    quiet_ready s new 0 (Lends id) caller_apart (lends_quiet id) ready (lends s.board mid.board new.board id place is borrowed returned) (same_too ∙ same)
 
 -- ---- take
 
@@ -168,17 +172,17 @@ no_take_acts s new refusal said event called same text =
 
 -- ---- the lines
 
-pub buffer_info_acts : (s new : PlainState) (id : BufferId) (which : ℕ) (answer : Result ℕ GcError) (said : List ℕ) → is_of_loan which ≡ false → AddsOf s.board 0 (BufferInfos id which answer) new.board → new.contents ≡ s.contents
-    → said ≡ value_text (codes "binfo") which answer → Acts (λ t. BufferInfoLine t id which) 0 0 s said new
-buffer_info_acts s new id which answer said other called same text =
-    quiet_acts s new 0 (BufferInfos id which answer) (λ t. BufferInfoLine t id which) (value_text (codes "binfo") which answer) said caller_apart (buffer_info_quiet id which answer)
-    (λ t es kind. subst (λ (b : Bool). AsksBuffer t id which b (acts t 0 es (value_text (codes "binfo") which answer))) (sym other) (answer, record { events = es; kind = kind; is = refl })) called same text
+pub buffer_info_calls : (report : Result ⊤ NoMemory) (s new : PlainState) (id : BufferId) (which : ℕ) (answer : Result ℕ GcError) (said : List ℕ) → is_of_loan which ≡ false → AddsOf s.board 0 (BufferInfos id which answer) new.board → new.contents ≡ s.contents
+    → IsReady s → OnOk report (said ≡ value_text (codes "binfo") which answer) → CallsBoard (λ t. BufferInfoLine t id which) report s said new
+buffer_info_calls report s new id which answer said other called same ready told =
+    quiet_calls report s new (BufferInfos id which answer) (λ t. BufferInfoLine t id which) (value_text (codes "binfo") which answer) said (buffer_info_quiet id which answer)
+    (λ t es kind. subst (λ (b : Bool). AsksBuffer t id which b (acts t 0 es (value_text (codes "binfo") which answer))) (sym other) (answer, record { events = es; kind = kind; is = refl })) ready called same told
 
-pub no_loan_acts : (s new : PlainState) (id : BufferId) (which : ℕ) (refusal : GcError) (said : List ℕ) → AddsOf s.board 0 (Borrows {T = ℕ} id (Err refusal)) new.board → new.contents ≡ s.contents
-    → said ≡ refused_text (codes "binfo") refusal → Acts (λ t. AsksBuffer t id which true) 0 0 s said new
-no_loan_acts s new id which refusal said called same text =
-    quiet_acts s new 0 (Borrows {T = ℕ} id (Err refusal)) (λ t. AsksBuffer t id which true) (refused_text (codes "binfo") refusal) said caller_apart (borrow_quiet {T = ℕ} id (Err refusal))
-    (λ t es kind. (Err refusal, record { events = es; kind = kind; is = refl })) called same text
+pub no_loan_calls : (report : Result ⊤ NoMemory) (s new : PlainState) (id : BufferId) (which : ℕ) (refusal : GcError) (said : List ℕ) → AddsOf s.board 0 (Borrows {T = ℕ} id (Err refusal)) new.board → new.contents ≡ s.contents
+    → IsReady s → OnOk report (said ≡ refused_text (codes "binfo") refusal) → CallsBoard (λ t. AsksBuffer t id which true) report s said new
+no_loan_calls report s new id which refusal said called same ready told =
+    quiet_calls report s new (Borrows {T = ℕ} id (Err refusal)) (λ t. AsksBuffer t id which true) (refused_text (codes "binfo") refusal) said (borrow_quiet {T = ℕ} id (Err refusal))
+    (λ t es kind. (Err refusal, record { events = es; kind = kind; is = refl })) ready called same told
 
 an_event : (x : Option Opened) (n : ℕ) → Some n ≡ option_map (λ o. o.serial) x → (event : Opened) × (x ≡ Some event)
 an_event None n e = absurd cc

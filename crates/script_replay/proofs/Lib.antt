@@ -2,6 +2,7 @@ pub mod Quiet
 pub mod Places
 pub mod Told
 pub mod Lines
+pub mod Calling
 pub mod Flushed
 pub mod Announced
 pub mod Lent

@@ -1,7 +1,11 @@
 -- The acquisition beside the board: where the buffers of its open blocks are, and what a line that drives it
 -- does to both.
-use Rattle.std.specs.Prelude.{◌≡◌, ◌≢◌, ⊤, ℕ, ◌<◌, Bool, if◌then◌else◌, List, [], ◌∷◌, ◌++◌, length, Option, None, Some, slice_set}
+use Rattle.std.specs.Prelude.{◌≡◌, ◌≢◌, ⊤, ℕ, ◌<◌, Bool, if◌then◌else◌, List, [], ◌∷◌, ◌++◌, length, Option, None, Some, Result, OnOk, slice_set}
+use Rattle.gev_types.specs.declared.memory.NoMemory.{NoMemory}
+use Rattle.gev_script.specs.declared.act.Act.{Act}
 use Rattle.gev_report.specs.ReplayLines.{request_line}
+use Rattle.gev_report.specs.declared.step_text.StepText.{StepText}
+use Rattle.gev_report.specs.StepLine.{step_line}
 use Rattle.board_machine.specs.declared.events.Entry.{Entry}
 use Rattle.board_machine.specs.declared.events.Event.{Event}
 use Rattle.board_machine.specs.Machine.{Board, InHand, word_at}
@@ -19,13 +23,14 @@ use Rattle.acq_core.specs.Receiver.{config_of, asked_block, buffers, Stands, Tak
 use Rattle.acq_core.specs.Waiting.{waiting_fills, waiting_requests}
 use Rattle.mode_calls.specs.declared.mode.Mode.{Mode}
 use Rattle.mode_calls.specs.Modes.{DropsFor, ClaimsFor}
-use Rattle.script_trace.specs.Trace.{Trace, Part, board, grown, acquirer}
+use Rattle.script_trace.specs.Trace.{Trace, Part, board, grown, caller, acquirer}
 use Rattle.script_trace.specs.Contents.{contents_of, FillsFrom}
 use Rattle.script_trace.specs.StreamLines.{outcome}
 use Rattle.script_trace.specs.Modes.{FillsInMode, place_of, handed_out}
 use Rattle.script_replay.specs.declared.fill_counts.FillCounts.{FillCounts}
-use Rattle.script_replay.specs.Boards.{IsLeftBy, IsReady}
+use Rattle.script_replay.specs.Boards.{IsLeftBy, IsReady, Acts}
 use Rattle.script_replay.specs.Counting.{with_fill, with_dropped, counted_in}
+use Rattle.script_replay.specs.Steps.{word_of}
 
 -- ---- the buffers of open blocks
 
@@ -62,6 +67,20 @@ pub record IsAtRest (s : PlainState) (m : Machine) : Type 0 where
 pub record KeepsLifted (s new : PlainState) : Type 0 where
   pub lifted : (i : ℕ) → InHand s.board acquirer i → IsLifted s i → IsLifted new i
   pub wide : length new.contents ≡ length s.contents
+
+-- A line of calls was run, with this answer. Where there was memory for its report, which is this, it adds acts that
+-- hand out nothing. With each answer the board is ready for the next line, and what is lifted stays lifted.
+pub record CallsBoard (Line : Trace → Part → Type 0) (answer : Result ⊤ NoMemory) (s : PlainState) (said : List ℕ) (new : PlainState) : Type 0 where
+  pub acts : OnOk answer (Acts Line caller 0 s said new)
+  pub ready : IsReady new
+  pub lifted : KeepsLifted s new
+
+-- A step of actor k was made, of which its line tells this: it adds acts that hand out so many buffers. The board is ready
+-- for the next line, and what is lifted stays lifted.
+pub record StepsBoard (Line : Trace → Part → Type 0) (k count : ℕ) (act : Act) (text : StepText) (s new : PlainState) : Type 0 where
+  pub acts : (said : List ℕ) → said ≡ step_line k (word_of act) text → Acts Line k count s said new
+  pub ready : IsReady new
+  pub lifted : KeepsLifted s new
 
 -- ---- buffers that come back
 

@@ -96,7 +96,7 @@ pub(crate) fn tick(
 }
 
 /// Tells a datagram, and fills the buffers that come back. The answer is what the datagram needs.
-fn settle(
+fn fill_what_retires(
     board: &mut PlainBoard,
     acq: &mut Acq,
     counts: &mut FillCounts,
@@ -121,7 +121,7 @@ fn settle(
 }
 
 /// Tells a datagram. Where it wants a buffer, one is claimed by the mode, and the datagram is told again.
-pub fn hear(
+pub fn receive(
     board: &mut PlainBoard,
     acq: &mut Acq,
     counts: &mut FillCounts,
@@ -133,10 +133,10 @@ pub fn hear(
     ensures rest { IsAtRest board.new acq.new }
     ensures config { config_of acq.new ≡ config_of acq.old }
 {
-    match settle(board, acq, counts, mode, bytes) {
+    match fill_what_retires(board, acq, counts, mode, bytes) {
         Need::Buffer(_block) => {
             let _got = give_claimed(board, acq, counts, mode);
-            let _again = settle(board, acq, counts, mode, bytes);
+            let _again = fill_what_retires(board, acq, counts, mode, bytes);
         }
         Need::Done => {}
         Need::Ignored(_why) => {}
@@ -167,6 +167,6 @@ pub(crate) fn datagram(
     }
     let bytes = &mut room[..digits.len() / 2];
     decode(digits, bytes);
-    hear(board, acq, counts, mode, bytes);
+    receive(board, acq, counts, mode, bytes);
     0
 }

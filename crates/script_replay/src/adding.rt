@@ -6,8 +6,8 @@ ghost use Rattle.gev_script.specs.Lines.{view};
 ghost use Rattle.acquisition_machine.specs.declared.config.AcqConfig.{AcqConfig};
 ghost use Rattle.script_trace.specs.Adding.{Spells};
 ghost use Rattle.script_trace.specs.Modes.{mode_of};
-ghost use Rattle.script_replay.specs.Boards.{IsReady, Acts};
-ghost use Rattle.script_replay.specs.Acquiring.{KeepsLifted};
+ghost use Rattle.script_replay.specs.Boards.{IsReady};
+ghost use Rattle.script_replay.specs.Acquiring.{CallsBoard};
 ghost use Rattle.script_replay.specs.Replays.{IsReplaying, IsCall, IsRunIn, Fits, StepsInRange, Goes};
 
 use crate::acquisition_lines::{datagram, start, stop, tick};
@@ -36,9 +36,7 @@ fn run_call(
     requires ready { IsReady board.old }
     requires call { IsCall (view line) }
     requires empty { out.old.items ≡ [] }
-    ensures acts { (c : AcqConfig) → OnOk result (Acts (λ t. Spells c t (view line.entry)) 0 0 board.old out.new.items board.new) }
-    ensures ready { IsReady board.new }
-    ensures lifted { KeepsLifted board.old board.new }
+    ensures { (c : AcqConfig) → CallsBoard (λ t. Spells c t (view line.entry)) result board.old out.new.items board.new }
 {
     match line {
         Line::Announce { size } => announce(alloc, board, size, out),

@@ -1,9 +1,9 @@
 //! Lines that call the stream or its event once.
 
-ghost use Rattle.std.specs.Prelude.{◌≡◌, ◌↔◌, [], IsTrue, OnOk, Err};
+ghost use Rattle.std.specs.Prelude.{◌≡◌, ◌↔◌, [], IsTrue, Err};
 ghost use Rattle.script_trace.specs.BoardLines.{AnnounceLine, QueueLine, RevokeLine, FlushLine, KillLine, EventFlushLine, InfoLine};
-ghost use Rattle.script_replay.specs.Boards.{IsReady, Acts};
-ghost use Rattle.script_replay.specs.Acquiring.{KeepsLifted};
+ghost use Rattle.script_replay.specs.Boards.{IsReady};
+ghost use Rattle.script_replay.specs.Acquiring.{CallsBoard};
 
 use crate::answers::{line_answer, line_done, line_info, line_new_id, line_refused};
 use board_model::PlainBoard;
@@ -23,9 +23,7 @@ pub fn queue(
 ) -> Result<(), NoMemory>
     requires ready { IsReady board.old }
     requires empty { out.old.items ≡ [] }
-    ensures acts { OnOk result (Acts (λ t. QueueLine t id) 0 0 board.old out.new.items board.new) }
-    ensures ready { IsReady board.new }
-    ensures lifted { KeepsLifted board.old board.new }
+    ensures { CallsBoard (λ t. QueueLine t id) result board.old out.new.items board.new }
 {
     let answer = board.ds_queue(CALLER, id);
     line_answer(alloc, "queue", answer, out)
@@ -35,9 +33,7 @@ pub fn queue(
 pub(crate) fn kill(alloc: Global, board: &mut PlainBoard, out: &mut Vec<u8>) -> Result<(), NoMemory>
     requires ready { IsReady board.old }
     requires empty { out.old.items ≡ [] }
-    ensures acts { OnOk result (Acts KillLine 0 0 board.old out.new.items board.new) }
-    ensures ready { IsReady board.new }
-    ensures lifted { KeepsLifted board.old board.new }
+    ensures { CallsBoard KillLine result board.old out.new.items board.new }
 {
     board.event_kill(CALLER);
     line_done(alloc, "kill", out)
@@ -51,9 +47,7 @@ pub(crate) fn event_flush(
 ) -> Result<(), NoMemory>
     requires ready { IsReady board.old }
     requires empty { out.old.items ≡ [] }
-    ensures acts { OnOk result (Acts EventFlushLine 0 0 board.old out.new.items board.new) }
-    ensures ready { IsReady board.new }
-    ensures lifted { KeepsLifted board.old board.new }
+    ensures { CallsBoard EventFlushLine result board.old out.new.items board.new }
 {
     board.event_flush(CALLER);
     line_done(alloc, "event-flush", out)
@@ -68,9 +62,7 @@ pub(crate) fn info(
 ) -> Result<(), NoMemory>
     requires ready { IsReady board.old }
     requires empty { out.old.items ≡ [] }
-    ensures acts { OnOk result (Acts (λ t. InfoLine t which) 0 0 board.old out.new.items board.new) }
-    ensures ready { IsReady board.new }
-    ensures lifted { KeepsLifted board.old board.new }
+    ensures { CallsBoard (λ t. InfoLine t which) result board.old out.new.items board.new }
 {
     let answer = board.ds_info(CALLER, which);
     line_info(alloc, "info", which, answer, out)
@@ -85,9 +77,7 @@ pub(crate) fn flush(
 ) -> Result<(), NoMemory>
     requires ready { IsReady board.old }
     requires empty { out.old.items ≡ [] }
-    ensures acts { OnOk result (Acts (λ t. FlushLine t operation) 0 0 board.old out.new.items board.new) }
-    ensures ready { IsReady board.new }
-    ensures lifted { KeepsLifted board.old board.new }
+    ensures { CallsBoard (λ t. FlushLine t operation) result board.old out.new.items board.new }
 {
     let answer = board.ds_flush(CALLER, operation);
     line_answer(alloc, "flush", answer, out)
@@ -102,9 +92,7 @@ pub fn announce(
 ) -> Result<(), NoMemory>
     requires ready { IsReady board.old }
     requires empty { out.old.items ≡ [] }
-    ensures acts { OnOk result (Acts (λ t. AnnounceLine t size) 0 0 board.old out.new.items board.new) }
-    ensures ready { IsReady board.new }
-    ensures lifted { KeepsLifted board.old board.new }
+    ensures { CallsBoard (λ t. AnnounceLine t size) result board.old out.new.items board.new }
 {
     let answer = board.ds_announce(alloc, CALLER, size);
     board.owned();
@@ -130,9 +118,7 @@ pub(crate) fn revoke(
 ) -> Result<(), NoMemory>
     requires ready { IsReady board.old }
     requires empty { out.old.items ≡ [] }
-    ensures acts { OnOk result (Acts (λ t. RevokeLine t id) 0 0 board.old out.new.items board.new) }
-    ensures ready { IsReady board.new }
-    ensures lifted { KeepsLifted board.old board.new }
+    ensures { CallsBoard (λ t. RevokeLine t id) result board.old out.new.items board.new }
 {
     match board.ds_revoke(CALLER, id) {
         Ok(_buf) => line_done(alloc, "revoke", out),

@@ -1,11 +1,11 @@
 //! Lines that lend a buffer to the application and take it back: `take`, and `binfo`.
 
-ghost use Rattle.std.specs.Prelude.{◌≡◌, [], true, Some, OnOk, IfOk};
+ghost use Rattle.std.specs.Prelude.{◌≡◌, [], true, Some, IfOk};
 ghost use Rattle.gentl_handles.specs.declared.opened.Opened.{Opened};
 ghost use Rattle.board_machine.specs.Machine.{InHand, word_at};
 ghost use Rattle.script_trace.specs.BoardLines.{BufferInfoLine, AsksBuffer, TakeIfOpen, TakeLine, is_of_loan};
 ghost use Rattle.script_replay.specs.Boards.{IsReady, Acts};
-ghost use Rattle.script_replay.specs.Acquiring.{KeepsLifted};
+ghost use Rattle.script_replay.specs.Acquiring.{KeepsLifted, CallsBoard};
 ghost use Rattle.script_replay.specs.Takes.{ActsUnder};
 
 use crate::answers::{line_info, line_refused};
@@ -35,9 +35,7 @@ pub(crate) fn buffer_info(
 ) -> Result<(), NoMemory>
     requires ready { IsReady board.old }
     requires empty { out.old.items ≡ [] }
-    ensures acts { OnOk result (Acts (λ t. BufferInfoLine t id which) 0 0 board.old out.new.items board.new) }
-    ensures ready { IsReady board.new }
-    ensures lifted { KeepsLifted board.old board.new }
+    ensures { CallsBoard (λ t. BufferInfoLine t id which) result board.old out.new.items board.new }
 {
     if is_of_loan(which) {
         return loan_info_line(alloc, board, id, which, out);
@@ -56,9 +54,7 @@ fn loan_info_line(
 ) -> Result<(), NoMemory>
     requires ready { IsReady board.old }
     requires empty { out.old.items ≡ [] }
-    ensures acts { OnOk result (Acts (λ t. AsksBuffer t id which true) 0 0 board.old out.new.items board.new) }
-    ensures ready { IsReady board.new }
-    ensures lifted { KeepsLifted board.old board.new }
+    ensures { CallsBoard (λ t. AsksBuffer t id which true) result board.old out.new.items board.new }
 {
     match board.ds_borrow(CALLER, id) {
         Ok(place) => {

@@ -4,8 +4,8 @@ ghost use Rattle.std.specs.Prelude.{◌≡◌, ◌==◌, [], Some, OnOk};
 ghost use Rattle.std.specs.List.{list_any};
 ghost use Rattle.gentl_handles.specs.Closing.{closing, without_closed, is_among};
 ghost use Rattle.gentl_handles.specs.Storing.{serials_of};
-ghost use Rattle.script_replay.specs.Boards.{IsReady, Acts};
-ghost use Rattle.script_replay.specs.Acquiring.{KeepsLifted};
+ghost use Rattle.script_replay.specs.Boards.{IsReady};
+ghost use Rattle.script_replay.specs.Acquiring.{KeepsLifted, CallsBoard};
 ghost use Rattle.script_replay.specs.Closes.{ClosesUnder, ClosesIf};
 
 use crate::answers::{line_done, line_refused};
@@ -62,9 +62,7 @@ fn close_board(
 ) -> Result<(), NoMemory>
     requires ready { IsReady board.old }
     requires empty { out.old.items ≡ [] }
-    ensures acts { OnOk result (Acts (λ t. ClosesIf t named) 0 0 board.old out.new.items board.new) }
-    ensures ready { IsReady board.new }
-    ensures lifted { KeepsLifted board.old board.new }
+    ensures { CallsBoard (λ t. ClosesIf t named) result board.old out.new.items board.new }
 {
     if named {
         board.ds_close(CALLER);

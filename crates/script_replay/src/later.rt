@@ -10,6 +10,7 @@ ghost use Rattle.script_trace.specs.Wide.{Wide};
 ghost use Rattle.script_trace.specs.Standing.{is_out_of_place};
 ghost use Rattle.script_replay.specs.Replays.{StandsAt, IsReplaying, IsLaterIn, KeepsWide, RanAs, RanBy, RefusedBy};
 
+use crate::replay::{ROOM, WIDE_ROOM};
 use crate::running::Running;
 use crate::script::Script;
 use crate::wide_lines::run_line;
@@ -108,13 +109,13 @@ pub fn later_line(
 ) -> Result<Ran, Stop>
     requires keeps { IsReplaying script.old.running }
     requires short { length line.now ≤ 20000 }
-    requires room { length room.old.items ≡ 10000 }
-    requires wide { length wide_room.old.items ≡ 10012 }
+    requires room { length room.old.items ≡ ROOM }
+    requires wide { length wide_room.old.items ≡ WIDE_ROOM }
     requires empty { out.old.items ≡ [] }
     ensures ran { MatchResult result (λ ran. RanBy ran line.now script.old out.new.items script.new)
         (λ stop. IfRefused stop (λ kind. RefusedBy line.now kind script.old script.new)) }
-    ensures room { length room.new.items ≡ 10000 }
-    ensures wide { length wide_room.new.items ≡ 10012 }
+    ensures room { length room.new.items ≡ ROOM }
+    ensures wide { length wide_room.new.items ≡ WIDE_ROOM }
 {
     if is_out_of_place(first_name(line)) {
         return Err(Stop::Refused(ScriptKind::Word));

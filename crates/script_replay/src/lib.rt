@@ -27,7 +27,7 @@ mod tests;
 mod wide_lines; // lines of scripts with standard identifiers
 mod widening; // what is kept of standard identifiers
 
-pub use acquisition_lines::{hear, start};
+pub use acquisition_lines::{receive, start};
 pub use answers::{line_done, line_refused};
 pub use beginning::{begin, first_line};
 pub use board_lines::{CALLER, announce, queue};

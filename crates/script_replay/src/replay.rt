@@ -15,10 +15,10 @@ use std::alloc::Global;
 use std::marker::Model;
 
 /// How many bytes the datagram of the longest line has room in.
-const ROOM: usize = 10_000;
+pub(crate) const ROOM: usize = 10_000;
 
 /// And how many with extended identifiers in place of standard ones.
-const WIDE_ROOM: usize = ROOM + 12;
+pub(crate) const WIDE_ROOM: usize = ROOM + 12;
 
 /// Runs a replay script, line by line.
 ///
@@ -33,6 +33,7 @@ pub struct Replay {
 
 impl Model for Replay {
     ghost use Rattle.std.specs.Prelude.{◌≡◌, Option, length};
+    ghost use Rattle.script_replay.specs.declared.replay.TheConstants.{ROOM, WIDE_ROOM};
     ghost use Rattle.script_replay.specs.declared.script.Script.{Script};
     ghost use Rattle.script_replay.specs.Replays.{IsKept};
 
@@ -40,7 +41,7 @@ impl Model for Replay {
 
     ghost view = { λ r. r.script };
 
-    ghost invariant = { λ r. (length r.room.items ≡ 10000) × (length r.wide_room.items ≡ 10012) × IsKept r.script };
+    ghost invariant = { λ r. (length r.room.items ≡ ROOM) × (length r.wide_room.items ≡ WIDE_ROOM) × IsKept r.script };
 }
 
 impl Replay {
@@ -69,14 +70,14 @@ fn any_line(
 ) -> Result<Ran, Stop>
     requires kept { IsKept script.old }
     requires short { length line.now ≤ 20000 }
-    requires room { length room.old.items ≡ 10000 }
-    requires wide { length wide_room.old.items ≡ 10012 }
+    requires room { length room.old.items ≡ ROOM }
+    requires wide { length wide_room.old.items ≡ WIDE_ROOM }
     requires empty { out.old.items ≡ [] }
     ensures ran { (n : ℕ) → MatchResult result (λ ran. RunsAs script.old n line.now ran out.new.items script.new)
         (λ stop. IfRefused stop (λ kind. RefusesAs script.old n line.now kind)) }
     ensures kept { IsKept script.new }
-    ensures room { length room.new.items ≡ 10000 }
-    ensures wide { length wide_room.new.items ≡ 10012 }
+    ensures room { length room.new.items ≡ ROOM }
+    ensures wide { length wide_room.new.items ≡ WIDE_ROOM }
 {
     match script {
         Some(now) => match later_line(alloc, now, room, wide_room, line, out) {

@@ -1,11 +1,10 @@
 //! The `step` line: one step of the board, and its report.
 
-ghost use Rattle.std.specs.Prelude.{◌≡◌, ◌≤◌, ◌<◌, ℕ, List, [], IfOk, unwrap_or};
+ghost use Rattle.std.specs.Prelude.{◌≡◌, ◌≤◌, ◌<◌, [], IfOk, unwrap_or};
 ghost use Rattle.gev_types.specs.Limits.{place_count};
-ghost use Rattle.gev_report.specs.StepLine.{step_line};
 ghost use Rattle.script_trace.specs.StepLines.{StepLine, StepBy};
 ghost use Rattle.script_replay.specs.Boards.{IsReady, Acts};
-ghost use Rattle.script_replay.specs.Acquiring.{KeepsLifted};
+ghost use Rattle.script_replay.specs.Acquiring.{KeepsLifted, StepsBoard};
 ghost use Rattle.script_replay.specs.Steps.{word_of};
 
 use crate::steps::{claim, close, fill, grab, lay, pool, sweep_out, sweep_pool, take};
@@ -37,9 +36,7 @@ fn make_step(board: &mut PlainBoard, actor: u8, act: Act, place: u8) -> (StepTex
     requires ready { IsReady board.old }
     requires actor { actor ≤ 4 }
     requires in_range { place < place_count }
-    ensures acts { (said : List ℕ) → said ≡ step_line actor (word_of act) result.0 → Acts (λ t. StepBy t actor act place) actor result.1 board.old said board.new }
-    ensures ready { IsReady board.new }
-    ensures lifted { KeepsLifted board.old board.new }
+    ensures { StepsBoard (λ t. StepBy t actor act place) actor result.1 act result.0 board.old board.new }
 {
     match act {
         Act::Grab => (grab(board, actor, place), 0),

@@ -1,15 +1,14 @@
 //! One step of the board by one of the actors of `step` lines. Each function answers what its line tells.
 
-ghost use Rattle.std.specs.Prelude.{◌≡◌, ℕ, ◌≤◌, ◌<◌, List, true, codes};
+ghost use Rattle.std.specs.Prelude.{◌≡◌, ◌≤◌, ◌<◌, true, codes};
 ghost use Rattle.gev_types.specs.Limits.{place_count};
 ghost use Rattle.gev_script.specs.declared.act.Act.TheVariants as act;
-ghost use Rattle.gev_report.specs.StepLine.{step_line};
 ghost use Rattle.board_machine.specs.declared.events.Event.TheVariants as event;
 ghost use Rattle.board_machine.specs.Machine.{InHand};
 ghost use Rattle.script_trace.specs.StepLines.{GrabStep, StepInHand, FillStep, ClaimStep, TakeStep, SweepPoolStep, SweepOutStep, StepBy, is_in_hand, found_text};
 ghost use Rattle.script_trace.specs.Trace.{board as now};
-ghost use Rattle.script_replay.specs.Boards.{IsReady, Acts};
-ghost use Rattle.script_replay.specs.Acquiring.{KeepsLifted};
+ghost use Rattle.script_replay.specs.Boards.{IsReady};
+ghost use Rattle.script_replay.specs.Acquiring.{StepsBoard};
 
 use board_model::{FillEnd, PlainBoard, TakeEnd};
 use gentl_types::State;
@@ -32,9 +31,7 @@ pub(crate) fn grab(board: &mut PlainBoard, actor: u8, place: u8) -> StepText
     requires ready { IsReady board.old }
     requires actor { actor ≤ 4 }
     requires in_range { place < place_count }
-    ensures acts { (said : List ℕ) → said ≡ step_line actor (codes "grab") result → Acts (λ t. GrabStep t actor place) actor 0 board.old said board.new }
-    ensures ready { IsReady board.new }
-    ensures lifted { KeepsLifted board.old board.new }
+    ensures { StepsBoard (λ t. GrabStep t actor place) actor 0 act.Grab result board.old board.new }
 {
     let generation = board.word(place).generation;
     match board.grab(actor, place, generation) {
@@ -47,10 +44,7 @@ pub(crate) fn grab(board: &mut PlainBoard, actor: u8, place: u8) -> StepText
 pub(crate) fn lay(board: &mut PlainBoard, actor: u8, place: u8) -> StepText
     requires ready { IsReady board.old }
     requires actor { actor ≤ 4 }
-    ensures acts { (said : List ℕ) → said ≡ step_line actor (codes "lay") result
-        → Acts (λ t. StepInHand t actor (event.Lay place) (codes "lay") (is_in_hand (now t) actor place)) actor 0 board.old said board.new }
-    ensures ready { IsReady board.new }
-    ensures lifted { KeepsLifted board.old board.new }
+    ensures { StepsBoard (λ t. StepInHand t actor (event.Lay place) (codes "lay") (is_in_hand (now t) actor place)) actor 0 act.Lay result board.old board.new }
 {
     if board.holds(actor, place) {
         board.lay(actor, place);
@@ -64,10 +58,7 @@ pub(crate) fn lay(board: &mut PlainBoard, actor: u8, place: u8) -> StepText
 pub(crate) fn pool(board: &mut PlainBoard, actor: u8, place: u8) -> StepText
     requires ready { IsReady board.old }
     requires actor { actor ≤ 4 }
-    ensures acts { (said : List ℕ) → said ≡ step_line actor (codes "pool") result
-        → Acts (λ t. StepInHand t actor (event.Pool place) (codes "pool") (is_in_hand (now t) actor place)) actor 0 board.old said board.new }
-    ensures ready { IsReady board.new }
-    ensures lifted { KeepsLifted board.old board.new }
+    ensures { StepsBoard (λ t. StepInHand t actor (event.Pool place) (codes "pool") (is_in_hand (now t) actor place)) actor 0 act.Pool result board.old board.new }
 {
     if board.holds(actor, place) {
         board.pool(actor, place);
@@ -81,9 +72,7 @@ pub(crate) fn pool(board: &mut PlainBoard, actor: u8, place: u8) -> StepText
 pub(crate) fn claim(board: &mut PlainBoard, actor: u8) -> StepText
     requires ready { IsReady board.old }
     requires actor { actor ≤ 4 }
-    ensures acts { (said : List ℕ) → said ≡ step_line actor (codes "claim") result → Acts (λ t. ClaimStep t actor) actor 0 board.old said board.new }
-    ensures ready { IsReady board.new }
-    ensures lifted { KeepsLifted board.old board.new }
+    ensures { StepsBoard (λ t. ClaimStep t actor) actor 0 act.Claim result board.old board.new }
 {
     match board.claim(actor) {
         Some(place) => StepText::Number(u32::from(place)),
@@ -95,9 +84,7 @@ pub(crate) fn claim(board: &mut PlainBoard, actor: u8) -> StepText
 pub(crate) fn sweep_pool(board: &mut PlainBoard, actor: u8) -> StepText
     requires ready { IsReady board.old }
     requires actor { actor ≤ 4 }
-    ensures acts { (said : List ℕ) → said ≡ step_line actor (codes "sweep-pool") result → Acts (λ t. SweepPoolStep t actor) actor 0 board.old said board.new }
-    ensures ready { IsReady board.new }
-    ensures lifted { KeepsLifted board.old board.new }
+    ensures { StepsBoard (λ t. SweepPoolStep t actor) actor 0 act.SweepPool result board.old board.new }
 {
     StepText::Number(board.sweep_pool(actor).len() as u32)
 }
@@ -106,9 +93,7 @@ pub(crate) fn sweep_pool(board: &mut PlainBoard, actor: u8) -> StepText
 pub(crate) fn sweep_out(board: &mut PlainBoard, actor: u8) -> StepText
     requires ready { IsReady board.old }
     requires actor { actor ≤ 4 }
-    ensures acts { (said : List ℕ) → said ≡ step_line actor (codes "sweep-out") result → Acts (λ t. SweepOutStep t actor) actor 0 board.old said board.new }
-    ensures ready { IsReady board.new }
-    ensures lifted { KeepsLifted board.old board.new }
+    ensures { StepsBoard (λ t. SweepOutStep t actor) actor 0 act.SweepOut result board.old board.new }
 {
     StepText::Number(board.sweep_out(actor).len() as u32)
 }
@@ -117,9 +102,7 @@ pub(crate) fn sweep_out(board: &mut PlainBoard, actor: u8) -> StepText
 pub(crate) fn close(board: &mut PlainBoard, actor: u8) -> StepText
     requires ready { IsReady board.old }
     requires actor { actor ≤ 4 }
-    ensures acts { (said : List ℕ) → said ≡ step_line actor (codes "close") result → Acts (λ t. StepBy t actor act.Close 0) actor 0 board.old said board.new }
-    ensures ready { IsReady board.new }
-    ensures lifted { KeepsLifted board.old board.new }
+    ensures { StepsBoard (λ t. StepBy t actor act.Close 0) actor 0 act.Close result board.old board.new }
 {
     board.close(actor);
     StepText::Done
@@ -130,9 +113,7 @@ pub(crate) fn close(board: &mut PlainBoard, actor: u8) -> StepText
 pub(crate) fn fill(board: &mut PlainBoard, actor: u8, place: u8) -> StepText
     requires ready { IsReady board.old }
     requires actor { actor ≤ 4 }
-    ensures acts { (said : List ℕ) → said ≡ step_line actor (codes "fill") result → Acts (λ t. FillStep t actor place (is_in_hand (now t) actor place)) actor 0 board.old said board.new }
-    ensures ready { IsReady board.new }
-    ensures lifted { KeepsLifted board.old board.new }
+    ensures { StepsBoard (λ t. FillStep t actor place (is_in_hand (now t) actor place)) actor 0 act.Fill result board.old board.new }
 {
     if board.holds(actor, place) {
         fill_in_hand(board, actor, place)
@@ -146,9 +127,7 @@ fn fill_in_hand(board: &mut PlainBoard, actor: u8, place: u8) -> StepText
     requires ready { IsReady board.old }
     requires actor { actor ≤ 4 }
     requires in_hand { InHand board.old.board actor place }
-    ensures acts { (said : List ℕ) → said ≡ step_line actor (codes "fill") result → Acts (λ t. FillStep t actor place true) actor 0 board.old said board.new }
-    ensures ready { IsReady board.new }
-    ensures lifted { KeepsLifted board.old board.new }
+    ensures { StepsBoard (λ t. FillStep t actor place true) actor 0 act.Fill result board.old board.new }
 {
     let mut buf = board.lift(actor, place);
     buf.set_rec(Record::default());
@@ -165,9 +144,7 @@ fn fill_in_hand(board: &mut PlainBoard, actor: u8, place: u8) -> StepText
 pub(crate) fn take(board: &mut PlainBoard, actor: u8) -> (StepText, u64)
     requires ready { IsReady board.old }
     requires actor { actor ≤ 4 }
-    ensures acts { (said : List ℕ) → said ≡ step_line actor (codes "take") result.0 → Acts (λ t. TakeStep t actor) actor result.1 board.old said board.new }
-    ensures ready { IsReady board.new }
-    ensures lifted { KeepsLifted board.old board.new }
+    ensures { StepsBoard (λ t. TakeStep t actor) actor result.1 act.Take result.0 board.old board.new }
 {
     match board.take(actor) {
         TakeEnd::Taken(place) => (StepText::Number(u32::from(place)), 1),

@@ -8,7 +8,7 @@ ghost use Rattle.script_trace.specs.Wide.{is_standard_at, is_started_at};
 ghost use Rattle.script_replay.specs.Replays.{IsReplaying, IsRunIn, IsOther, Fits, Goes, DoesLine, DoneLine};
 ghost use Rattle.script_replay.specs.Widely.{DoesBytes};
 
-use crate::acquisition_lines::hear;
+use crate::acquisition_lines::receive;
 use crate::adding::{run_adding, run_datagram};
 use crate::hex_digits::decode;
 use crate::running::Running;
@@ -30,12 +30,12 @@ const EXTENDED: u8 = 0x80;
 const MOST_BLOCK: u64 = 1 << 63;
 
 /// Tells the acquisition a datagram, where the stream is running.
-fn hear_bytes(running: &mut Running, bytes: &[u8])
+fn receive_bytes(running: &mut Running, bytes: &[u8])
     requires keeps { IsReplaying running.old }
     requires runs { running.old.board.board.run ≡ 1 }
     ensures goes { Goes (script_line.datagram (encode_lower bytes.now)) running.old [] running.new }
 {
-    hear(
+    receive(
         &mut running.board,
         &mut running.acq,
         &mut running.counts,
@@ -67,7 +67,7 @@ fn widen_bytes(script: &mut Script, bytes: &[u8], wide_room: &mut [u8])
     match script.widening.widener.widen(bytes, wide_room) {
         Ok(len) => {
             script.widening.widened = true;
-            hear_bytes(&mut script.running, &wide_room[..len]);
+            receive_bytes(&mut script.running, &wide_room[..len]);
         }
         Err(_refusal) => {
             script.widening.refused = script.widening.refused.saturating_add(1);

@@ -5,7 +5,7 @@ ghost use Rattle.soak_host.specs.Receiver.{hears};
 ghost use Rattle.soak_receiver.specs.Moves.{IsHosting, Moves, heard_line};
 
 use mode_calls::Mode;
-use script_replay::{Running, hear};
+use script_replay::{Running, receive};
 
 /// Tells a datagram. Where it wants a buffer, one is claimed and the datagram is told again; buffers that
 /// come back are filled into the output.
@@ -14,7 +14,7 @@ pub(crate) fn hear_datagram(running: &mut Running, bytes: &[u8])
     ensures moves { Moves (heard_line bytes.now ∷ []) (λ r. hears r bytes.now) running.old running.new }
     ensures hosting { IsHosting running.new }
 {
-    hear(
+    receive(
         &mut running.board,
         &mut running.acq,
         &mut running.counts,

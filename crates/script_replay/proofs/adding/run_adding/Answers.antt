@@ -47,8 +47,7 @@ returns-in-CloseAll-clause-goes c =
 pub returns-in_default : goal.returns-in_default
 returns-in_default c = record {
   goes =
-      on_ok_weaker c.run_call.result
-      (λ acts_so. call_goes (view c.args.line) c.args.running.now c.run_call.new.out.items c.run_call.new.board c.requires.keeps acts_so c.run_call.ensures.ready c.run_call.ensures.lifted)
-      (c.run_call.ensures.acts (config_of c.args.running.now.acq));
+      let did = c.run_call.ensures (config_of c.args.running.now.acq) in
+      on_ok_weaker c.run_call.result (λ acts_so. call_goes (view c.args.line) c.args.running.now c.run_call.new.out.items c.run_call.new.board c.requires.keeps acts_so did.ready did.lifted) did.acts;
   room = refl;
 }

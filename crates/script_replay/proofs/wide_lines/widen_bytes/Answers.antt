@@ -13,8 +13,8 @@ widen-requires-clause-room c = widened_fits c.args.script.now.widening.widener c
 pub returns-in-Ok : goal.returns-in-Ok
 returns-in-Ok c l =
     let w = c.in-Ok.ensures.answer in
-    widened_does l c.args.bytes.now c.args.script.now c.hear_bytes.new.running c.widen.new.self w.block w.wide w.is w.top_is
-    (subst (λ bytes. Goes (script_line.datagram (encode_lower bytes)) c.args.script.now.running [] c.hear_bytes.new.running) (front_is _ w.wide _ c.in-Ok.len w.written w.len_is) c.hear_bytes.ensures.goes)
+    widened_does l c.args.bytes.now c.args.script.now c.receive_bytes.new.running c.widen.new.self w.block w.wide w.is w.top_is
+    (subst (λ bytes. Goes (script_line.datagram (encode_lower bytes)) c.args.script.now.running [] c.receive_bytes.new.running) (front_is _ w.wide _ c.in-Ok.len w.written w.len_is) c.receive_bytes.ensures.goes)
 
 pub returns-in-Err : goal.returns-in-Err
 returns-in-Err c l =

@@ -4,6 +4,6 @@ use Rattle.soak_receiver.proofs.hearing.hear_datagram.Goals as goal
 
 pub returns : goal.returns
 returns c = record {
-  moves = heard_moves c.args.running.now c.args.bytes.now c.hear.new.board c.hear.new.acq c.hear.new.counts c.requires (λ i. let fits = c.type_inv.bytes i in omega arith) c.hear.ensures.drives c.hear.ensures.rest c.hear.ensures.config;
-  hosting = heard_hosting c.args.running.now c.args.bytes.now c.hear.new.board c.hear.new.acq c.hear.new.counts c.requires (λ i. let fits = c.type_inv.bytes i in omega arith) c.hear.ensures.drives c.hear.ensures.rest c.hear.ensures.config;
+  moves = heard_moves c.args.running.now c.args.bytes.now c.receive.new.board c.receive.new.acq c.receive.new.counts c.requires (λ i. let fits = c.type_inv.bytes i in omega arith) c.receive.ensures.drives c.receive.ensures.rest c.receive.ensures.config;
+  hosting = heard_hosting c.args.running.now c.args.bytes.now c.receive.new.board c.receive.new.acq c.receive.new.counts c.requires (λ i. let fits = c.type_inv.bytes i in omega arith) c.receive.ensures.drives c.receive.ensures.rest c.receive.ensures.config;
 }

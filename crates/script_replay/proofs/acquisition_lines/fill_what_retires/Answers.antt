@@ -1,6 +1,6 @@
 use Rattle.script_replay.proofs.Driving.{away_before}
 use Rattle.script_replay.proofs.Claiming.{settled_by}
-use Rattle.script_replay.proofs.acquisition_lines.settle.Goals as goal
+use Rattle.script_replay.proofs.acquisition_lines.fill_what_retires.Goals as goal
 
 pub fill_retired-requires-clause-away : goal.fill_retired-requires-clause-away
 fill_retired-requires-clause-away c =

@@ -1,0 +1,34 @@
+use Rattle.std.proofs.Common.{refl, ◌∙◌}
+use Rattle.acquisition_machine.specs.declared.need.Need.TheVariants.{Done, Ignored}
+use Rattle.script_replay.proofs.Claiming.{hears_at, hears_twice, asks_no_more, hear_rests, hear_rests_again}
+use Rattle.script_replay.proofs.acquisition_lines.receive.Goals as goal
+
+pub returns-in-Buffer-clause-drives : goal.returns-in-Buffer-clause-drives
+returns-in-Buffer-clause-drives c =
+    hears_twice c.args.mode c.args.board.now c.fill_what_retires.new.board c.give_claimed-got.new.board c.fill_what_retires-again.new.board c.args.acq.now c.fill_what_retires.new.acq c.give_claimed-got.new.acq c.fill_what_retires-again.new.acq c.args.counts.now c.fill_what_retires.new.counts c.give_claimed-got.new.counts c.fill_what_retires-again.new.counts c.args.bytes.now c.in-Buffer._block
+    c.in-Buffer.ensures.settled c.give_claimed-got.ensures.claims c.fill_what_retires-again.ensures.settled c.in-Buffer.ensures.need
+
+pub returns-in-Buffer-clause-rest : goal.returns-in-Buffer-clause-rest
+returns-in-Buffer-clause-rest c =
+    hear_rests_again c.args.board.now c.fill_what_retires.new.board c.give_claimed-got.new.board c.fill_what_retires-again.new.board c.args.acq.now c.fill_what_retires.new.acq c.give_claimed-got.new.acq c.fill_what_retires-again.new.acq c.args.bytes.now c.requires.rest
+    c.in-Buffer.ensures.settled c.give_claimed-got.ensures.claims c.fill_what_retires-again.ensures.settled c.fill_what_retires-again.ensures.ready c.fill_what_retires-again.ensures.no_fill c.fill_what_retires-again.ensures.no_request
+    (c.fill_what_retires-again.ensures.asked
+    ∙ asks_no_more c.args.board.now c.fill_what_retires.new.board c.give_claimed-got.new.board c.args.acq.now c.fill_what_retires.new.acq c.give_claimed-got.new.acq c.args.bytes.now c.in-Buffer._block c.requires.rest.inputs c.fill_what_retires-again.result c.requires.rest.config
+    c.requires.rest.stands c.in-Buffer.ensures.settled c.give_claimed-got.ensures.claims c.in-Buffer.ensures.need c.fill_what_retires-again.ensures.need)
+    c.fill_what_retires-again.ensures.away
+
+pub returns-in-Done-clause-drives : goal.returns-in-Done-clause-drives
+returns-in-Done-clause-drives c =
+    hears_at c.args.mode c.args.board.now c.fill_what_retires.new.board c.args.acq.now c.fill_what_retires.new.acq c.args.counts.now c.fill_what_retires.new.counts c.args.bytes.now Done c.in-Done.ensures.settled c.in-Done.ensures.need refl
+
+pub returns-in-Done-clause-rest : goal.returns-in-Done-clause-rest
+returns-in-Done-clause-rest c =
+    hear_rests c.args.board.now c.fill_what_retires.new.board c.args.acq.now c.fill_what_retires.new.acq c.args.bytes.now c.requires.rest c.in-Done.ensures.settled c.in-Done.ensures.ready c.in-Done.ensures.no_fill c.in-Done.ensures.no_request c.in-Done.ensures.asked c.in-Done.ensures.away
+
+pub returns-in-Ignored-clause-drives : goal.returns-in-Ignored-clause-drives
+returns-in-Ignored-clause-drives c =
+    hears_at c.args.mode c.args.board.now c.fill_what_retires.new.board c.args.acq.now c.fill_what_retires.new.acq c.args.counts.now c.fill_what_retires.new.counts c.args.bytes.now (Ignored c.in-Ignored._why) c.in-Ignored.ensures.settled c.in-Ignored.ensures.need refl
+
+pub returns-in-Ignored-clause-rest : goal.returns-in-Ignored-clause-rest
+returns-in-Ignored-clause-rest c =
+    hear_rests c.args.board.now c.fill_what_retires.new.board c.args.acq.now c.fill_what_retires.new.acq c.args.bytes.now c.requires.rest c.in-Ignored.ensures.settled c.in-Ignored.ensures.ready c.in-Ignored.ensures.no_fill c.in-Ignored.ensures.no_request c.in-Ignored.ensures.asked c.in-Ignored.ensures.away
