@@ -9,7 +9,7 @@ use Rattle.gev_script.specs.Lines.{ScriptLine}
 use Rattle.gev_capture.specs.Sightings.{Sighting}
 use Rattle.capture_runs.specs.Texts.{Tells}
 use Rattle.capture_script.specs.Playing.{Played, Line, heard, ticked, stopped}
-use Rattle.capture_script.specs.Pool.{PlayingState, StandsAt, PlaysLine}
+use Rattle.capture_script.specs.Standing.{PlayingState, StandsAt, PlaysLine}
 use Rattle.capture_script.specs.Script.{Scripted, Lines, text_of, taking, with_takes, no_lines, both, goes_on, ticks, carries, sighted, script_texts, closing_lines}
 use Rattle.capture_script.specs.Scripting.{ScriptingState, StandsFor, AddsLines}
 use Rattle.capture_script.proofs.Spelled.{text_of-append, text_again}
