@@ -1,7 +1,18 @@
-use Rattle.gev_record.proofs.Draining.{draining_goes_on}
+use Rattle.std.proofs.lemmas.List.{drop_all}
+use Rattle.gev_record.proofs.Taking.{taking_goes_on, taken_all}
 use Rattle.gev_record.proofs.replica.add_takes.Goals as goal
 
-pub fills-preserved : goal.fills-preserved
-fills-preserved c =
-    draining_goes_on c.args.acq.now c.fills.acq c.next_fill.new.self c.args.used c.fills.used c.free-used.result c.args.text.now.items c.fills.text.items c.add_line.new.text.items
-    c.in-Some.retired c.fills.invariant c.in-Some.ensures.fill c.next_fill.ensures.requests c.next_fill.ensures.rest c.free-used.ensures c.in_ok-add_line.ensures
+pub loop-place-preserved : goal.loop-place-preserved
+loop-place-preserved c =
+    taking_goes_on c.loop-place.place-index c.args.back.now _ c.args.used c.loop-place.used c.free-used.result c.args.text.now.items c.loop-place.text.items c.add_line.new.text.items
+    c.loop-place-test.true c.loop-place.invariant c.free-used.ensures c.in_ok-add_line.ensures
+
+pub returns-clause-said : goal.returns-clause-said
+returns-clause-said c =
+    (taken_all c.args.back.now _ c.args.used c.loop-place.used c.args.text.now.items c.loop-place.text.items
+    (drop_all c.loop-place.place-index c.args.back.now c.loop-place-test.false) c.loop-place.invariant).0
+
+pub returns-clause-freed : goal.returns-clause-freed
+returns-clause-freed c =
+    (taken_all c.args.back.now _ c.args.used c.loop-place.used c.args.text.now.items c.loop-place.text.items
+    (drop_all c.loop-place.place-index c.args.back.now c.loop-place-test.false) c.loop-place.invariant).1

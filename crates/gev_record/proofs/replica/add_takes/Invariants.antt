@@ -1,10 +1,6 @@
-use Rattle.std.proofs.Common.{length}
-use Rattle.acq_core.specs.Waiting.{waiting_fills}
-use Rattle.gev_record.proofs.Draining.{IsDraining}
+use Rattle.std.proofs.Common.{drop}
+use Rattle.gev_record.proofs.Taking.{IsTaking}
 use Rattle.gev_record.proofs.replica.add_takes.Given as goal
 
-abbrev pub invariant-fills : goal.invariant-fills
-invariant-fills l = IsDraining l.fn.acq l.acq l.fn.used l.used l.fn.text.items l.text.items
-
-abbrev pub decreases-fills : goal.decreases-fills
-decreases-fills l = length (waiting_fills l.acq)
+abbrev pub invariant-loop-place : goal.invariant-loop-place
+invariant-loop-place l = IsTaking l.back (drop l.place-index l.back) l.initial.used l.used l.initial.text.items l.text.items
