@@ -8,7 +8,7 @@ use Rattle.acquisition_machine.specs.Machine.{Input, claimed}
 use Rattle.acquisition_machine.specs.Runs.{turn}
 use Rattle.acq_core.specs.declared.machine.Machine.{Machine}
 use Rattle.acq_core.specs.Waiting.{waiting_fills, waiting_requests}
-use Rattle.acq_core.specs.Receiver.{config_of, Stands, Takes, KeepsBlocks}
+use Rattle.acq_core.specs.Receiver.{config_of, Takes, KeepsBlocks}
 use Rattle.take_lines.specs.Players.{places_of, places_back, Plays}
 use Rattle.take_lines.specs.Pool.{HasBuffers, IsPlaying}
 

@@ -5,6 +5,8 @@
 #![tactic(auto)]
 
 mod player;
+#[cfg(test)]
+mod tests;
 mod turning;
 
 pub use acq_core::{AcqConfig, Need};
