@@ -23,7 +23,7 @@ use Rattle.gev_record.specs.Places.{lowest_in}
 use Rattle.gev_record.specs.Standing.{StandsAt, TakesInputs, IsFreeFor, queued_at, turn_of}
 use Rattle.gev_record.specs.Writing.{text_of}
 use Rattle.gev_record.proofs.Steps.{live_of, line_first}
-use Rattle.gev_record.proofs.Texts.{text_of-append}
+use Rattle.take_lines.proofs.Texts.{text_of-append}
 
 -- ---- text
 

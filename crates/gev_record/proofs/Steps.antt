@@ -23,7 +23,7 @@ use Rattle.gev_record.specs.Places.{used_of, taken, all_freed}
 use Rattle.gev_record.specs.Standing.{IsOwn, StandsAt, TakesInputs, IsFreeFor}
 use Rattle.gev_record.specs.Writing.{text_of}
 use Rattle.gev_record.proofs.InUse.{freed_all, taken_middle}
-use Rattle.gev_record.proofs.Texts.{text_of-append}
+use Rattle.take_lines.proofs.Texts.{text_of-append}
 
 -- ---- the two ways to say where buffers are
 

@@ -15,7 +15,8 @@ use Rattle.gev_record.specs.declared.used.Used.{Used}
 use Rattle.gev_record.specs.Standing.{StandsAt, StandsIn, none_used, turn_of}
 use Rattle.gev_record.specs.Writing.{text_of, noted, Writes}
 use Rattle.gev_record.proofs.Hearing.{Turns}
-use Rattle.gev_record.proofs.Texts.{Leads, leads_start, leads_on, leads_stops, leads_end, text_of-append, writes_then, writes_stops}
+use Rattle.gev_record.proofs.Texts.{Leads, leads_start, leads_on, leads_stops, leads_end, writes_then, writes_stops}
+use Rattle.take_lines.proofs.Texts.{text_of-append}
 
 -- a receiver that heard nothing yet
 pub started : {E : Type 0} (r : Result PlayerState E) → IfOk r (λ s. Took s []) → IfOk r (λ s. config_in s ≡ live_config) → IfOk r (λ s. s.size ≡ buffer_size)

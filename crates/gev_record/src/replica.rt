@@ -11,12 +11,11 @@ ghost use Rattle.gev_record.specs.Places.{all_freed};
 ghost use Rattle.gev_record.specs.Standing.{StandsAt, TakesInputs, IsFreeFor};
 ghost use Rattle.gev_record.specs.Writing.{text_of};
 
-use crate::lines::add_line;
 use crate::used::Used;
 use gev_script::Line;
 use gev_types::NoMemory;
 use std::alloc::Global;
-use take_lines::{Need, Player};
+use take_lines::{Need, Player, add_line};
 
 /// The size of each buffer of a recorded run, in bytes.
 pub(crate) const BUFFER_SIZE: u32 = 307_200;
@@ -26,12 +25,8 @@ fn add_takes(alloc: Global, back: &[u8], used: Used, text: &mut Vec<u8>) -> Resu
     ensures said { IfOk result (λ _. text.new.items ≡ text.old.items ++ text_of (map (λ _. line.take) back.now)) }
     ensures freed { IfOk result (λ after. after ≡ all_freed back.now used) }
 {
-    let mut used = used;
-    for place in back {
-        used = used.free(*place);
-        add_line(alloc, &Line::Take, text)?;
-    }
-    Ok(used)
+    take_lines::add_takes(alloc, back.len(), text)?;
+    Ok(used.free_all(back))
 }
 
 /// Tells a datagram once, and adds a `take` for each block that is filled.

@@ -6,14 +6,14 @@ ghost use Rattle.recorded_runs.specs.Script.{live_config, heard, heard_lines, to
 ghost use Rattle.gev_record.specs.Standing.{TakesInputs, queued_at, turn_of};
 ghost use Rattle.gev_record.specs.Writing.{text_of};
 
-use crate::lines::{add_datagram, add_line};
+use crate::lines::add_datagram;
 use crate::replica::{claim, tell, tick};
 use crate::used::Used;
 use acquisition_laws::Mark;
 use gev_script::Line;
 use gev_types::NoMemory;
 use std::alloc::Global;
-use take_lines::{Need, Player};
+use take_lines::{Need, Player, add_line};
 
 /// Queues the buffer at this place, where the turn opened a block with one.
 fn add_queue(alloc: Global, place: u8, mark: Mark, text: &mut Vec<u8>) -> Result<(), NoMemory>

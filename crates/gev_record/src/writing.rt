@@ -6,7 +6,6 @@ ghost use Rattle.gev_script.specs.Lines.{header, end_of_script};
 ghost use Rattle.gev_record.specs.Standing.{StandsIn, turn_of, none_used};
 ghost use Rattle.gev_record.specs.Writing.{noted, Writes, text_of};
 
-use crate::lines::add_line;
 use crate::record_end::RecordEnd;
 use crate::replica::{BUFFER_SIZE, stop};
 use crate::tape::Tape;
@@ -17,7 +16,7 @@ use gev_links::{Link, Sink, write_all};
 use gev_script::Line;
 use gev_types::NoMemory;
 use std::alloc::Global;
-use take_lines::{AcqConfig, Player};
+use take_lines::{AcqConfig, Player, add_line};
 
 /// How a live run's receiver is configured.
 const LIVE: AcqConfig = AcqConfig {

@@ -1,2 +1,3 @@
 pub mod Players
 pub mod Pool
+pub mod Texts
