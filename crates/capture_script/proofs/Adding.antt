@@ -1,6 +1,6 @@
 -- Lines that are added to the text.
-use Rattle.std.proofs.Common.{◌≡◌, ℕ, ◌+◌, ◌≤◌, Bool, List, [], ◌∷◌, ◌++◌, ap, sym, ◌∙◌, subst, append_assoc, arith}
-use Rattle.std.specs.Prelude.{replicate, if◌then◌else◌}
+use Rattle.std.proofs.Common.{◌≡◌, ℕ, ◌≤◌, Bool, List, [], ◌∷◌, ◌++◌, ap, sym, ◌∙◌, subst, arith}
+use Rattle.std.specs.Prelude.{if◌then◌else◌}
 use Rattle.std.proofs.lemmas.Bool.{ne_eqb}
 use Rattle.std.proofs.lemmas.List.{append-nil}
 use Rattle.hex.specs.Hex.{encode_lower}
@@ -9,16 +9,10 @@ use Rattle.gev_script.specs.Lines.{ScriptLine}
 use Rattle.gev_capture.specs.Sightings.{Sighting}
 use Rattle.capture_runs.specs.Texts.{Tells}
 use Rattle.capture_script.specs.Playing.{Played, Line, heard, ticked, stopped}
-use Rattle.capture_script.specs.Pool.{PlayingState, StandsAt, PlaysLine}
-use Rattle.capture_script.specs.Script.{Scripted, Lines, text_of, taking, with_takes, no_lines, both, goes_on, ticks, carries, sighted, script_texts, closing_lines}
+use Rattle.capture_script.specs.Standing.{PlayingState, StandsAt, PlaysLine}
+use Rattle.capture_script.specs.Script.{Scripted, Lines, text_of, take_lines, taking, with_takes, no_lines, both, goes_on, ticks, carries, sighted, script_texts, closing_lines}
 use Rattle.capture_script.specs.Scripting.{ScriptingState, StandsFor, AddsLines}
-use Rattle.capture_script.proofs.Spelled.{text_of-append, text_again}
-
--- lines behind lines
-pub added_both : (ls ms : List ScriptLine) (t0 t1 t2 : List ℕ) → t1 ≡ t0 ++ text_of ls → t2 ≡ t1 ++ text_of ms → t2 ≡ t0 ++ text_of (ls ++ ms)
-added_both ls ms t0 t1 t2 e f =
-    f ∙ ap (λ (t : List ℕ). t ++ text_of ms) e ∙ append_assoc t0 (text_of ls) (text_of ms)
-    ∙ ap (λ (t : List ℕ). t0 ++ t) (sym (text_of-append ls ms))
+use Rattle.take_lines.proofs.Texts.{added_both}
 
 -- a line and the takes behind it
 added_line : (l : ScriptLine) (filled n : ℕ) (t0 t1 t2 : List ℕ) → filled ≡ n → t1 ≡ t0 ++ text_of (l ∷ []) → t2 ≡ t1 ++ text_of (taking filled) → t2 ≡ t0 ++ text_of (l ∷ taking n)
@@ -79,18 +73,10 @@ tells_packet s x new t0 t1 h = record {
 }
 
 -- all takes stand, and the flush behind them
-pub taken_all : (filled counter : ℕ) (t0 t1 t2 : List ℕ) → 1 ≤ filled → counter ≡ filled → t1 ≡ t0 ++ text_of (replicate counter line.take) → t2 ≡ t1 ++ text_of (line.flush 3 ∷ [])
-    → t2 ≡ t0 ++ text_of (taking filled)
-taken_all filled counter t0 t1 t2 some is e f =
-    added_both (replicate counter line.take) (line.flush 3 ∷ []) t0 t1 t2 e f
-    ∙ ap (λ (k : ℕ). t0 ++ text_of (replicate k line.take ++ line.flush 3 ∷ [])) is
-    ∙ ap (λ (b : Bool). t0 ++ text_of (if b then [] else replicate filled line.take ++ line.flush 3 ∷ [])) (sym (ne_eqb filled 0 (λ e. omega (arith, some, e))))
-
--- one more take
-pub taken_one : (n : ℕ) (t0 t1 t2 : List ℕ) → t1 ≡ t0 ++ text_of (replicate n line.take) → t2 ≡ t1 ++ text_of (line.take ∷ []) → t2 ≡ t0 ++ text_of (replicate (n + 1) line.take)
-taken_one n t0 t1 t2 e f =
-    f ∙ ap (λ (t : List ℕ). t ++ text_of (line.take ∷ [])) e ∙ append_assoc t0 (text_of (replicate n line.take)) (text_of (line.take ∷ []))
-    ∙ ap (λ (t : List ℕ). t0 ++ t) (text_again n line.take)
+pub taken_all : (filled : ℕ) (t0 t1 t2 : List ℕ) → 1 ≤ filled → t1 ≡ t0 ++ text_of (take_lines filled) → t2 ≡ t1 ++ text_of (line.flush 3 ∷ []) → t2 ≡ t0 ++ text_of (taking filled)
+taken_all filled t0 t1 t2 some e f =
+    added_both (take_lines filled) (line.flush 3 ∷ []) t0 t1 t2 e f
+    ∙ ap (λ (b : Bool). t0 ++ text_of (if b then [] else take_lines filled ++ line.flush 3 ∷ [])) (sym (ne_eqb filled 0 (λ e. omega (arith, some, e))))
 
 -- the stream stops, and the script ends
 pub close_adds : (inside now : ScriptingState) (after : PlayingState) (filled : ℕ) (s : Scripted) (t0 t1 t2 t3 : List ℕ) → inside ≡ now

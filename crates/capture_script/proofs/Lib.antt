@@ -1,4 +1,3 @@
-pub mod Buffers
 pub mod Turns
 pub mod Heard
 pub mod Spelled

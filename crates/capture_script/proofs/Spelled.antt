@@ -1,27 +1,13 @@
--- The lines of a script as text.
-use Rattle.std.proofs.Common.{◌≡◌, ℕ, zero, suc, ◌+◌, ◌*◌, ◌/◌, ◌%◌, ◌<◌, ◌≤◌, true, List, [], ◌∷◌, ◌++◌, length, get_or, refl, ap, sym, ◌∙◌, arith, append_assoc, add-one}
-use Rattle.std.specs.Prelude.{replicate, slice_index}
+-- The digits of a datagram as a line.
+use Rattle.std.proofs.Common.{◌≡◌, ℕ, suc, ◌*◌, ◌/◌, ◌%◌, ◌<◌, ◌≤◌, true, List, [], ◌∷◌, length, get_or, refl, arith}
+use Rattle.std.specs.Prelude.{slice_index}
 use Rattle.std.specs.List.{list_all}
 use Rattle.std.proofs.lemmas.Bool.{le-leb, eq-eqb, and_from}
 use Rattle.std.proofs.lemmas.List.Sums.{AllPass-from_list_all}
 use Rattle.hex.specs.Hex.{encode_with, encode_lower, lower_digits}
 use Rattle.hex.proofs.HexLemmas.{length-encode_with}
 use Rattle.gev_script.specs.Numbers.{is_hex_digit}
-use Rattle.gev_script.specs.Lines.{ScriptLine}
-use Rattle.gev_script.specs.Spelling.{spelling, IsDatagram}
-use Rattle.capture_script.specs.Script.{text_of}
-
-pub text_of-append : (ls ms : List ScriptLine) → text_of (ls ++ ms) ≡ text_of ls ++ text_of ms
-text_of-append [] ms = refl
-text_of-append (l ∷ ls) ms =
-    ap (λ (t : List ℕ). spelling l ++ 10 ∷ t) (text_of-append ls ms) ∙ sym (append_assoc (spelling l) (10 ∷ text_of ls) (text_of ms))
-
--- one more of the same line
-pub text_again : (n : ℕ) (l : ScriptLine) → text_of (replicate n l) ++ text_of (l ∷ []) ≡ text_of (replicate (n + 1) l)
-text_again n l = sym (text_of-append (replicate n l) (l ∷ [])) ∙ ap text_of (pushed n) where
-  pushed : (k : ℕ) → replicate k l ++ l ∷ [] ≡ replicate (k + 1) l
-  pushed zero = refl
-  pushed (suc k) = rw add-one (ap (λ (ls : List ScriptLine). l ∷ ls) (pushed k ∙ rw add-one refl))
+use Rattle.gev_script.specs.Spelling.{IsDatagram}
 
 abbrev AreSmall : List ℕ → Type 0
 AreSmall bytes = (i : ℕ) → slice_index bytes i < 256

@@ -1,18 +1,20 @@
 -- What turns of the acquisition fill, one after the other.
-use Rattle.std.proofs.Common.{◌≡◌, ℕ, ◌+◌, List, [], ◌∷◌, ◌++◌, length, refl, ap, sym, ◌∙◌, subst, length-append, append_assoc}
-use Rattle.std.proofs.lemmas.List.{append-nil}
-use Rattle.gev_types.specs.Filling.{Filling}
+use Rattle.std.proofs.Common.{◌≡◌, ℕ, ◌+◌, List, [], ◌∷◌, ◌++◌, length, Option, Some, refl, ap, sym, ◌∙◌, subst, arith, length-append, append_assoc}
+use Rattle.std.specs.Prelude.{IsSome}
+use Rattle.std.proofs.lemmas.List.{append-nil, length-map}
 use Rattle.acquisition_machine.specs.declared.config.AcqConfig.{AcqConfig}
+use Rattle.acquisition_machine.specs.declared.need.Need.{Need}
+use Rattle.acquisition_machine.specs.declared.need.Need.TheVariants.{Buffer}
 use Rattle.acquisition_machine.specs.declared.retired.Retired.{Retired}
 use Rattle.acquisition_machine.specs.Blocks.{Retirement, fill_of, fills}
-use Rattle.acquisition_machine.specs.Machine.{Input, State, step}
-use Rattle.acquisition_machine.specs.Runs.{After, retired_from, turn}
+use Rattle.acquisition_machine.specs.Machine.{Input, datagram, State, step}
+use Rattle.acquisition_machine.specs.Runs.{first_state, After, retired_from, turn}
+use Rattle.acquisition_machine.specs.TurnLaws.{asked_by}
 use Rattle.acquisition_machine.proofs.Joining.{after_from-append}
-use Rattle.acq_core.specs.declared.machine.Machine.{Machine}
-use Rattle.acq_core.specs.Waiting.{waiting_fills, waiting_requests}
-use Rattle.acq_core.specs.Receiver.{config_of, Stands, Takes, KeepsBlocks}
-use Rattle.capture_script.specs.Playing.{config}
-use Rattle.capture_script.specs.Pool.{HasBuffers, IsAsking, Plays, found}
+use Rattle.take_lines.specs.Players as player
+use Rattle.take_lines.specs.Players.{PlayerState, config_in, asked_in, Took, places_back}
+use Rattle.capture_script.specs.Playing.{config, inputs_by}
+use Rattle.capture_script.specs.Standing.{Plays, found}
 
 fills-append : (p : ℕ) (rs ss : List Retirement) → fills p (rs ++ ss) ≡ fills p rs ++ fills p ss
 fills-append p [] ss = refl
@@ -32,76 +34,56 @@ filled_cons p s i is =
 pub filled_one : (p : ℕ) (s : State) (i : Input) → filled_from p s (i ∷ []) ≡ length (fills p (step (config p) s i).retired)
 filled_one p s i = ap (λ (rs : List Retirement). length (fills p rs)) (append-nil (step (config p) s i).retired)
 
--- one turn of a receiver from which no fill waits
-pub record Turned (p : ℕ) (old new : Machine) (i : Input) : Type 0 where
-  pub stands : (q : List Input) → Stands old q → Stands new (q ++ i ∷ [])
-  pub filled : (q : List Input) → Stands old q → length (waiting_fills new) ≡ length (fills p (turn (config p) q i).retired)
-  pub config_is : config_of new ≡ config p
+-- so many came back as were filled
+pub counted : (p : ℕ) (s : PlayerState) (q is : List Input) (back : List ℕ) → config_in s ≡ config p → back ≡ places_back (config_in s) q is
+    → length back ≡ filled_from p (After (config p) q) is
+counted p s q is back same e =
+    ap (λ (ns : List ℕ). length ns) e
+    ∙ (ap (λ (c : AcqConfig). length (places_back c q is)) same
+    ∙ length-map (fills p (retired_from (config p) (After (config p) q) is)) (λ (f : Retired). f.place))
 
-pub turned : (p : ℕ) (old new : Machine) (i : Input) → config_of old ≡ config p → waiting_fills old ≡ [] → Takes old new i → Turned p old new i
-turned p old new i e no_fill t = record {
-  stands = t.stands;
-  filled = λ q stands.
-      ap (λ (fs : List Retired). length fs) (t.fills q stands ∙ ap (λ (fs : List Retired). fs ++ fills (config_of old).p (turn (config_of old) q i).retired) no_fill)
-      ∙ ap (λ (c : AcqConfig). length (fills c.p (turn c q i).retired)) e;
-  config_is = t.config ∙ e;
-}
-
--- the fills were taken back
-pub plays_one : (p : ℕ) (old mid new : Machine) (i : Input) (q : List Input) (n : ℕ) → Turned p old mid i → KeepsBlocks mid new → Stands old q → n ≡ length (waiting_fills mid)
+-- one input
+pub plays_one : (p : ℕ) (old new : PlayerState) (i : Input) (back : List ℕ) (n : ℕ) (q : List Input) → config_in old ≡ config p → player.Plays old new i back → n ≡ length back → Took old q
     → Plays p q (i ∷ []) new n
-plays_one p old mid new i q n t k stands e = record {
-  stands = k.stands (q ++ i ∷ []) (t.stands q stands);
-  filled_is = e ∙ t.filled q stands ∙ sym (filled_one p (After (config p) q) i);
+plays_one p old new i back n q same t is took = record {
+  stands = t.took q took;
+  filled_is = is ∙ counted p old q (i ∷ []) back same (t.back_is q took);
 }
 
 -- inputs behind another
-pub plays_cons : (p : ℕ) (old mid new : Machine) (i : Input) (is q : List Input) (n : ℕ) → Turned p old mid i → Stands old q
-    → ((r : List Input) → Stands mid r → Stands new (r ++ is))
-    → ((r : List Input) → Stands mid r → n ≡ length (waiting_fills mid) + filled_from p (After (config p) r) is)
-    → Plays p q (i ∷ is) new n
-plays_cons p old mid new i is q n t stands f g = record {
-  stands = subst (λ (r : List Input). Stands new r) (append_assoc q (i ∷ []) is) (f (q ++ i ∷ []) (t.stands q stands));
-  filled_is =
-      g (q ++ i ∷ []) (t.stands q stands)
-      ∙ ap (λ (k : ℕ). k + filled_from p (After (config p) (q ++ i ∷ [])) is) (t.filled q stands)
-      ∙ ap (λ (s : State). length (fills p (turn (config p) q i).retired) + filled_from p s is) (after_from-append (config p) _ q (i ∷ []))
-      ∙ sym (filled_cons p (After (config p) q) i is);
-}
+pub plays_cons : (p : ℕ) (old one new : PlayerState) (i : Input) (is q : List Input) (back : List ℕ) (m n : ℕ) → config_in old ≡ config p → player.Plays old one i back → m ≡ length back → Took old q
+    → Plays p (q ++ i ∷ []) is new n → Plays p q (i ∷ is) new (m + n)
+plays_cons p old one new i is q back m n same t counts took rest =
+    let s : State = After (config p) q in
+    let front : m ≡ length (fills p (step (config p) s i).retired) = counts ∙ (counted p old q (i ∷ []) back same (t.back_is q took) ∙ filled_one p s i) in
+    let later : n ≡ filled_from p (step (config p) s i).after is = rest.filled_is ∙ ap (λ (u : State). filled_from p u is) (after_from-append (config p) first_state q (i ∷ [])) in
+    record {
+      stands = subst (λ (r : List Input). Took new r) (append_assoc q (i ∷ []) is) rest.stands;
+      filled_is =
+          ap (λ (k : ℕ). k + n) front
+          ∙ (ap (λ (k : ℕ). length (fills p (step (config p) s i).retired) + k) later ∙ sym (filled_cons p s i is));
+    }
 
--- a claim fills nothing
-pub filled_claim : (p size : ℕ) (s : State) (is : List Input) → filled_from p s (found size ∷ is) ≡ filled_from p (step (config p) s (found size)).after is
-filled_claim p size s is = refl
+-- a buffer is found, and the datagram told again
+pub plays_again : (p : ℕ) (old one new : PlayerState) (bytes : List ℕ) (back : List ℕ) (n : ℕ) (q : List Input) → config_in old ≡ config p → player.Plays old one (found old.size) []
+    → player.Plays one new (datagram bytes) back → n ≡ length back → Took old q → Plays p q (found old.size ∷ datagram bytes ∷ []) new n
+plays_again p old one new bytes back n q same claim again counts took =
+    let rest : Plays p (q ++ found old.size ∷ []) (datagram bytes ∷ []) new n =
+    plays_one p one new (datagram bytes) back n (q ++ found old.size ∷ []) (claim.config ∙ same) again counts (claim.took q took) in
+    let all : Plays p q (found old.size ∷ datagram bytes ∷ []) new (0 + n) = plays_cons p old one new (found old.size) (datagram bytes ∷ []) q [] 0 n same claim refl took rest in
+    let none : 0 + n ≡ n = omega arith in
+    record { stands = all.stands; filled_is = sym none ∙ all.filled_is }
 
-pub keeps_none : (m : Machine) → KeepsBlocks m m
-keeps_none m = record { stands = λ q s. s; buffers = refl; opens = refl; asked = refl; config = refl }
+-- what a datagram's answer makes of it
+pub answered : (p : ℕ) (s : PlayerState) (q : List Input) (bytes : List ℕ) (need told : Need) → config_in s ≡ config p → (turn (config_in s) q (datagram bytes)).need ≡ Some need → need ≡ told
+    → (turn (config p) q (datagram bytes)).need ≡ Some told
+answered p s q bytes need told same is e =
+    sym (ap (λ (k : AcqConfig). (turn k q (datagram bytes)).need) same) ∙ (is ∙ ap (λ (n : Need). Some n) e)
 
-pub keeps_both : (m n o : Machine) → KeepsBlocks m n → KeepsBlocks n o → KeepsBlocks m o
-keeps_both m n o k l = record {
-  stands = λ q s. l.stands q (k.stands q s);
-  buffers = l.buffers ∙ k.buffers;
-  opens = l.opens ∙ k.opens;
-  asked = l.asked ∙ k.asked;
-  config = l.config ∙ k.config;
-}
+pub plays_by : (p size : ℕ) (q : List Input) (bytes : List ℕ) (m n : Option Need) (new : PlayerState) (filled : ℕ) → m ≡ n → Plays p q (inputs_by size bytes n) new filled
+    → Plays p q (inputs_by size bytes m) new filled
+plays_by p size q bytes m n new filled e plays = subst (λ (k : Option Need). Plays p q (inputs_by size bytes k) new filled) (sym e) plays
 
-pub asking_kept : (p size : ℕ) (m n : Machine) (spare spare_new : List Filling) → IsAsking p size m spare → KeepsBlocks m n → waiting_requests n ≡ waiting_requests m → HasBuffers size n spare_new
-    → IsAsking p size n spare_new
-asking_kept p size m n spare spare_new a k requests has = record {
-  turned = record {
-    config_is = k.config ∙ a.turned.config_is;
-    inputs = a.turned.inputs;
-    stands = k.stands a.turned.inputs a.turned.stands;
-    no_request = requests ∙ a.turned.no_request;
-    has = has;
-  };
-  block = a.block;
-  asked = k.asked ∙ a.asked;
-}
-
--- the datagram that is told again
-pub filled_again : (p size : ℕ) (q : List Input) (i : Input)
-    → length (fills p (turn (config p) (q ++ found size ∷ []) i).retired) ≡ filled_from p (After (config p) q) (found size ∷ i ∷ [])
-filled_again p size q i =
-    sym (filled_one p (After (config p) (q ++ found size ∷ [])) i)
-    ∙ ap (λ (s : State). filled_from p s (i ∷ [])) (after_from-append (config p) _ q (found size ∷ []))
+-- a claim is awaited
+pub is_asked : (s : PlayerState) (need : Need) (b : ℕ) → asked_in s ≡ asked_by (Some need) → need ≡ Buffer b → IsSome (asked_in s)
+is_asked s need b asked e = subst (λ (a : Option ℕ). IsSome a) (sym (asked ∙ ap (λ (n : Need). asked_by (Some n)) e)) refl

@@ -8,7 +8,7 @@ use Rattle.capture_runs.specs.Texts.{said, state, whole, broken}
 use Rattle.capture_runs.specs.Ends.{RunEnds}
 use Rattle.capture_runs.proofs.Walked.{ends_as, run_none}
 use Rattle.capture_script.specs.Script.{Scripted, new_script, text_of, opening_lines, closing_lines, sighted, script_texts, lines_from, script_behind, begun_lines, begun_script, capture_script}
-use Rattle.capture_script.proofs.Spelled.{text_of-append}
+use Rattle.take_lines.proofs.Texts.{text_of-append}
 
 said_is : (s : Scripted) (xs : List Sighting) → said script_texts s xs ≡ text_of (lines_from s xs)
 said_is s [] = refl

@@ -1,4 +1,4 @@
 pub mod Playing
 pub mod Script
-pub mod Pool
+pub mod Standing
 pub mod Scripting

@@ -1,18 +1,13 @@
 -- The replay script of the datagrams to one port of a capture, as a function of the capture's packets.
-use Rattle.std.specs.Prelude.{ℕ, ◌==◌, ◌&&◌, nat_lt, nat_le, List, [], ◌∷◌, ◌++◌, length, replicate, Bool, if◌then◌else◌}
+use Rattle.std.specs.Prelude.{ℕ, ◌==◌, ◌&&◌, nat_lt, nat_le, List, [], ◌∷◌, ◌++◌, length, Bool, if◌then◌else◌}
 use Rattle.hex.specs.Hex.{encode_lower}
 use Rattle.gev_script.specs.Lines as line
 use Rattle.gev_script.specs.Lines.{ScriptLine}
-use Rattle.gev_script.specs.Spelling.{spelling}
 use Rattle.gev_capture.specs.Contents.{Seen, other, fragment, cut, datagram}
 use Rattle.gev_capture.specs.Sightings.{Sighting}
 use Rattle.capture_runs.specs.Texts.{Texts}
+pub use Rattle.take_lines.specs.Texts.{text_of, take_lines}
 use Rattle.capture_script.specs.Playing.{Played, Line, nothing_played, heard, ticked, stopped}
-
--- the text of lines, each with its line feed
-abbrev pub text_of : List ScriptLine → List ℕ
-text_of [] = []
-text_of (l ∷ ls) = spelling l ++ 10 ∷ text_of ls
 
 abbrev pub header_line : ℕ → ScriptLine
 header_line p = line.header (record { version = 2; p = p; window = 2; timeout = 200; age = 20; rounds = 0 })
@@ -25,7 +20,7 @@ opening_lines p size =
 
 -- Each buffer that was filled is taken, and they go back.
 abbrev pub taking : ℕ → List ScriptLine
-taking n = if n == 0 then [] else replicate n line.take ++ line.flush 3 ∷ []
+taking n = if n == 0 then [] else take_lines n ++ line.flush 3 ∷ []
 
 -- a line, and the takes of what is filled there
 abbrev pub with_takes : ScriptLine → Line → List ScriptLine

@@ -1,6 +1,6 @@
 -- How the code writes a script.
 use Rattle.std.specs.Prelude.{◌≡◌, ℕ, List, ◌++◌}
-use Rattle.capture_script.specs.Pool.{PlayingState, StandsAt}
+use Rattle.capture_script.specs.Standing.{PlayingState, StandsAt}
 use Rattle.capture_script.specs.Script.{Scripted, Lines, text_of}
 
 pub record ScriptingState : Type 0 where

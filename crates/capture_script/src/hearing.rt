@@ -1,14 +1,13 @@
 //! A datagram with either kind of identifiers comes.
 
-ghost use Rattle.std.specs.Prelude.{◌≡◌, ◌+◌, ◌≤◌, true, length, vec_capacity};
-ghost use Rattle.acq_core.specs.Receiver.{Stands};
-ghost use Rattle.capture_script.specs.Playing.{Played, is_standard, heard};
-ghost use Rattle.capture_script.specs.Pool.{IsPlaying, Hears};
+ghost use Rattle.std.specs.Prelude.{◌≡◌, ◌+◌, ◌≤◌, true, length};
+ghost use Rattle.take_lines.specs.Players.{config_in, Took};
+ghost use Rattle.capture_script.specs.Playing.{Played, config, is_standard, heard};
+ghost use Rattle.capture_script.specs.Standing.{Hears};
 
 use crate::turning::tell;
-use acq_core::Acq;
-use gev_types::Buf;
 use gvsp_std::Widener;
+use take_lines::Player;
 
 /// The bytes of a header with standard identifiers.
 const HEADER_SIZE: usize = 8;
@@ -29,50 +28,44 @@ fn is_standard(top: u64, bytes: &[u8]) -> bool
 /// Tells a datagram with standard identifiers as one with extended ones, which comes into the room. One whose id names
 /// no block isn't told.
 fn hear_standard(
-    acq: &mut Acq,
-    spare: &mut Vec<Buf>,
+    player: &mut Player,
     p: u32,
-    size: u32,
     widener: &mut Widener,
     room: &mut [u8],
     bytes: &[u8],
 ) -> u8
-    requires playing { IsPlaying p size acq.old spare.old.items }
-    requires spare_room { 3 ≤ vec_capacity spare.old }
+    requires config { config_in player.old ≡ config p }
     requires standard { is_standard widener.old bytes.now ≡ true }
     requires room { length bytes.now + 12 ≤ length room.old }
-    ensures hears { (s : Played) → Stands acq.old s.inputs → widener.old ≡ s.top
-        → Hears (heard p size bytes.now s) acq.new widener.new result }
-    ensures playing { IsPlaying p size acq.new spare.new.items }
-    ensures spare_room { 3 ≤ vec_capacity spare.new }
+    ensures hears { (s : Played) → Took player.old s.inputs → widener.old ≡ s.top
+        → Hears (heard p player.old.size bytes.now s) player.new widener.new result }
+    ensures config { config_in player.new ≡ config p }
+    ensures size { player.new.size ≡ player.old.size }
 {
     match widener.widen(bytes, room) {
-        Ok(count) => tell(acq, spare, p, size, &room[..count]),
+        Ok(count) => tell(player, p, &room[..count]),
         Err(_refusal) => 0,
     }
 }
 
 /// Tells a datagram, and gives a buffer where it asks for one. Answers how many buffers were filled.
 pub fn hear_bytes(
-    acq: &mut Acq,
-    spare: &mut Vec<Buf>,
+    player: &mut Player,
     p: u32,
-    size: u32,
     widener: &mut Widener,
     room: &mut [u8],
     bytes: &[u8],
 ) -> u8
-    requires playing { IsPlaying p size acq.old spare.old.items }
-    requires spare_room { 3 ≤ vec_capacity spare.old }
+    requires config { config_in player.old ≡ config p }
     requires room { length bytes.now + 12 ≤ length room.old }
-    ensures hears { (s : Played) → Stands acq.old s.inputs → widener.old ≡ s.top
-        → Hears (heard p size bytes.now s) acq.new widener.new result }
-    ensures playing { IsPlaying p size acq.new spare.new.items }
-    ensures spare_room { 3 ≤ vec_capacity spare.new }
+    ensures hears { (s : Played) → Took player.old s.inputs → widener.old ≡ s.top
+        → Hears (heard p player.old.size bytes.now s) player.new widener.new result }
+    ensures config { config_in player.new ≡ config p }
+    ensures size { player.new.size ≡ player.old.size }
 {
     let top = widener.top();
     if is_standard(top, bytes) {
-        return hear_standard(acq, spare, p, size, widener, room, bytes);
+        return hear_standard(player, p, widener, room, bytes);
     }
-    tell(acq, spare, p, size, bytes)
+    tell(player, p, bytes)
 }

@@ -1,57 +1,41 @@
-ghost use Rattle.std.specs.Prelude.{◌≡◌, ◌≤◌, length, vec_capacity, IfOk};
-ghost use Rattle.std.specs.List.{AllByRecursion};
+ghost use Rattle.std.specs.Prelude.{◌≡◌, ◌≤◌, length, IfOk};
 ghost use Rattle.capture_script.specs.Playing.{Played, nothing_played, heard, ticked, stopped};
-ghost use Rattle.capture_script.specs.Pool.{StandsAt, PlaysLine};
+ghost use Rattle.capture_script.specs.Standing.{StandsAt, PlaysLine};
 
 use crate::hearing::hear_bytes;
 use crate::turning::{tell_moment, tell_stop};
-use acq_core::{Acq, AcqConfig};
-use gev_types::{Buf, NoMemory};
+use gev_types::NoMemory;
 use gvsp_std::Widener;
 use std::alloc::Global;
 use std::marker::Model;
+use take_lines::{AcqConfig, Player};
 
 /// The most bytes of a datagram in a script.
 const MOST_BYTES: usize = 9999;
 
 /// The acquisition that a script plays, of which each line says how many buffers it fills. They go back at once.
 ///
-/// Contracts see the acquisition, the most bytes of a payload, the size of a buffer, and the greatest block of a
+/// Contracts see the player, the most bytes of a payload, the size of a buffer, and the greatest block of a
 /// datagram with standard identifiers.
 #[derive(Drop)]
 pub struct Playing {
-    acq: Acq,
+    player: Player,
     p: u32,
-    size: u32,
     widener: Widener,
     room: Vec<u8>,
-    spare: Vec<Buf>,
 }
 
 impl Model for Playing {
-    ghost use Rattle.std.specs.Prelude.{◌≡◌, ◌≤◌, length, vec_capacity};
-    ghost use Rattle.capture_script.specs.Pool.{PlayingState, IsPlaying};
+    ghost use Rattle.std.specs.Prelude.{◌≡◌, length};
+    ghost use Rattle.take_lines.specs.Players.{config_in};
+    ghost use Rattle.capture_script.specs.Playing.{config};
+    ghost use Rattle.capture_script.specs.Standing.{PlayingState};
 
     ghost Value = { PlayingState };
 
-    ghost view = { λ x. record { acq = x.acq; p = x.p; size = x.size; top = x.widener } };
+    ghost view = { λ x. record { player = x.player; p = x.p; size = x.player.size; top = x.widener } };
 
-    ghost invariant = { λ x. IsPlaying x.p x.size x.acq x.spare.items × (length x.room.items ≡ 10011) × (3 ≤ vec_capacity x.spare) };
-}
-
-/// Three buffers of this size.
-fn new_buffers(alloc: Global, size: u32) -> Result<Vec<Buf>, NoMemory>
-    requires some { 1 ≤ size }
-    requires in_limits { size ≤ 67108864 }
-    ensures three { IfOk result (λ spare. length spare.items ≡ 3) }
-    ensures sized { IfOk result (λ spare. AllByRecursion (λ f. length f.bytes ≡ size) spare.items) }
-    ensures room { IfOk result (λ spare. 3 ≤ vec_capacity spare) }
-{
-    let mut spare = Vec::with_capacity(alloc, 3)?;
-    spare.push_reserved(Buf::new(alloc, size)?);
-    spare.push_reserved(Buf::new(alloc, size)?);
-    spare.push_reserved(Buf::new(alloc, size)?);
-    Ok(spare)
+    ghost invariant = { λ x. (config_in x.player ≡ config x.p) × (length x.room.items ≡ 10011) };
 }
 
 impl Playing {
@@ -73,15 +57,12 @@ impl Playing {
             age: 20,
             rounds: 0,
         };
-        let spare = new_buffers(alloc, size)?;
         let room = vec![in alloc; 0u8; MOST_BYTES + 12]?;
         Ok(Playing {
-            acq: Acq::new(alloc, config)?,
+            player: Player::new(alloc, config, size)?,
             p,
-            size,
             widener: Widener::new(),
             room,
-            spare,
         })
     }
 
@@ -91,10 +72,8 @@ impl Playing {
         ensures { (s : Played) → StandsAt self.old s → PlaysLine (heard self.old.p self.old.size bytes.now s) self.old self.new result }
     {
         hear_bytes(
-            &mut self.acq,
-            &mut self.spare,
+            &mut self.player,
             self.p,
-            self.size,
             &mut self.widener,
             self.room.as_mut_slice(),
             bytes,
@@ -105,13 +84,13 @@ impl Playing {
     pub fn tick(&mut self, moment: u64) -> u8
         ensures { (s : Played) → StandsAt self.old s → PlaysLine (ticked self.old.p moment s) self.old self.new result }
     {
-        tell_moment(&mut self.acq, &mut self.spare, self.p, self.size, moment)
+        tell_moment(&mut self.player, self.p, moment)
     }
 
     /// The stream stops. Answers how many buffers are filled.
     pub fn stop(&mut self) -> u8
         ensures { (s : Played) → StandsAt self.old s → PlaysLine (stopped self.old.p s) self.old self.new result }
     {
-        tell_stop(&mut self.acq, &mut self.spare, self.p, self.size)
+        tell_stop(&mut self.player, self.p)
     }
 }

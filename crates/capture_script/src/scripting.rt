@@ -5,7 +5,7 @@ ghost use Rattle.capture_script.specs.Script.{Scripted, new_script, opening_line
 ghost use Rattle.capture_script.specs.Scripting.{StandsFor, AddsLines};
 
 use crate::playing::Playing;
-use crate::writing::{add_datagram, add_line, add_opening, add_takes};
+use crate::writing::{add_datagram, add_opening, add_takes};
 use capture_runs::{Ending, Telling, run_capture};
 use gev_capture::Content;
 use gev_links::{Sink, Source};
@@ -13,6 +13,7 @@ use gev_script::Line;
 use gev_types::NoMemory;
 use std::alloc::Global;
 use std::marker::Model;
+use take_lines::add_line;
 
 /// The most hex digits of a datagram in a script.
 const MOST_DIGITS: usize = 19_998;

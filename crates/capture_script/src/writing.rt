@@ -3,26 +3,16 @@
 ghost use Rattle.std.specs.Prelude.{◌≡◌, ◌≤◌, ◌<◌, ◌++◌, ◌∷◌, [], length, OnOk};
 ghost use Rattle.hex.specs.Hex.{encode_lower};
 ghost use Rattle.gev_script.specs.Lines as script_line;
-ghost use Rattle.gev_script.specs.Lines.{view};
-ghost use Rattle.gev_script.specs.Spelling.{IsScriptLine, IsDatagram};
+ghost use Rattle.gev_script.specs.Spelling.{IsDatagram};
 ghost use Rattle.capture_script.specs.Script.{text_of, header_line, opening_lines, taking};
 
-use gev_script::{Line, write_line};
+use gev_script::Line;
 use gev_types::NoMemory;
 use std::alloc::Global;
+use take_lines::add_line;
 
 /// The GenTL number of the operation that queues each buffer that isn't.
 const UNQUEUED_TO_INPUT: u32 = 3;
-
-/// Adds a line.
-pub fn add_line(alloc: Global, line: &Line<'_>, out: &mut Vec<u8>) -> Result<(), NoMemory>
-    requires { IsScriptLine (view line.now) }
-    ensures { OnOk result (out.new.items ≡ out.old.items ++ text_of (view line.now ∷ [])) }
-{
-    write_line(alloc, line, out)?;
-    out.push(b'\n')?;
-    Ok(())
-}
 
 /// Adds the header of a script whose payloads have at most `p` bytes.
 fn add_header(alloc: Global, p: u32, out: &mut Vec<u8>) -> Result<(), NoMemory>
@@ -75,9 +65,7 @@ pub fn add_takes(alloc: Global, filled: u8, out: &mut Vec<u8>) -> Result<(), NoM
     if filled == 0 {
         return Ok(());
     }
-    for _ in 0..filled {
-        add_line(alloc, &Line::Take, out)?;
-    }
+    take_lines::add_takes(alloc, filled as usize, out)?;
     add_flush(alloc, out)
 }
 

@@ -5,6 +5,7 @@ use Rattle.board_machine.specs.Places.{same, times}
 use Rattle.board_machine.proofs.Places.{same_self}
 use Rattle.acquisition_machine.specs.declared.retired.Retired.{Retired}
 use Rattle.acquisition_machine.specs.TurnLaws.{given_of}
+use Rattle.take_lines.specs.Players.{places_of}
 use Rattle.recorded_runs.specs.Script.{is_among}
 use Rattle.recorded_runs.proofs.Holding.{places_in, IsLive}
 use Rattle.gev_record.specs.declared.used.Used.{Used}
@@ -32,12 +33,12 @@ freed_first (suc (suc (suc n))) is low none = absurd (omega arith)
 
 -- all of these come back, and the others stay
 pub freed_all : (xs : List Retired) (his : List ℕ) → AllByRecursion IsLive (map given_of xs) → ((k : ℕ) → times k (places_in (map given_of xs) ++ his) ≤ 1)
-    → all_freed xs (used_of (places_in (map given_of xs) ++ his)) ≡ used_of his
+    → all_freed (places_of xs) (used_of (places_in (map given_of xs) ++ his)) ≡ used_of his
 freed_all [] his all once = refl
 freed_all (x ∷ xs) his all once =
     let rest : List ℕ = places_in (map given_of xs) ++ his in
     let gone : times x.place rest ≡ 0 = (let o = once x.place in let s = same_self x.place in omega (arith, o, s)) in
-    ap (all_freed xs) (freed_first x.place rest all.0.low gone)
+    ap (all_freed (places_of xs)) (freed_first x.place rest all.0.low gone)
     ∙ freed_all xs his all.1 (λ k. (let o = once k in omega (arith, o)))
 
 -- ---- one more

@@ -1,6 +1,6 @@
 pub mod Front
 pub mod Texts
-pub mod Draining
+pub mod Taking
 pub mod Digits
 pub mod InUse
 pub mod Steps

@@ -1,17 +1,10 @@
--- Lemmas on texts that are written part by part.
-use Rattle.std.proofs.Common.{◌≡◌, ℕ, List, [], ◌∷◌, ◌++◌, Option, Some, None, Result, Ok, Err, refl, ap, sym, ◌∙◌, subst, append_assoc, append-nil}
+-- What was written, part by part.
+use Rattle.std.proofs.Common.{◌≡◌, ℕ, List, [], ◌++◌, Option, Some, None, Result, Ok, Err, refl, ap, sym, ◌∙◌, subst, append_assoc, append-nil}
 use Rattle.gev_links.specs.Faults.{Rose}
 use Rattle.gev_links.specs.Told.{Appends, WritesFront}
-use Rattle.gev_script.specs.Lines.{ScriptLine}
-use Rattle.gev_script.specs.Spelling.{spelling}
 use Rattle.gev_record.specs.declared.record_end.RecordEnd.{RecordEnd}
 use Rattle.gev_record.specs.declared.record_end.RecordEnd.TheVariants.{WriteFault, NoMemory}
-use Rattle.gev_record.specs.Writing.{text_of, Writes}
-
-pub text_of-append : (xs ys : List ScriptLine) → text_of (xs ++ ys) ≡ text_of xs ++ text_of ys
-text_of-append [] ys = refl
-text_of-append (x ∷ xs) ys =
-    ap (λ (t : List ℕ). spelling x ++ 10 ∷ t) (text_of-append xs ys) ∙ sym (append_assoc (spelling x) (10 ∷ text_of xs) (text_of ys))
+use Rattle.gev_record.specs.Writing.{Writes}
 
 pub Appends-none : (w : Option (List ℕ)) → Appends w w []
 Appends-none None = refl

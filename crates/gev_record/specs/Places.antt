@@ -1,6 +1,5 @@
 -- Which of the three places of a recorded script are in use.
 use Rattle.std.specs.Prelude.{ℕ, zero, suc, List, [], ◌∷◌, true, false, if◌then◌else◌}
-use Rattle.acquisition_machine.specs.declared.retired.Retired.{Retired}
 use Rattle.recorded_runs.specs.Script.{is_among}
 use Rattle.gev_record.specs.declared.used.Used.{Used}
 
@@ -23,7 +22,7 @@ taken (suc zero) u = record u { second = true }
 taken (suc (suc zero)) u = record u { third = true }
 taken (suc (suc (suc n))) u = u
 
--- the places of these retired blocks are free again
-abbrev pub all_freed : List Retired → Used → Used
+-- these places are free again
+abbrev pub all_freed : List ℕ → Used → Used
 all_freed [] u = u
-all_freed (x ∷ xs) u = all_freed xs (freed x.place u)
+all_freed (i ∷ is) u = all_freed is (freed i u)

@@ -10,9 +10,7 @@ use Rattle.acquisition_machine.specs.Runs.{After}
 use Rattle.acquisition_machine.specs.TurnLaws.{held}
 use Rattle.acquisition_laws.specs.declared.mark.Mark.{Mark}
 use Rattle.acquisition_laws.specs.Turns.{Noted, buffer_size, with_bytes}
-use Rattle.acq_core.specs.declared.machine.Machine.{Machine}
-use Rattle.acq_core.specs.Receiver.{config_of, Stands}
-use Rattle.acq_core.specs.Waiting.{waiting_fills, waiting_requests}
+use Rattle.take_lines.specs.Players.{PlayerState, config_in, Took}
 use Rattle.recorded_runs.specs.Script.{live_config, held_places}
 use Rattle.gev_record.specs.declared.used.Used.{Used}
 use Rattle.gev_record.specs.Places.{used_of}
@@ -22,25 +20,19 @@ pub record IsOwn (g : Given) : Type 0 where
   pub low : g.place < 3
   pub sized : g.size ≡ buffer_size
 
--- The receiver took these inputs, and nothing waits in it; each place is in use where an open block has it, and no two
--- have the same.
-pub record StandsAt (acq : Machine) (used : Used) (q : List Input) : Type 0 where
-  pub stands : Stands acq q
-  pub config : config_of acq ≡ live_config
-  pub fills : waiting_fills acq ≡ []
-  pub requests : waiting_requests acq ≡ []
+-- The receiver took these inputs; each place is in use where an open block has it, and no two have the same.
+pub record StandsAt (player : PlayerState) (used : Used) (q : List Input) : Type 0 where
+  pub took : Took player q
+  pub config : config_in player ≡ live_config
+  pub size : player.size ≡ buffer_size
   pub used_is : used ≡ used_of (held_places (After live_config q))
   pub each : AllByRecursion IsOwn (held (After live_config q).opens)
   pub once : (i : ℕ) → times i (held_places (After live_config q)) ≤ 1
 
--- so it is for some inputs
-abbrev pub StandsSome : Machine → Used → Type 0
-StandsSome acq used = (q : List Input) × StandsAt acq used q
-
 -- However the inputs before were, these came, and the text grew by these lines.
-pub record TakesInputs (acq acq_after : Machine) (used used_after : Used) (told : List Input → List Input) (text : List Input → List ℕ) (old new : List ℕ) : Type 0 where
-  pub stands : (q : List Input) → StandsAt acq used q → StandsAt acq_after used_after (q ++ told q)
-  pub said : (q : List Input) → StandsAt acq used q → new ≡ old ++ text q
+pub record TakesInputs (player player_after : PlayerState) (used used_after : Used) (told : List Input → List Input) (text : List Input → List ℕ) (old new : List ℕ) : Type 0 where
+  pub stands : (q : List Input) → StandsAt player used q → StandsAt player_after used_after (q ++ told q)
+  pub said : (q : List Input) → StandsAt player used q → new ≡ old ++ text q
 
 -- The place is one of the three, no open block's buffer has it, and a block waits for a buffer.
 pub record IsFreeFor (place : ℕ) (q : List Input) : Type 0 where
@@ -56,13 +48,10 @@ abbrev pub turn_of : Option (List ℕ) → Mark → Noted
 turn_of received mark = with_bytes (record { received = received; mark = mark })
 
 -- The receiver stands in this state, as some inputs left it.
-pub record StandsIn (acq : Machine) (used : Used) (s : State) : Type 0 where
+pub record StandsIn (player : PlayerState) (used : Used) (s : State) : Type 0 where
   pub inputs : List Input
-  pub stands : StandsAt acq used inputs
+  pub stands : StandsAt player used inputs
   pub is : After live_config inputs ≡ s
-
-abbrev pub StandsAnywhere : Machine → Used → Type 0
-StandsAnywhere acq used = (s : State) × StandsIn acq used s
 
 -- no place is in use
 abbrev pub none_used : Used

@@ -1,12 +1,10 @@
 -- The script of a tape and its marks, and what writing a text to a sink did.
-use Rattle.std.specs.Prelude.{◌≡◌, ℕ, List, [], ◌∷◌, map, Option, None, Result, Ok, Err}
+use Rattle.std.specs.Prelude.{◌≡◌, ℕ, List, [], ◌∷◌, Option, None, Result, Ok, Err}
 use Rattle.gev_links.specs.Faults.{Rose}
 use Rattle.gev_links.specs.Told.{Appends, WritesFront}
-use Rattle.gev_script.specs.Lines.{ScriptLine}
-use Rattle.gev_script.specs.Spelling.{spelling}
-use Rattle.script_runs.specs.Runs.{lines_text}
 use Rattle.acquisition_laws.specs.declared.mark.Mark.{Mark}
 use Rattle.acquisition_laws.specs.Turns.{Noted}
+pub use Rattle.take_lines.specs.Texts.{text_of}
 use Rattle.gev_record.specs.declared.record_end.RecordEnd.{RecordEnd}
 use Rattle.gev_record.specs.declared.record_end.RecordEnd.TheVariants.{WriteFault, NoMemory}
 
@@ -15,10 +13,6 @@ abbrev pub noted : List (Option (List ℕ)) → List Mark → List Noted
 noted kept [] = []
 noted [] (m ∷ ms) = record { received = None; mark = m } ∷ noted [] ms
 noted (k ∷ kept) (m ∷ ms) = record { received = k; mark = m } ∷ noted kept ms
-
--- the bytes of lines
-abbrev pub text_of : List ScriptLine → List ℕ
-text_of ls = lines_text (map spelling ls)
 
 -- The whole text was written, or a front of it, the sink failing in one case alone.
 abbrev pub Writes : Result (Unit {0}) RecordEnd → Option (List ℕ) → Option (List ℕ) → ℕ → ℕ → List ℕ → Type 0

@@ -1,23 +1,13 @@
 ghost use Rattle.std.specs.Prelude.{◌≡◌, ◌≤◌, ◌++◌, [], ◌∷◌, length, OnOk};
 ghost use Rattle.hex.specs.Hex.{encode_lower};
-ghost use Rattle.gev_script.specs.Lines.{view, datagram};
-ghost use Rattle.gev_script.specs.Spelling.{IsScriptLine};
+ghost use Rattle.gev_script.specs.Lines.{datagram};
 ghost use Rattle.gev_record.specs.Writing.{text_of};
 
 use crate::kept::ROOM;
-use gev_script::{Line, write_line};
+use gev_script::Line;
 use gev_types::NoMemory;
 use std::alloc::Global;
-
-/// Adds a line, with its line feed.
-pub(crate) fn add_line(alloc: Global, line: &Line<'_>, text: &mut Vec<u8>) -> Result<(), NoMemory>
-    requires { IsScriptLine (view line.now) }
-    ensures { OnOk result (text.new.items ≡ text.old.items ++ text_of (view line.now ∷ [])) }
-{
-    write_line(alloc, line, text)?;
-    text.push(b'\n')?;
-    Ok(())
-}
+use take_lines::add_line;
 
 /// Adds the line of a datagram.
 pub(crate) fn add_datagram(alloc: Global, bytes: &[u8], text: &mut Vec<u8>) -> Result<(), NoMemory>

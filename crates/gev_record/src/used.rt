@@ -1,5 +1,5 @@
 ghost use Rattle.std.specs.Prelude.{◌≡◌};
-ghost use Rattle.gev_record.specs.Places.{lowest_in, freed, taken};
+ghost use Rattle.gev_record.specs.Places.{lowest_in, freed, taken, all_freed};
 
 /// Which of the three places of a recorded script the buffers of open blocks have.
 #[derive(Clone, Copy, Debug)]
@@ -42,6 +42,17 @@ impl Used {
             },
             _ => self,
         }
+    }
+
+    /// These places are free again.
+    pub(crate) fn free_all(self, places: &[u8]) -> Used
+        ensures { result ≡ all_freed places.now self }
+    {
+        let mut used = self;
+        for place in places {
+            used = used.free(*place);
+        }
+        used
     }
 
     /// The place is an open block's.

@@ -3,21 +3,20 @@ ghost use Rattle.acquisition_machine.specs.Runs.{first_state};
 ghost use Rattle.acquisition_laws.specs.Turns.{with_bytes};
 ghost use Rattle.recorded_runs.specs.Script.{script_of, live_header, first_lines, after_turn, after_turns, turn_lines, turns_lines, stop_lines};
 ghost use Rattle.gev_script.specs.Lines.{header, end_of_script};
-ghost use Rattle.gev_record.specs.Standing.{StandsIn, StandsAnywhere, turn_of, none_used};
+ghost use Rattle.gev_record.specs.Standing.{StandsIn, turn_of, none_used};
 ghost use Rattle.gev_record.specs.Writing.{noted, Writes, text_of};
 
-use crate::lines::add_line;
 use crate::record_end::RecordEnd;
 use crate::replica::{BUFFER_SIZE, stop};
 use crate::tape::Tape;
 use crate::turns::{add_heard, add_silent};
 use crate::used::Used;
-use acq_core::{Acq, AcqConfig};
 use acquisition_laws::Mark;
 use gev_links::{Link, Sink, write_all};
 use gev_script::Line;
 use gev_types::NoMemory;
 use std::alloc::Global;
+use take_lines::{AcqConfig, Player, add_line};
 
 /// How a live run's receiver is configured.
 const LIVE: AcqConfig = AcqConfig {
@@ -70,41 +69,39 @@ fn write_first<K: Sink>(alloc: Global, text: &mut Vec<u8>, sink: &mut K) -> Resu
 /// Adds the lines of a turn.
 fn add_turn(
     alloc: Global,
-    acq: &mut Acq,
+    player: &mut Player,
     used: &mut Used,
     received: Option<&[u8]>,
     mark: Mark,
     text: &mut Vec<u8>,
 ) -> Result<(), NoMemory>
-    requires stands { StandsAnywhere acq.old used.old }
     requires short { IfSome received (λ bytes. length bytes.now ≤ 1600) }
-    ensures stands { OnOk result ((s : _) → StandsIn acq.old used.old s → StandsIn acq.new used.new (after_turn s (turn_of (option_map (λ bytes. bytes.now) received.entry) mark))) }
-    ensures said { OnOk result ((s : _) → StandsIn acq.old used.old s → text.new.items ≡ text.old.items ++ text_of (turn_lines s (turn_of (option_map (λ bytes. bytes.now) received.entry) mark))) }
+    ensures stands { OnOk result ((s : _) → StandsIn player.old used.old s → StandsIn player.new used.new (after_turn s (turn_of (option_map (λ bytes. bytes.now) received.entry) mark))) }
+    ensures said { OnOk result ((s : _) → StandsIn player.old used.old s → text.new.items ≡ text.old.items ++ text_of (turn_lines s (turn_of (option_map (λ bytes. bytes.now) received.entry) mark))) }
 {
     match received {
-        Some(bytes) => add_heard(alloc, acq, used, bytes, mark, text),
-        None => add_silent(alloc, acq, used, mark, text),
+        Some(bytes) => add_heard(alloc, player, used, bytes, mark, text),
+        None => add_silent(alloc, player, used, mark, text),
     }
 }
 
 /// Writes the lines of a turn.
 fn write_turn<K: Sink>(
     alloc: Global,
-    acq: &mut Acq,
+    player: &mut Player,
     used: &mut Used,
     received: Option<&[u8]>,
     mark: Mark,
     text: &mut Vec<u8>,
     sink: &mut K,
 ) -> Result<(), RecordEnd>
-    requires stands { StandsAnywhere acq.old used.old }
     requires short { IfSome received (λ bytes. length bytes.now ≤ 1600) }
-    ensures stands { OnOk result ((s : _) → StandsIn acq.old used.old s → StandsIn acq.new used.new (after_turn s (turn_of (option_map (λ bytes. bytes.now) received.entry) mark))) }
-    ensures written { (s : _) → StandsIn acq.old used.old s → Writes result (K.written sink.old) (K.written sink.new) (K.faults sink.old) (K.faults sink.new)
+    ensures stands { OnOk result ((s : _) → StandsIn player.old used.old s → StandsIn player.new used.new (after_turn s (turn_of (option_map (λ bytes. bytes.now) received.entry) mark))) }
+    ensures written { (s : _) → StandsIn player.old used.old s → Writes result (K.written sink.old) (K.written sink.new) (K.faults sink.old) (K.faults sink.new)
         (text_of (turn_lines s (turn_of (option_map (λ bytes. bytes.now) received.entry) mark))) }
 {
     text.clear();
-    add_turn(alloc, acq, used, received, mark, text)?;
+    add_turn(alloc, player, used, received, mark, text)?;
     write_all(sink, text.as_slice())?;
     Ok(())
 }
@@ -112,22 +109,21 @@ fn write_turn<K: Sink>(
 /// Writes the lines of all turns.
 fn write_turns<L: Link, K: Sink>(
     alloc: Global,
-    acq: &mut Acq,
+    player: &mut Player,
     used: &mut Used,
     tape: &Tape<L>,
     marks: &[Mark],
     text: &mut Vec<u8>,
     sink: &mut K,
 ) -> Result<(), RecordEnd>
-    requires stands { StandsAnywhere acq.old used.old }
-    ensures stands { OnOk result ((s : _) → StandsIn acq.old used.old s → StandsIn acq.new used.new (after_turns s (map with_bytes (noted tape.now.kept marks.now)))) }
-    ensures written { (s : _) → StandsIn acq.old used.old s → Writes result (K.written sink.old) (K.written sink.new) (K.faults sink.old) (K.faults sink.new)
+    ensures stands { OnOk result ((s : _) → StandsIn player.old used.old s → StandsIn player.new used.new (after_turns s (map with_bytes (noted tape.now.kept marks.now)))) }
+    ensures written { (s : _) → StandsIn player.old used.old s → Writes result (K.written sink.old) (K.written sink.new) (K.faults sink.old) (K.faults sink.new)
         (text_of (turns_lines s (map with_bytes (noted tape.now.kept marks.now)))) }
 {
     for turn in 0..marks.len() {
         write_turn(
             alloc,
-            acq,
+            player,
             used,
             tape.kept_at(turn),
             marks[turn],
@@ -141,17 +137,16 @@ fn write_turns<L: Link, K: Sink>(
 /// Writes what stands behind the last turn.
 fn write_last<K: Sink>(
     alloc: Global,
-    acq: &mut Acq,
+    player: &mut Player,
     used: &mut Used,
     text: &mut Vec<u8>,
     sink: &mut K,
 ) -> Result<(), RecordEnd>
-    requires stands { StandsAnywhere acq.old used.old }
-    ensures { (s : _) → StandsIn acq.old used.old s → Writes result (K.written sink.old) (K.written sink.new) (K.faults sink.old) (K.faults sink.new)
+    ensures { (s : _) → StandsIn player.old used.old s → Writes result (K.written sink.old) (K.written sink.new) (K.faults sink.old) (K.faults sink.new)
         (text_of (stop_lines s ++ end_of_script ∷ [])) }
 {
     text.clear();
-    add_last(alloc, acq, used, text)?;
+    add_last(alloc, player, used, text)?;
     write_all(sink, text.as_slice())?;
     Ok(())
 }
@@ -159,22 +154,21 @@ fn write_last<K: Sink>(
 /// Adds what stands behind the last turn.
 fn add_last(
     alloc: Global,
-    acq: &mut Acq,
+    player: &mut Player,
     used: &mut Used,
     text: &mut Vec<u8>,
 ) -> Result<(), NoMemory>
-    requires stands { StandsAnywhere acq.old used.old }
-    ensures { OnOk result ((s : _) → StandsIn acq.old used.old s → text.new.items ≡ text.old.items ++ text_of (stop_lines s ++ end_of_script ∷ [])) }
+    ensures { OnOk result ((s : _) → StandsIn player.old used.old s → text.new.items ≡ text.old.items ++ text_of (stop_lines s ++ end_of_script ∷ [])) }
 {
-    stop(alloc, acq, used, text)?;
+    stop(alloc, player, used, text)?;
     add_line(alloc, &Line::End, text)
 }
 
 /// A receiver that heard nothing yet.
-fn start(alloc: Global) -> Result<Acq, NoMemory>
-    ensures { IfOk result (λ acq. StandsIn acq none_used first_state) }
+fn start(alloc: Global) -> Result<Player, NoMemory>
+    ensures { IfOk result (λ player. StandsIn player none_used first_state) }
 {
-    Acq::new(alloc, LIVE)
+    Player::new(alloc, LIVE, BUFFER_SIZE)
 }
 
 /// Writes the script of a tape and the marks of its run, one for each receive. The script is a replay's, of
@@ -193,9 +187,9 @@ pub fn write_script<L: Link, K: Sink>(
         (script_of (noted tape.now.kept marks.now)) }
 {
     let mut text = Vec::new(alloc);
-    let mut acq = start(alloc)?;
+    let mut player = start(alloc)?;
     let mut used = NONE_USED;
     write_first(alloc, &mut text, sink)?;
-    write_turns(alloc, &mut acq, &mut used, tape, marks, &mut text, sink)?;
-    write_last(alloc, &mut acq, &mut used, &mut text, sink)
+    write_turns(alloc, &mut player, &mut used, tape, marks, &mut text, sink)?;
+    write_last(alloc, &mut player, &mut used, &mut text, sink)
 }

@@ -1,9 +1,10 @@
-use Rattle.std.proofs.Common.{◌∙◌}
-use Rattle.gev_record.proofs.Steps.{tells}
+use Rattle.gev_record.proofs.Steps.{tells, asks}
 use Rattle.gev_record.proofs.replica.tell.Goals as goal
 
 pub returns-clause-takes : goal.returns-clause-takes
 returns-clause-takes c =
-    tells c.args.acq.now c.datagram-need.new.self c.add_takes.new.acq c.args.used.now c.in_ok-used.field-0 c.args.bytes.now c.args.text.now.items c.add_takes.new.text.items
-    c.datagram-need.ensures.takes c.add_takes.ensures.rest c.in_ok-used.ensures.fills (c.add_takes.ensures.requests ∙ c.datagram-need.ensures.requests)
-    c.in_ok-used.ensures.freed c.in_ok-used.ensures.said
+    tells c.args.player.now c.datagram-need.new.self c.args.used.now c.in_ok-used.field-0 c.args.bytes.now c.datagram-need.result.1.items c.args.text.now.items c.add_takes.new.text.items
+    c.datagram-need.ensures.plays (rw c.as_slice.ensures.value at c.in_ok-used.ensures.freed) (rw c.as_slice.ensures.value at c.in_ok-used.ensures.said)
+
+pub returns-clause-need : goal.returns-clause-need
+returns-clause-need c q s = asks c.args.player.now c.args.used.now q c.args.bytes.now c.datagram-need.result.0 s (c.datagram-need.ensures.need q s.took)

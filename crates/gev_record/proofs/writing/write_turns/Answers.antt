@@ -4,12 +4,8 @@ use Rattle.gev_record.proofs.writing.write_turns.Goals as goal
 
 pub loop-turn-init : goal.loop-turn-init
 loop-turn-init g c = record {
-  any = c.requires.stands;
   turning = λ s at. turning_begins _ _ _ _ s _ at;
 }
-
-pub write_turn-requires-clause-stands : goal.write_turn-requires-clause-stands
-write_turn-requires-clause-stands g c = c.loop-turn.invariant.any
 
 pub returns-in_err-write_turn-clause-written : goal.returns-in_err-write_turn-clause-written
 returns-in_err-write_turn-clause-written g c =
@@ -20,7 +16,6 @@ returns-in_err-write_turn-clause-written g c =
 
 pub loop-turn-preserved : goal.loop-turn-preserved
 loop-turn-preserved g c = record {
-  any = (_, c.in_ok-write_turn.ensures.stands c.loop-turn.invariant.any.0 c.loop-turn.invariant.any.1);
   turning = λ s at. turning_goes_on _ _ _ _ _ _ _ _ _ _ s _ _ _ _ (turn_next c.loop-turn.turn _ c.args.marks.now _ _ c.kept_at.ensures.value c.loop-turn-test.true)
       c.in_ok-write_turn.ensures.stands c.in_ok-write_turn.ensures.written (c.loop-turn.invariant.turning s at);
 }

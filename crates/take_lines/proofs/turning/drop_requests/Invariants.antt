@@ -1,7 +1,7 @@
 use Rattle.std.proofs.Common.{◌≡◌, length}
 use Rattle.acq_core.specs.Waiting.{waiting_fills, waiting_requests}
 use Rattle.acq_core.specs.Receiver.{KeepsBlocks}
-use Rattle.capture_script.proofs.turning.drop_requests.Given as goal
+use Rattle.take_lines.proofs.turning.drop_requests.Given as goal
 
 abbrev pub invariant-requests : goal.invariant-requests
 invariant-requests l = record { fills : waiting_fills l.acq ≡ waiting_fills l.fn.acq; rest : KeepsBlocks l.fn.acq l.acq }

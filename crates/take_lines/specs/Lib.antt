@@ -1,0 +1,3 @@
+pub mod Players
+pub mod Pool
+pub mod Texts
