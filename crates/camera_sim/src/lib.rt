@@ -10,6 +10,7 @@ mod camera;
 mod done;
 mod kept;
 mod messages;
+mod received;
 #[cfg(test)]
 mod tests;
 mod writes;
