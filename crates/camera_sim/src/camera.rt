@@ -6,6 +6,7 @@ mod words;
 
 use crate::acknowledge::MESSAGE_SIZE;
 use crate::kept::Kept;
+use crate::received::Received;
 use bootstrap_regs::Regs;
 use bootstrap_regs::addresses::{HEARTBEAT_TIMEOUT, SCDA0, SCP0, SCPS0};
 use camera_machine::laws::new_words_are_initial;
@@ -194,11 +195,29 @@ impl Camera {
         match parse_command(bytes) {
             Ok((head, command)) => {
                 self.renew(peer, moment);
-                self.obey(peer, bytes, moment, head, &Some(command), out)
+                self.obey(
+                    &Received {
+                        peer,
+                        bytes,
+                        moment,
+                        head,
+                        command: Some(command),
+                    },
+                    out,
+                )
             }
             Err(ControlError::Form(head)) => {
                 self.renew(peer, moment);
-                self.obey(peer, bytes, moment, head, &None, out)
+                self.obey(
+                    &Received {
+                        peer,
+                        bytes,
+                        moment,
+                        head,
+                        command: None,
+                    },
+                    out,
+                )
             }
             Err(ControlError::Short(_)) => None,
             Err(ControlError::Key(_)) => None,

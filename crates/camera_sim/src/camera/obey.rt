@@ -5,6 +5,7 @@ use crate::acknowledge::{MESSAGE_SIZE, acknowledge};
 use crate::done::Done;
 use crate::kept::Kept;
 use crate::messages::{copied, is_access, is_behind};
+use crate::received::Received;
 use gev_types::Peer;
 use gvcp_aux::read_resend;
 use gvcp_wire::codes::{DISCOVERY_CMD, MAX_BODY_SIZE, PACKETRESEND_CMD};
@@ -16,7 +17,7 @@ impl Camera {
     ghost use Rattle.control_privilege.specs.Control.{is_primary};
     ghost use Rattle.camera_machine.specs.Commands.{ack_for, counted, remembered, finished, other_answer, executed_as, from_primary, resend_in, resent, obeyed};
     ghost use Rattle.camera_sim.specs.Doing.{execution_of, HasRoom, finished_camera};
-    ghost use Rattle.camera_sim.specs.Obeying.{ack_of, FitsMessage, CanKeep};
+    ghost use Rattle.camera_sim.specs.Obeying.{ack_of, FitsMessage, CanKeep, IsAnswered};
 
     // Counts a command whose sender had control, or got it by the command.
     fn count(&mut self, was_primary: bool, has_granted: bool)
@@ -54,54 +55,48 @@ impl Camera {
     fn finish(
         &mut self,
         was_primary: bool,
-        peer: Peer,
-        bytes: &[u8],
-        head: CommandHead,
+        received: &Received<'_>,
         done: Done,
         body: &[u8; MAX_BODY_SIZE],
         out: &mut [u8; MESSAGE_SIZE],
     ) -> Option<usize>
-        requires request { 1 ≤ head.req }
-        requires bytes { length bytes.now ≤ MESSAGE_SIZE }
+        requires request { 1 ≤ received.now.head.req }
+        requires bytes { length received.now.bytes.now ≤ MESSAGE_SIZE }
         requires body { done.len ≤ MAX_BODY_SIZE }
-        ensures state { self.new ≡ finished_camera was_primary peer bytes.now head self.old done.status (take done.len body.now) done.has_granted }
-        ensures ack { ack_of result out.new ≡ ack_for head done.status (take done.len body.now) }
+        ensures state { self.new ≡ finished_camera was_primary received.now.peer received.now.bytes.now received.now.head self.old done.status (take done.len body.now) done.has_granted }
+        ensures ack { ack_of result out.new ≡ ack_for received.now.head done.status (take done.len body.now) }
         ensures fits { FitsMessage result }
     {
-        let ack = acknowledge(head, done.status, &body[..done.len], out);
+        let ack = acknowledge(received.head, done.status, &body[..done.len], out);
         self.count(was_primary, done.has_granted);
-        self.remember(peer, bytes, head.req, ack, out);
+        self.remember(received.peer, received.bytes, received.head.req, ack, out);
         ack
     }
 
     // Executes a register or memory command.
     fn access(
         &mut self,
-        peer: Peer,
-        bytes: &[u8],
-        moment: u64,
-        head: CommandHead,
+        received: &Received<'_>,
         command: &Command<'_>,
         out: &mut [u8; MESSAGE_SIZE],
     ) -> Option<usize>
-        requires request { 1 ≤ head.req }
-        requires bytes { length bytes.now ≤ MESSAGE_SIZE }
+        requires request { 1 ≤ received.now.head.req }
+        requires bytes { length received.now.bytes.now ≤ MESSAGE_SIZE }
         requires room { HasRoom (view command.now) }
-        ensures state { self.new ≡ (finished (is_primary self.old.holder peer) peer bytes.now head (execution_of self.old peer moment (view command.now))).camera }
-        ensures ack { ack_of result out.new ≡ (finished (is_primary self.old.holder peer) peer bytes.now head (execution_of self.old peer moment (view command.now))).ack }
-        ensures fits { FitsMessage result }
+        ensures { IsAnswered self.new result out.new
+            (finished (is_primary self.old.holder received.now.peer) received.now.peer received.now.bytes.now received.now.head
+            (execution_of self.old received.now.peer received.now.moment (view command.now))) }
     {
-        let was_primary = self.is_primary(peer);
+        let was_primary = self.is_primary(received.peer);
         let mut body = [0; MAX_BODY_SIZE];
-        let done = self.execute(peer, command, moment, &mut body);
-        self.finish(was_primary, peer, bytes, head, done, &body, out)
+        let done = self.execute(received.peer, command, received.moment, &mut body);
+        self.finish(was_primary, received, done, &body, out)
     }
 
     // Answers a command that is no register or memory command and no PACKETRESEND.
     fn answer_other(&self, head: CommandHead, out: &mut [u8; MESSAGE_SIZE]) -> Option<usize>
         requires { 1 ≤ head.req }
-        ensures ack { ack_of result out.new ≡ (other_answer self.now head).ack }
-        ensures fits { FitsMessage result }
+        ensures { IsAnswered self.now result out.new (other_answer self.now head) }
     {
         if head.code != DISCOVERY_CMD {
             return acknowledge(head, Status::NotImplemented, &[], out);
@@ -112,30 +107,21 @@ impl Camera {
     }
 
     // Executes a command, or answers one whose body hasn't the form of its code.
-    fn execute_as(
-        &mut self,
-        peer: Peer,
-        bytes: &[u8],
-        moment: u64,
-        head: CommandHead,
-        command: &Option<Command<'_>>,
-        out: &mut [u8; MESSAGE_SIZE],
-    ) -> Option<usize>
-        requires request { 1 ≤ head.req }
-        requires keeps { CanKeep bytes.now (option_map view command.now) }
-        ensures state { self.new ≡ (executed_as self.old peer bytes.now moment head (option_map view command.now)).camera }
-        ensures ack { ack_of result out.new ≡ (executed_as self.old peer bytes.now moment head (option_map view command.now)).ack }
-        ensures fits { FitsMessage result }
+    fn execute_as(&mut self, received: &Received<'_>, out: &mut [u8; MESSAGE_SIZE]) -> Option<usize>
+        requires request { 1 ≤ received.now.head.req }
+        requires keeps { CanKeep received.now.bytes.now (option_map view received.now.command) }
+        ensures { IsAnswered self.new result out.new
+            (executed_as self.old received.now.peer received.now.bytes.now received.now.moment received.now.head (option_map view received.now.command)) }
     {
-        let Some(command) = command else {
-            return acknowledge(head, Status::InvalidHeader, &[], out);
+        let Some(command) = &received.command else {
+            return acknowledge(received.head, Status::InvalidHeader, &[], out);
         };
         match command {
-            Command::ReadReg(_) => self.access(peer, bytes, moment, head, command, out),
-            Command::WriteReg(_) => self.access(peer, bytes, moment, head, command, out),
-            Command::ReadMem { .. } => self.access(peer, bytes, moment, head, command, out),
-            Command::WriteMem { .. } => self.access(peer, bytes, moment, head, command, out),
-            Command::Other { .. } => self.answer_other(head, out),
+            Command::ReadReg(_) => self.access(received, command, out),
+            Command::WriteReg(_) => self.access(received, command, out),
+            Command::ReadMem { .. } => self.access(received, command, out),
+            Command::WriteMem { .. } => self.access(received, command, out),
+            Command::Other { .. } => self.answer_other(received.head, out),
         }
     }
 
@@ -143,42 +129,37 @@ impl Camera {
     // kept acknowledge, and one that is behind it not at all.
     fn obey_primary(
         &mut self,
-        peer: Peer,
-        bytes: &[u8],
-        moment: u64,
-        head: CommandHead,
-        command: &Option<Command<'_>>,
+        received: &Received<'_>,
         out: &mut [u8; MESSAGE_SIZE],
     ) -> Option<usize>
-        requires request { 1 ≤ head.req }
-        requires keeps { CanKeep bytes.now (option_map view command.now) }
-        ensures state { self.new ≡ (from_primary self.old.kept self.old peer bytes.now moment head (option_map view command.now)).camera }
-        ensures ack { ack_of result out.new ≡ (from_primary self.old.kept self.old peer bytes.now moment head (option_map view command.now)).ack }
-        ensures fits { FitsMessage result }
+        requires request { 1 ≤ received.now.head.req }
+        requires keeps { CanKeep received.now.bytes.now (option_map view received.now.command) }
+        ensures { IsAnswered self.new result out.new
+            (from_primary self.old.kept self.old received.now.peer received.now.bytes.now received.now.moment received.now.head (option_map view received.now.command)) }
     {
         let Some(kept) = self.kept else {
-            return self.execute_as(peer, bytes, moment, head, command, out);
+            return self.execute_as(received, out);
         };
-        if bytes == &self.command[..kept.len] {
+        if received.bytes == &self.command[..kept.len] {
             return copied(kept.ack, &self.answer, out);
         }
-        if is_behind(kept.req, head.req) {
+        if is_behind(kept.req, received.head.req) {
             return None;
         }
-        self.execute_as(peer, bytes, moment, head, command, out)
+        self.execute_as(received, out)
     }
 
     // Lets the packets wait that the peer which has control asks for again, while the channel is open.
-    fn resend(&mut self, peer: Peer, head: CommandHead, command: &Option<Command<'_>>)
-        ensures { self.new ≡ resent self.old peer (resend_in head (option_map view command.now)) }
+    fn resend(&mut self, received: &Received<'_>)
+        ensures { self.new ≡ resent self.old received.now.peer (resend_in received.now.head (option_map view received.now.command)) }
     {
-        if !self.is_primary(peer) || !self.is_open() {
+        if !self.is_primary(received.peer) || !self.is_open() {
             return;
         }
-        let Some(Command::Other { body, .. }) = command else {
+        let Some(Command::Other { body, .. }) = &received.command else {
             return;
         };
-        let Some(resend) = read_resend(head, body) else {
+        let Some(resend) = read_resend(received.head, body) else {
             return;
         };
         self.stream.reply(resend);
@@ -187,26 +168,21 @@ impl Camera {
     // Obeys a command, or one whose body hasn't the form of its code.
     pub(super) fn obey(
         &mut self,
-        peer: Peer,
-        bytes: &[u8],
-        moment: u64,
-        head: CommandHead,
-        command: &Option<Command<'_>>,
+        received: &Received<'_>,
         out: &mut [u8; MESSAGE_SIZE],
     ) -> Option<usize>
-        requires request { 1 ≤ head.req }
-        requires keeps { CanKeep bytes.now (option_map view command.now) }
-        ensures state { self.new ≡ (obeyed self.old peer bytes.now moment head (option_map view command.now)).camera }
-        ensures ack { ack_of result out.new ≡ (obeyed self.old peer bytes.now moment head (option_map view command.now)).ack }
-        ensures fits { FitsMessage result }
+        requires request { 1 ≤ received.now.head.req }
+        requires keeps { CanKeep received.now.bytes.now (option_map view received.now.command) }
+        ensures { IsAnswered self.new result out.new
+            (obeyed self.old received.now.peer received.now.bytes.now received.now.moment received.now.head (option_map view received.now.command)) }
     {
-        if head.code == PACKETRESEND_CMD {
-            self.resend(peer, head, command);
+        if received.head.code == PACKETRESEND_CMD {
+            self.resend(received);
             return None;
         }
-        if is_access(head.code) && self.is_primary(peer) {
-            return self.obey_primary(peer, bytes, moment, head, command, out);
+        if is_access(received.head.code) && self.is_primary(received.peer) {
+            return self.obey_primary(received, out);
         }
-        self.execute_as(peer, bytes, moment, head, command, out)
+        self.execute_as(received, out)
     }
 }
