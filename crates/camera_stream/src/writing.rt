@@ -13,6 +13,7 @@ ghost use Rattle.camera_stream.specs.Writing.{packet_of, held_packet, first_repl
 
 use crate::queue::{first_head, step_replies};
 use crate::span::QueuedReply;
+use crate::stream::PACKET_ROOM;
 use arrayvec::ArrayVec;
 use gev_types::{Frame, MAX_PAYLOAD_SIZE};
 use gvcp_wire::Status;
@@ -50,10 +51,10 @@ fn write_packet(frame: &Frame, payload_size: u32, head: Head, out: &mut [u8]) ->
     requires at_most { payload_size ≤ MAX_PAYLOAD_SIZE }
     requires block { 1 ≤ head.block }
     requires no_notice { IsNotice head → ⊥ }
-    requires room { 8972 ≤ length out.old }
+    requires room { PACKET_ROOM ≤ length out.old }
     ensures written { let x = plain (packet_of frame.now payload_size head) in out.new ≡ x ++ drop (length x) out.old }
     ensures len { result ≡ length (plain (packet_of frame.now payload_size head)) }
-    ensures fits { result ≤ 8972 }
+    ensures fits { result ≤ PACKET_ROOM }
 {
     if head.id == 0 {
         return write_leader(out, head, leader_info(frame));
@@ -69,10 +70,10 @@ fn write_packet(frame: &Frame, payload_size: u32, head: Head, out: &mut [u8]) ->
 // Writes the packet with this header, where its frame is held. The answer is its length.
 pub(crate) fn write_held(store: &Store, head: Head, out: &mut [u8]) -> Option<usize>
     requires no_notice { IsNotice head → ⊥ }
-    requires room { 8972 ≤ length out.old }
+    requires room { PACKET_ROOM ≤ length out.old }
     ensures written { out.new ≡ with_front (held_packet (held_in store.now head.block) head) out.old }
     ensures len { result ≡ packet_size (held_packet (held_in store.now head.block) head) }
-    ensures fits { IfSome result (λ len. len ≤ 8972) }
+    ensures fits { IfSome result (λ len. len ≤ PACKET_ROOM) }
 {
     let frame = store.frame(head.block)?;
     let payload_size = store.payload_size(head.block)?;
@@ -86,10 +87,10 @@ pub(crate) fn next_reply(
     out: &mut [u8],
 ) -> Option<usize>
     requires held { All (IsHeldReply store.now) replies.old.items }
-    requires room { 8972 ≤ length out.old }
+    requires room { PACKET_ROOM ≤ length out.old }
     ensures written { out.new ≡ with_front (first_reply store.now replies.old.items) out.old }
     ensures len { result ≡ packet_size (first_reply store.now replies.old.items) }
-    ensures fits { IfSome result (λ len. len ≤ 8972) }
+    ensures fits { IfSome result (λ len. len ≤ PACKET_ROOM) }
     ensures rest { replies.new.items ≡ after_reply replies.old.items }
 {
     let len = write_reply(store, replies.as_slice(), out);
@@ -99,10 +100,10 @@ pub(crate) fn next_reply(
 
 fn write_reply(store: &Store, replies: &[QueuedReply], out: &mut [u8]) -> Option<usize>
     requires held { All (IsHeldReply store.now) replies.now }
-    requires room { 8972 ≤ length out.old }
+    requires room { PACKET_ROOM ≤ length out.old }
     ensures written { out.new ≡ with_front (first_reply store.now replies.now) out.old }
     ensures len { result ≡ packet_size (first_reply store.now replies.now) }
-    ensures fits { IfSome result (λ len. len ≤ 8972) }
+    ensures fits { IfSome result (λ len. len ≤ PACKET_ROOM) }
 {
     match replies {
         [] => None,

@@ -22,7 +22,7 @@ use script_tape::{tell_dropped, tell_need};
 
 /// Tells a datagram, fills the buffers that come back, and tells what became of all. The answer is what the
 /// datagram needs.
-fn settle(
+fn fill_what_retires(
     board: &mut PlainBoard,
     acq: &mut Acq,
     counts: &mut FillCounts,
@@ -77,7 +77,7 @@ fn tell_claim(
 
 /// Tells a datagram. Where it wants a buffer, one is claimed by the mode, and the datagram is told again.
 /// What becomes of all is told on the tape.
-pub(crate) fn hear(
+pub(crate) fn receive(
     board: &mut PlainBoard,
     acq: &mut Acq,
     counts: &mut FillCounts,
@@ -91,11 +91,11 @@ pub(crate) fn hear(
     ensures config { OnOk result (config_of acq.new ≡ config_of acq.old) }
 {
     acq.tell_ends();
-    match settle(board, acq, counts, mode, bytes, tape)? {
+    match fill_what_retires(board, acq, counts, mode, bytes, tape)? {
         Need::Buffer(block) => {
             let got = give_claimed(board, acq, counts, mode);
             tell_claim(tape, board, block, got)?;
-            settle(board, acq, counts, mode, bytes, tape)?;
+            fill_what_retires(board, acq, counts, mode, bytes, tape)?;
             Ok(())
         }
         Need::Done => Ok(()),

@@ -11,7 +11,7 @@ ghost use Rattle.explain_lines.specs.Hearing.{StopsIn, TellsPart, TicksTold};
 ghost use Rattle.explain_lines.specs.Telling.{GoesTold, TellsLine};
 
 use crate::asking::tell_requests;
-use crate::hearing::hear;
+use crate::hearing::receive;
 use crate::retired::tell_retired;
 use acq_core::Acq;
 use board_model::PlainBoard;
@@ -133,14 +133,14 @@ pub fn tick(
 }
 
 /// Tells the acquisition the bytes of a datagram, where the stream is running.
-fn hear_bytes(running: &mut Running, bytes: &[u8], tape: &mut Vec<Told>) -> Result<(), NoMemory>
+fn receive_bytes(running: &mut Running, bytes: &[u8], tape: &mut Vec<Told>) -> Result<(), NoMemory>
     requires keeps { IsReplaying running.old }
     requires runs { running.old.board.board.run ≡ 1 }
     requires untold { tape.old.items ≡ [] }
     ensures goes { OnOk result ((digits : List ℕ) → decode_of digits ≡ Ok bytes.now → GoesTold (script_line.datagram digits) running.old [] tape.new.items running.new) }
     ensures wide { OnOk result (GoesTold (script_line.datagram (encode_lower bytes.now)) running.old [] tape.new.items running.new) }
 {
-    hear(
+    receive(
         &mut running.board,
         &mut running.acq,
         &mut running.counts,
@@ -181,7 +181,7 @@ fn widen_bytes(
     match script.widening.widener.widen(bytes, wide_room) {
         Ok(len) => {
             script.widening.widened = true;
-            hear_bytes(&mut script.running, &wide_room[..len], tape)
+            receive_bytes(&mut script.running, &wide_room[..len], tape)
         }
         Err(refusal) => {
             script.widening.refused = script.widening.refused.saturating_add(1);
@@ -218,5 +218,5 @@ pub fn datagram(
     if is_standard(script.widening.version, run, top, bytes) {
         return widen_bytes(script, bytes, wide_room.as_mut_slice(), tape);
     }
-    hear_bytes(&mut script.running, bytes, tape)
+    receive_bytes(&mut script.running, bytes, tape)
 }

@@ -17,6 +17,10 @@ use Rattle.gev_make.specs.Network.{new_network, all_carried, emptied}
 abbrev pub image_shape : Shape
 image_shape = record { pixel = 0x01080001; size_x = 64; size_y = 48 }
 
+-- the bytes of a buffer, which holds an image
+abbrev pub buffer_size : ℕ
+buffer_size = 3072
+
 -- the bytes of a payload where a packet has 1500 with all its headers
 abbrev pub payload_size : ℕ
 payload_size = 1452
@@ -30,7 +34,7 @@ block_packets seed b = packets_of (frame_of seed b image_shape) payload_size
 abbrev pub opening_lines : List ScriptLine
 opening_lines =
     line.header (record { version = 1; p = payload_size; window = 2; timeout = 200; age = 20; rounds = 3 })
-    ∷ line.announce 3072 ∷ line.announce 3072 ∷ line.announce 3072 ∷ line.announce 3072
+    ∷ line.announce buffer_size ∷ line.announce buffer_size ∷ line.announce buffer_size ∷ line.announce buffer_size
     ∷ line.flush 3 ∷ line.start ∷ []
 
 -- what came out of the network, as datagrams that the receiver gets
@@ -40,7 +44,7 @@ datagram_line d = line.datagram (encode_lower d.bytes)
 -- The datagram makes a line of a script, and is no longer than a whole payload packet.
 pub record FitsLine (d : Datagram) : Type 0 where
   pub line : IsScriptLine (datagram_line d)
-  pub few : length d.bytes ≤ 1472
+  pub few : length d.bytes ≤ payload_size + 20
 
 -- What follows the datagrams of block b: the time has gone on, so that old blocks retire, a filled
 -- buffer is taken, and queued again.

@@ -4,7 +4,7 @@ ghost use Rattle.gev_script.specs.Spelling.{IsScriptLine};
 ghost use Rattle.gev_make.specs.MakeText.{text_of, datagram_line, FitsLine, opening_lines, turn_lines, closing_lines};
 ghost use Rattle.gev_make.specs.Writing.{Writes};
 
-use crate::packets::PACKET_SIZE;
+use crate::packets::{PACKET_SIZE, PAYLOAD_SIZE};
 use crate::stop::Stop;
 use gev_links::{Sink, write_all};
 use gev_script::{Line, write_line};
@@ -13,6 +13,9 @@ use std::alloc::Global;
 
 /// The bytes of the longest line, which is that of a payload, with its line feed.
 pub(crate) const LINE_SIZE: usize = 2 + 2 * PACKET_SIZE + 1;
+
+/// The bytes of a buffer, which holds an image.
+const BUFFER_SIZE: u64 = 3072;
 
 /// The GenTL number of the operation that queues each buffer that isn't.
 const UNQUEUED_TO_INPUT: u32 = 3;
@@ -72,13 +75,13 @@ pub(crate) fn write_opening<K: Sink>(
 {
     let header = Line::Header {
         version: 1,
-        p: 1452,
+        p: PAYLOAD_SIZE as u32,
         window: 2,
         timeout: 200,
         age: 20,
         rounds: 3,
     };
-    let announce = Line::Announce { size: 3072 };
+    let announce = Line::Announce { size: BUFFER_SIZE };
     let flush = Line::Flush {
         operation: UNQUEUED_TO_INPUT,
     };

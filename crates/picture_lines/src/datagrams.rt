@@ -7,18 +7,18 @@ ghost use Rattle.script_trace.specs.Wide.{is_standard_at};
 ghost use Rattle.script_replay.specs.Replays.{IsReplaying, Fits};
 ghost use Rattle.picture_lines.specs.Noting.{GoesNoting, DoesNoting, NotesLine};
 
-use crate::hearing::hear;
+use crate::hearing::receive;
 use crate::looks::Looks;
 use script_replay::{Running, Script, decode, is_standard, note_start};
 
 /// Tells the acquisition the bytes of a datagram, while the stream is running.
-fn hear_bytes(running: &mut Running, bytes: &[u8], looks: &mut Looks)
+fn receive_bytes(running: &mut Running, bytes: &[u8], looks: &mut Looks)
     requires keeps { IsReplaying running.old }
     requires runs { running.old.board.board.run ≡ 1 }
     ensures spelled { (digits : List ℕ) → decode_of digits ≡ Ok bytes.now → GoesNoting (script_line.datagram digits) running.old looks.old running.new looks.new }
     ensures widened { GoesNoting (script_line.datagram (encode_lower bytes.now)) running.old looks.old running.new looks.new }
 {
-    hear(
+    receive(
         &mut running.board,
         &mut running.acq,
         &mut running.counts,
@@ -39,7 +39,7 @@ fn widen_bytes(script: &mut Script, bytes: &[u8], wide_room: &mut [u8], looks: &
     match script.widening.widener.widen(bytes, wide_room) {
         Ok(len) => {
             script.widening.widened = true;
-            hear_bytes(&mut script.running, &wide_room[..len], looks);
+            receive_bytes(&mut script.running, &wide_room[..len], looks);
         }
         Err(_refusal) => {
             script.widening.refused = script.widening.refused.saturating_add(1);
@@ -49,7 +49,7 @@ fn widen_bytes(script: &mut Script, bytes: &[u8], wide_room: &mut [u8], looks: &
 
 /// Tells the acquisition the datagram that these digits spell, while the stream is running. Its bytes come into the room,
 /// and those with extended identifiers into the wide room.
-fn hear_digits(
+fn receive_digits(
     script: &mut Script,
     digits: &[u8],
     room: &mut Vec<u8>,
@@ -72,7 +72,7 @@ fn hear_digits(
         widen_bytes(script, bytes, wide_room.as_mut_slice(), looks);
         return;
     }
-    hear_bytes(&mut script.running, bytes, looks);
+    receive_bytes(&mut script.running, bytes, looks);
 }
 
 /// Runs a `d` line. Where the stream isn't running, the datagram is counted and goes nowhere.
@@ -94,7 +94,7 @@ fn run_datagram(
         script.running.idle = script.running.idle.saturating_add(1);
         return;
     }
-    hear_digits(script, digits, room, wide_room, looks);
+    receive_digits(script, digits, room, wide_room, looks);
 }
 
 /// Runs a `d` line with these hex digits, and notes the looks of the blocks that retire. The bytes of the datagram come

@@ -21,7 +21,7 @@ use script_replay::{FillCounts, fill_retired, give_claimed};
 
 /// Tells a datagram, notes the blocks that retire, and fills the buffers that come back. The answer is what the
 /// datagram needs.
-fn settle(
+fn fill_what_retires(
     board: &mut PlainBoard,
     acq: &mut Acq,
     counts: &mut FillCounts,
@@ -47,7 +47,7 @@ fn settle(
 }
 
 /// Tells a datagram. Where it wants a buffer, one is claimed by the mode, and the datagram is told again.
-pub(crate) fn hear(
+pub(crate) fn receive(
     board: &mut PlainBoard,
     acq: &mut Acq,
     counts: &mut FillCounts,
@@ -58,10 +58,10 @@ pub(crate) fn hear(
     requires rest { IsAtRest board.old acq.old }
     ensures { DrivesNoting (λ t part. t.mode ≡ mode → Hears (config_of acq.old) t bytes.now (asked_by (turn (config_of acq.old) t.inputs (came bytes.now)).need) part) board.old acq.old counts.old looks.old board.new acq.new counts.new looks.new }
 {
-    match settle(board, acq, counts, mode, bytes, looks) {
+    match fill_what_retires(board, acq, counts, mode, bytes, looks) {
         Need::Buffer(_block) => {
             let _got = give_claimed(board, acq, counts, mode);
-            let _again = settle(board, acq, counts, mode, bytes, looks);
+            let _again = fill_what_retires(board, acq, counts, mode, bytes, looks);
         }
         Need::Done => {}
         Need::Ignored(_why) => {}

@@ -10,8 +10,8 @@ returns-then-run-ne1-clause-does c =
 
 pub returns-clause-does : goal.returns-clause-does
 returns-clause-does c =
-    on_ok_weaker c.hear_bytes.result
-    (λ goes. plain_tells c.args.digits.now c.decode.new.bytes c.args.script.now c.hear_bytes.new.tape.items c.hear_bytes.new.running c.decode.ensures
+    on_ok_weaker c.receive_bytes.result
+    (λ goes. plain_tells c.args.digits.now c.decode.new.bytes c.args.script.now c.receive_bytes.new.tape.items c.receive_bytes.new.running c.decode.ensures
     (moved_test c.args.script.now.widening.version c.args.script.now.running.board.board.run c.run-run.result c.args.script.now.widening.widener c.top-top.result c.decode.new.bytes false c.run-run.ensures c.top-top.ensures c.if-is_standard.ensures)
     (goes c.args.digits.now c.decode.ensures))
-    c.hear_bytes.ensures.goes
+    c.receive_bytes.ensures.goes

@@ -14,12 +14,12 @@ widen-requires-clause-room c = widened_fits c.args.script.now.widening.widener c
 
 pub returns-in-Ok : goal.returns-in-Ok
 returns-in-Ok c =
-    on_ok_weaker c.hear_bytes.result
+    on_ok_weaker c.receive_bytes.result
     (λ goes digits is.
     let w = c.in-Ok.ensures.answer in
-    widened_tells digits c.args.bytes.now c.args.script.now c.hear_bytes.new.tape.items c.hear_bytes.new.running c.widen.new.self w.block w.wide is c.requires.standard w.is w.top_is
-    (subst (λ bytes. GoesTold (script_line.datagram (encode_lower bytes)) c.args.script.now.running [] c.hear_bytes.new.tape.items c.hear_bytes.new.running) (front_is _ w.wide _ c.in-Ok.len w.written w.len_is) goes))
-    c.hear_bytes.ensures.wide
+    widened_tells digits c.args.bytes.now c.args.script.now c.receive_bytes.new.tape.items c.receive_bytes.new.running c.widen.new.self w.block w.wide is c.requires.standard w.is w.top_is
+    (subst (λ bytes. GoesTold (script_line.datagram (encode_lower bytes)) c.args.script.now.running [] c.receive_bytes.new.tape.items c.receive_bytes.new.running) (front_is _ w.wide _ c.in-Ok.len w.written w.len_is) goes))
+    c.receive_bytes.ensures.wide
 
 pub returns-in_ok-push-in-Err : goal.returns-in_ok-push-in-Err
 returns-in_ok-push-in-Err c digits is =

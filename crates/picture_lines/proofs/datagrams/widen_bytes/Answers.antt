@@ -13,8 +13,8 @@ widen-requires-clause-room c = widened_fits c.args.script.now.widening.widener c
 pub returns-in-Ok : goal.returns-in-Ok
 returns-in-Ok c digits is =
     let w = c.in-Ok.ensures.answer in
-    widened_does digits c.args.bytes.now c.args.script.now c.args.looks.now c.hear_bytes.new.running c.hear_bytes.new.looks c.widen.new.self w.block w.wide is c.requires.standard w.is w.top_is
-    (subst (λ bytes. GoesNoting (script_line.datagram (encode_lower bytes)) c.args.script.now.running c.args.looks.now c.hear_bytes.new.running c.hear_bytes.new.looks) (front_is _ w.wide _ c.in-Ok.len w.written w.len_is) c.hear_bytes.ensures.widened)
+    widened_does digits c.args.bytes.now c.args.script.now c.args.looks.now c.receive_bytes.new.running c.receive_bytes.new.looks c.widen.new.self w.block w.wide is c.requires.standard w.is w.top_is
+    (subst (λ bytes. GoesNoting (script_line.datagram (encode_lower bytes)) c.args.script.now.running c.args.looks.now c.receive_bytes.new.running c.receive_bytes.new.looks) (front_is _ w.wide _ c.in-Ok.len w.written w.len_is) c.receive_bytes.ensures.widened)
 
 pub returns-in-Err : goal.returns-in-Err
 returns-in-Err c digits is =

@@ -4,7 +4,7 @@ use Rattle.script_replay.proofs.Retiring.{ready_after}
 use Rattle.acq_core.specs.Waiting.{waiting_fills}
 use Rattle.acq_core.specs.Receiver.{config_of}
 use Rattle.explain_lines.proofs.Datagrams.{retires_by}
-use Rattle.explain_lines.proofs.hearing.settle.Goals as goal
+use Rattle.explain_lines.proofs.hearing.fill_what_retires.Goals as goal
 
 pub returns : goal.returns
 returns c = record {
