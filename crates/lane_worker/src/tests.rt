@@ -14,6 +14,7 @@ use gev_lanes::{LaneEnds, Lanes, ReaderEnds};
 use gev_links::{MemoryClock, MemoryLink, OpenGate};
 use gev_types::{Buf, Peer};
 use lane_reader::read_lanes;
+use mode_calls::Mode;
 use output_queue::take;
 use std::alloc::Global;
 use std::process::Abort;
@@ -116,7 +117,16 @@ fn serve_one<R: Wait>(
     ensures reader { reader.new ≡ reader.old }
 {
     let mut acq = Acq::new(alloc, ONE_BLOCK)?;
-    lane(rt, board, pass, lanes, &mut ends, &mut acq, &OpenGate);
+    lane(
+        rt,
+        board,
+        pass,
+        lanes,
+        &mut ends,
+        &mut acq,
+        &OpenGate,
+        Mode::OldestFirst,
+    );
     lanes.meet(reader, ends);
     Ok(())
 }
