@@ -50,7 +50,7 @@ nothing_more : {A : Type 0} (xs ys : List A) → xs ++ ys ≡ xs → ys ≡ []
 nothing_more xs ys is = append_cancel_left xs ys [] (is ∙ sym (append-nil xs))
 
 -- What the claims of a new pass gave is what they gave in the whole history.
-claims_whole : (mode : Mode) (is : List Input) (s t : Token) (rest : List Entry) → own s ≡ [] → t.number ≡ s.number → own_of s.number (t.seen ++ rest) ≡ own t
+pub claims_whole : (mode : Mode) (is : List Input) (s t : Token) (rest : List Entry) → own s ≡ [] → t.number ≡ s.number → own_of s.number (t.seen ++ rest) ≡ own t
     → Claims mode is s t → claims_in is ≡ claims_by mode s.number empty_board (t.seen ++ rest)
 claims_whole mode is s t rest none number whole claims =
     sym (append-nil (claims_in is))
@@ -116,7 +116,7 @@ part_fills mode c n end made h part =
 
 -- ---- the sizes
 
-sized-append : (size : ℕ) (gs hs : List (Option Given)) → AreSized size gs → AreSized size hs → AreSized size (gs ++ hs)
+pub sized-append : (size : ℕ) (gs hs : List (Option Given)) → AreSized size gs → AreSized size hs → AreSized size (gs ++ hs)
 sized-append size [] hs first second = second
 sized-append size (None ∷ gs) hs first second = sized-append size gs hs first second
 sized-append size (Some g ∷ gs) hs first second = (first.0, sized-append size gs hs first.1 second)
@@ -134,13 +134,13 @@ taken_used b k i counted meets =
     away_used (word_at b i) Away (stands_away b i counted (omega (arith, here))) away_not_vacant
 
 -- An act with the machine's answer, on a board whose buffers have one size.
-record IsSized (size : ℕ) (m : Met) : Type 0 where
+pub record IsSized (size : ℕ) (m : Met) : Type 0 where
   by : ℕ
   counted : IsCounted m.board
   meets : Meets m.board by m.event
   have : HaveOneSize size m.board
 
-abbrev AllSized : ℕ → List Met → Type 0
+abbrev pub AllSized : ℕ → List Met → Type 0
 AllSized size [] = Unit {0}
 AllSized size (m ∷ ms) = IsSized size m × AllSized size ms
 
@@ -167,7 +167,7 @@ given_sized mode size b k (act.Claim (Some i)) ms counted meets have all = (have
 given_sized mode size b k (act.Claim None) ms counted meets have all = later_sized mode size ms all
 given_sized mode size b k _ ms counted meets have all = tt
 
-claims_sized : (mode : Mode) (size : ℕ) (ms : List Met) → AllSized size ms → AreSized size (claims_of mode ms)
+pub claims_sized : (mode : Mode) (size : ℕ) (ms : List Met) → AllSized size ms → AreSized size (claims_of mode ms)
 claims_sized mode size [] all = tt
 claims_sized mode size (m ∷ ms) all =
     sized-append size (given_by mode m.board m.event ms) (claims_of mode ms)
@@ -181,7 +181,7 @@ brings_front : (size : ℕ) (g h : List Entry) → BringOneSize size (g ++ h) �
 brings_front size [] h brings = tt
 brings_front size (e ∷ g) h brings = (brings.0, brings_front size g h brings.1)
 
-met_sized : (size n : ℕ) (front h : List Entry) → Run (front ++ h) → BringOneSize size (front ++ h) → AllSized size (met_by n (After front) h)
+pub met_sized : (size n : ℕ) (front h : List Entry) → Run (front ++ h) → BringOneSize size (front ++ h) → AllSized size (met_by n (After front) h)
 met_sized size n front [] run brings = tt
 met_sized size n front (e ∷ h) run brings =
     all_sized-append size (cond (e.by == n) (met (After front) e.event ∷ []) []) (met_by n (next (After front) e) h)
