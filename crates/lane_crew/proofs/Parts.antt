@@ -1,6 +1,5 @@
 -- A lane's part in the history in which its pass was joined.
 use Rattle.std.proofs.Common.{◌≡◌, List, [], ◌∷◌, ◌++◌, refl, ap, sym, ◌∙◌, subst}
-use Rattle.std.proofs.lemmas.List.{append-nil, append_cancel_left}
 use Rattle.board_machine.specs.declared.events.Entry.{Entry}
 use Rattle.board_machine.specs.declared.events.Event.{Event}
 use Rattle.board_machine.specs.Machine.{empty_board}
@@ -15,8 +14,8 @@ use Rattle.buffer_words.specs.Passes.{Token, own}
 use Rattle.buffer_words.specs.Several.{EntersEach}
 use Rattle.buffer_words.proofs.Working.{are_of_entries}
 use Rattle.mode_calls.specs.declared.mode.Mode.{Mode}
-use Rattle.gev_acq.specs.Claims.{claims_in, met_by, claims_of, claims_by, Claims}
-use Rattle.gev_acq.proofs.Owning.{met_by-append, met_none}
+use Rattle.gev_acq.specs.Claims.{claims_in, claims_by}
+use Rattle.gev_reader.proofs.Whole.{claims_whole}
 use Rattle.lane_worker.specs.Cells.{inputs_in}
 use Rattle.lane_worker.specs.Lane.{ServesCells}
 use Rattle.lane_crew.specs.declared.lane_tools.LaneTools.{LaneTools}
@@ -31,31 +30,6 @@ own_entered s t events none e =
     ap (λ n. own_of n t.seen) e.number
     ∙ (ap (λ l. own_of s.number l) e.seen
     ∙ (own_of-append s.number s.seen e.between ∙ (ap (λ l. l ++ own_of s.number e.between) none ∙ e.own)))
-
-nothing_more : {A : Type 0} (xs ys : List A) → xs ++ ys ≡ xs → ys ≡ []
-nothing_more xs ys is = append_cancel_left xs ys [] (is ∙ sym (append-nil xs))
-
--- What the claims of a new pass gave is what they gave in the whole history.
-claims_whole : (mode : Mode) (is : List Input) (s t : Token) (rest : List Entry) → own s ≡ [] → t.number ≡ s.number → own_of s.number (t.seen ++ rest) ≡ own t
-    → Claims mode is s t → claims_in is ≡ claims_by mode s.number empty_board (t.seen ++ rest)
-claims_whole mode is s t rest none number whole claims =
-    sym (append-nil (claims_in is))
-    ∙ (claims.are []
-    ∙ ap (λ ms. claims_of mode ms) (append-nil (met_by s.number (After s.seen) claims.between) ∙ sym met_whole))
-  where
-    own_rest : own_of s.number rest ≡ []
-    own_rest =
-        nothing_more (own_of s.number t.seen) (own_of s.number rest)
-        (sym (own_of-append s.number t.seen rest) ∙ (whole ∙ ap (λ n. own_of n t.seen) number))
-
-    met_whole : met_by s.number empty_board (t.seen ++ rest) ≡ met_by s.number (After s.seen) claims.between
-    met_whole =
-        met_by-append s.number empty_board t.seen rest
-        ∙ (ap (λ ms. met_by s.number empty_board t.seen ++ ms) (met_none s.number (After t.seen) rest own_rest)
-        ∙ (append-nil (met_by s.number empty_board t.seen)
-        ∙ (ap (λ l. met_by s.number empty_board l) claims.seen
-        ∙ (met_by-append s.number empty_board s.seen claims.between
-        ∙ ap (λ ms. ms ++ met_by s.number (After s.seen) claims.between) (met_none s.number empty_board s.seen none)))))
 
 -- a stop claims nothing
 claims_stop : (is : List Input) → claims_in (is ++ stop ∷ []) ≡ claims_in is
