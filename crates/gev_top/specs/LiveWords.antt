@@ -1,9 +1,11 @@
--- The words of a live run, and what the words of any command line ask for.
-use Rattle.std.specs.Prelude.{◌≡◌, ℕ, ◌≤◌, ◌^◌, ◌-◌, List, [], ◌∷◌, codes, Option, Some, None, Ok, Err, if◌then◌else◌}
+-- The words of live runs, and what the words of any command line ask for.
+use Rattle.std.specs.Prelude.{◌≡◌, ⊤, ℕ, ◌≤◌, ◌^◌, ◌-◌, List, [], ◌∷◌, codes, Option, Some, None, Ok, Err, if◌then◌else◌}
 use Rattle.std.specs.Str.{bytes_eq}
-use Rattle.gev_top.specs.declared.command.Command.{Command}
 use Rattle.gev_top.specs.declared.live_numbers.LiveNumbers.{LiveNumbers}
-use Rattle.gev_top.specs.Usage.{Said, ◌>>=◌, number_at, none_at, command_of}
+use Rattle.gev_top.specs.declared.errand.Errand.{Errand}
+use Rattle.gev_top.specs.declared.errand.Errand.TheVariants.{Plain, Live, Record}
+use Rattle.gev_top.specs.Usage as plain
+use Rattle.gev_top.specs.Usage.{Said, ◌>>=◌, number_at, none_at, named}
 
 -- `live <seed> <frames> <buffers> <lanes> <turns>`
 abbrev pub live_of : List (List ℕ) → Said LiveNumbers
@@ -16,6 +18,16 @@ live_of words = do
   done ← none_at 6 words
   Ok (record { seed = seed; frames = frames; buffers = buffers; lanes = lanes; turns = turns })
 
+-- `record <seed> <frames> <buffers> <turns>`, with one lane
+abbrev pub record_of : List (List ℕ) → Said LiveNumbers
+record_of words = do
+  seed ← number_at 0 (2 ^ 64 - 1) 1 words
+  frames ← number_at 1 1000 2 words
+  buffers ← number_at 1 15 3 words
+  turns ← number_at 1 100000 4 words
+  done ← none_at 5 words
+  Ok (record { seed = seed; frames = frames; buffers = buffers; lanes = 1; turns = turns })
+
 -- A live run wants 1 to 1,000 frames and 1 to 15 buffers, has 1 to 4 lanes, and makes 1 to 100,000,000 turns.
 pub record IsInRange (n : LiveNumbers) : Type 0 where
   pub some_frames : 1 ≤ n.frames
@@ -27,25 +39,27 @@ pub record IsInRange (n : LiveNumbers) : Type 0 where
   pub some_turns : 1 ≤ n.turns
   pub few_turns : n.turns ≤ 100000000
 
--- what the words of a live run say; None where the first word isn't `live`
-abbrev pub live_named : List ℕ → List (List ℕ) → Option (Said LiveNumbers)
-live_named name words = if bytes_eq name (codes "live") then Some (live_of words) else None
+-- A recorded run makes at most 100,000.
+pub record IsRecordable (n : LiveNumbers) : Type 0 where
+  pub range : IsInRange n
+  pub few_turns : n.turns ≤ 100000
 
-abbrev pub live_said : List (List ℕ) → Option (Said LiveNumbers)
-live_said [] = None
-live_said (name ∷ words) = live_named name (name ∷ words)
+-- the numbers of what is asked for are in their ranges
+abbrev pub IsErrand : Errand → Type 0
+IsErrand (Plain command) = plain.IsInRange command
+IsErrand (Live n) = IsInRange n
+IsErrand (Record n) = IsRecordable n
 
--- What words ask for: a command, or a live run.
-pub data Errand : Type 0 where
-  plain : Command → Errand
-  live : LiveNumbers → Errand
-
-abbrev pub errand_by : Option (Said LiveNumbers) → Said Command → Said Errand
-errand_by None said = said >>= λ command. Ok (plain command)
-errand_by (Some said) other = said >>= λ n. Ok (live n)
+-- the words of which the first is this name
+abbrev pub errand_named : List ℕ → List (List ℕ) → Said Errand
+errand_named name words =
+    if bytes_eq name (codes "live") then (live_of words >>= λ n. Ok (Live n))
+    else if bytes_eq name (codes "record") then (record_of words >>= λ n. Ok (Record n))
+    else (named name words >>= λ command. Ok (Plain command))
 
 abbrev pub errand_of : List (List ℕ) → Said Errand
-errand_of words = errand_by (live_said words) (command_of words)
+errand_of [] = Err 0
+errand_of (name ∷ words) = errand_named name (name ∷ words)
 
 abbrev pub place_in : Said Errand → Option ℕ
 place_in (Ok errand) = None
@@ -54,3 +68,9 @@ place_in (Err place) = Some place
 -- the place of the first word with which no command line goes on; None where the words are a command line
 abbrev pub errand_fault : List (List ℕ) → Option ℕ
 errand_fault words = place_in (errand_of words)
+
+-- this of the numbers, where a run over ports is asked for
+abbrev pub IfPorts : Errand → (LiveNumbers → Type 0) → Type 0
+IfPorts (Plain command) P = ⊤
+IfPorts (Live n) P = P n
+IfPorts (Record n) P = P n

@@ -1,10 +1,10 @@
-//! The words of a live run are read by `read_live`, and a second time by `clap`.
+//! The words of a live run and of a recorded one are read by `read_errand`, and a second time by `clap`.
 
 use super::word_list;
 use clap::builder::ValueParser;
 use clap::error::ErrorKind;
 use clap::{Arg, ArgMatches, Error};
-use gev_top::{LiveNumbers, read_live};
+use gev_top::{Errand, LiveNumbers, read_errand};
 use std::alloc::Global;
 use std::test::Fail;
 
@@ -62,8 +62,42 @@ const LIVE: [(Words, LiveNumbers); 4] = [
     ),
 ];
 
+/// Command lines that ask for a recorded run, and its numbers.
+const RECORDED: [(Words, LiveNumbers); 3] = [
+    (
+        &["record", "0", "1", "1", "1"],
+        LiveNumbers {
+            seed: 0,
+            frames: 1,
+            buffers: 1,
+            lanes: 1,
+            turns: 1,
+        },
+    ),
+    (
+        &["record", "1", "10", "4", "99999"],
+        LiveNumbers {
+            seed: 1,
+            frames: 10,
+            buffers: 4,
+            lanes: 1,
+            turns: 99_999,
+        },
+    ),
+    (
+        &["record", "18446744073709551615", "1000", "15", "100000"],
+        LiveNumbers {
+            seed: 18_446_744_073_709_551_615,
+            frames: 1000,
+            buffers: 15,
+            lanes: 1,
+            turns: 100_000,
+        },
+    ),
+];
+
 /// Refused words: the place of the first that isn't understood, and what `clap` finds wrong.
-const REFUSED: [(Words, u32, ErrorKind); 13] = [
+const REFUSED: [(Words, u32, ErrorKind); 24] = [
     (&["live"], 1, ErrorKind::MissingRequiredArgument),
     (
         &["live", "1", "1", "1", "1"],
@@ -125,6 +159,57 @@ const REFUSED: [(Words, u32, ErrorKind); 13] = [
         6,
         ErrorKind::UnknownArgument,
     ),
+    (&["record"], 1, ErrorKind::MissingRequiredArgument),
+    (
+        &["record", "1", "1", "1"],
+        4,
+        ErrorKind::MissingRequiredArgument,
+    ),
+    (
+        &["record", "x", "1", "1", "1"],
+        1,
+        ErrorKind::ValueValidation,
+    ),
+    (
+        &["record", "18446744073709551616", "1", "1", "1"],
+        1,
+        ErrorKind::ValueValidation,
+    ),
+    (
+        &["record", "1", "0", "1", "1"],
+        2,
+        ErrorKind::ValueValidation,
+    ),
+    (
+        &["record", "1", "1001", "1", "1"],
+        2,
+        ErrorKind::ValueValidation,
+    ),
+    (
+        &["record", "1", "1", "0", "1"],
+        3,
+        ErrorKind::ValueValidation,
+    ),
+    (
+        &["record", "1", "1", "16", "1"],
+        3,
+        ErrorKind::ValueValidation,
+    ),
+    (
+        &["record", "1", "1", "1", "0"],
+        4,
+        ErrorKind::ValueValidation,
+    ),
+    (
+        &["record", "1", "1", "1", "100001"],
+        4,
+        ErrorKind::ValueValidation,
+    ),
+    (
+        &["record", "1", "1", "1", "1", "1"],
+        5,
+        ErrorKind::UnknownArgument,
+    ),
 ];
 
 /// A number from one to another.
@@ -142,24 +227,38 @@ fn matches_of(alloc: Global, words: Words) -> Result<ArgMatches<'static>, Error>
         .arg(number(alloc, "buffers", 1, 15))?
         .arg(number(alloc, "lanes", 1, 4))?
         .arg(number(alloc, "turns", 1, 100_000_000))?;
+    let record = clap::Command::new(alloc, "record")
+        .arg(number(alloc, "seed", 0, u64::MAX))?
+        .arg(number(alloc, "frames", 1, 1000))?
+        .arg(number(alloc, "buffers", 1, 15))?
+        .arg(number(alloc, "turns", 1, 100_000))?;
     let program = clap::Command::new(alloc, "gevacq")
         .no_binary_name(true)
         .subcommand_required(true)
-        .subcommand(live)?;
+        .subcommand(live)?
+        .subcommand(record)?;
     program.try_get_matches_from(words)
 }
 
-/// The numbers of the live run that was found.
-fn found_numbers(found: &ArgMatches<'static>) -> Option<LiveNumbers> {
+/// The live run or the recorded one that was found.
+fn found_errand(found: &ArgMatches<'static>) -> Option<Errand> {
     let (name, inner) = found.subcommand()?;
-    if name != "live" {
-        return None;
+    if name == "live" {
+        return Some(Errand::Live(found_numbers(inner, inner.get_one::<u8>("lanes")?)?));
     }
+    if name == "record" {
+        return Some(Errand::Record(found_numbers(inner, 1)?));
+    }
+    None
+}
+
+/// The numbers of a run with so many lanes.
+fn found_numbers(inner: &ArgMatches<'static>, lanes: u8) -> Option<LiveNumbers> {
     Some(LiveNumbers {
         seed: inner.get_one::<u64>("seed")?,
         frames: inner.get_one::<u32>("frames")?,
         buffers: inner.get_one::<u8>("buffers")?,
-        lanes: inner.get_one::<u8>("lanes")?,
+        lanes,
         turns: inner.get_one::<u64>("turns")?,
     })
 }
@@ -168,10 +267,22 @@ fn found_numbers(found: &ArgMatches<'static>) -> Option<LiveNumbers> {
 fn both_read_live_runs(rt: HostRuntime) -> Result<(), Fail> {
     let alloc = rt.alloc();
     for (words, numbers) in LIVE {
-        let first = read_live(&word_list(alloc, words)?);
-        let second = found_numbers(&matches_of(alloc, words)?);
-        assert_eq!(rt; first, Some(Ok(numbers)), "{words:?}");
-        assert_eq!(rt; second, Some(numbers), "{words:?}");
+        let first = read_errand(&word_list(alloc, words)?);
+        let second = found_errand(&matches_of(alloc, words)?);
+        assert_eq!(rt; first, Ok(Errand::Live(numbers)), "{words:?}");
+        assert_eq!(rt; second, Some(Errand::Live(numbers)), "{words:?}");
+    }
+    Ok(())
+}
+
+#[test]
+fn both_read_recorded_runs(rt: HostRuntime) -> Result<(), Fail> {
+    let alloc = rt.alloc();
+    for (words, numbers) in RECORDED {
+        let first = read_errand(&word_list(alloc, words)?);
+        let second = found_errand(&matches_of(alloc, words)?);
+        assert_eq!(rt; first, Ok(Errand::Record(numbers)), "{words:?}");
+        assert_eq!(rt; second, Some(Errand::Record(numbers)), "{words:?}");
     }
     Ok(())
 }
@@ -180,9 +291,9 @@ fn both_read_live_runs(rt: HostRuntime) -> Result<(), Fail> {
 fn both_refuse_live_runs(rt: HostRuntime) -> Result<(), Fail> {
     let alloc = rt.alloc();
     for (words, place, kind) in REFUSED {
-        let first = read_live(&word_list(alloc, words)?);
+        let first = read_errand(&word_list(alloc, words)?);
         let second = matches_of(alloc, words).err().map(|error| error.kind());
-        assert_eq!(rt; first, Some(Err(place)), "{words:?}");
+        assert_eq!(rt; first, Err(place), "{words:?}");
         assert_eq!(rt; second, Some(kind), "{words:?}");
     }
     Ok(())
