@@ -156,6 +156,42 @@ fn a_recorded_run_is_made_over_ports(rt: HostRuntime) -> Result<(), Fail> {
     )
 }
 
+// Each of its five writes fails in turn: the header's, one for each turn, the end's. A front of the script is written, and
+// links and board are there as after a run that was written.
+#[test]
+fn a_write_of_a_recorded_run_fails(rt: HostRuntime) -> Result<(), Fail> {
+    let alloc = rt.alloc();
+    let answers = [
+        Some((ACKS[0], CAMERA)),
+        Some((ACKS[1], CAMERA)),
+        Some((ACKS[2], CAMERA)),
+        Some((ACKS[3], CAMERA)),
+    ];
+    let words = word_list(alloc, &["record", "1", "20", "1", "3"])?;
+    for number in 1..=5u64 {
+        let failing = [number];
+        let mut ports = quiet_ports(alloc, &answers, &[])?;
+        let mut source = SteadySource::new(b"", 1000);
+        let mut sink = MemorySink::new(alloc, 1000, &failing);
+        let mut kept = None;
+        let answer = gevacq_top(
+            &rt,
+            alloc,
+            &words,
+            &mut source,
+            &mut sink,
+            &mut ports,
+            &OpenGate,
+            &mut kept,
+        );
+        assert_eq!(rt; answer, Status::WriteFault);
+        assert!(rt; SILENT.as_bytes().starts_with(sink.written()));
+        assert!(rt; sink.written().len() < SILENT.len());
+        assert_eq!(rt; (ports.links().len(), kept.is_some()), (3, true));
+    }
+    Ok(())
+}
+
 // Where a bind fails the links that came go back, and nothing is run or written.
 #[test]
 fn binds_that_fail_give_back_what_came(rt: HostRuntime) -> Result<(), Fail> {
