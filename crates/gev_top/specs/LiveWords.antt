@@ -1,13 +1,25 @@
 -- The words of live runs, and what the words of any command line ask for.
-use Rattle.std.specs.Prelude.{◌≡◌, ⊤, ℕ, ◌≤◌, ◌^◌, ◌-◌, List, [], ◌∷◌, codes, Option, Some, None, Ok, Err, if◌then◌else◌}
+use Rattle.std.specs.Prelude.{◌≡◌, ⊤, ℕ, ◌≤◌, ◌^◌, ◌-◌, List, [], ◌∷◌, codes, Option, Some, None, Ok, Err, slice_get, if◌then◌else◌}
 use Rattle.std.specs.Str.{bytes_eq}
+use Rattle.gev_script.specs.Numbers.{number_in}
+use Rattle.mode_calls.specs.declared.mode.Mode.{Mode}
+use Rattle.mode_calls.specs.declared.mode.Mode.TheVariants.{OldestFirst}
+use Rattle.script_trace.specs.Modes.{mode_of}
 use Rattle.gev_top.specs.declared.live_numbers.LiveNumbers.{LiveNumbers}
 use Rattle.gev_top.specs.declared.errand.Errand.{Errand}
 use Rattle.gev_top.specs.declared.errand.Errand.TheVariants.{Plain, Live, Record}
 use Rattle.gev_top.specs.Usage as plain
-use Rattle.gev_top.specs.Usage.{Said, ◌>>=◌, number_at, none_at, named}
+use Rattle.gev_top.specs.Usage.{Said, ◌>>=◌, read_at, number_at, none_at, named}
 
--- `live <seed> <frames> <buffers> <lanes> <turns>`
+-- the buffer handling mode whose number, 0 to 2, this word is, or its place; none is wanted, and is OldestFirst
+abbrev pub mode_in : ℕ → Option (List ℕ) → Said Mode
+mode_in place None = Ok OldestFirst
+mode_in place (Some word) = read_at place (number_in 0 2 word) >>= λ n. Ok (mode_of n)
+
+abbrev pub mode_at : ℕ → List (List ℕ) → Said Mode
+mode_at place words = mode_in place (slice_get words place)
+
+-- `live <seed> <frames> <buffers> <lanes> <turns> [<mode>]`
 abbrev pub live_of : List (List ℕ) → Said LiveNumbers
 live_of words = do
   seed ← number_at 0 (2 ^ 64 - 1) 1 words
@@ -15,10 +27,11 @@ live_of words = do
   buffers ← number_at 1 15 3 words
   lanes ← number_at 1 4 4 words
   turns ← number_at 1 100000000 5 words
-  done ← none_at 6 words
-  Ok (record { seed = seed; frames = frames; buffers = buffers; lanes = lanes; turns = turns })
+  mode ← mode_at 6 words
+  done ← none_at 7 words
+  Ok (record { seed = seed; frames = frames; buffers = buffers; lanes = lanes; turns = turns; mode = mode })
 
--- `record <seed> <frames> <buffers> <turns>`, with one lane
+-- `record <seed> <frames> <buffers> <turns>`, with one lane and OldestFirst
 abbrev pub record_of : List (List ℕ) → Said LiveNumbers
 record_of words = do
   seed ← number_at 0 (2 ^ 64 - 1) 1 words
@@ -26,7 +39,7 @@ record_of words = do
   buffers ← number_at 1 15 3 words
   turns ← number_at 1 100000 4 words
   done ← none_at 5 words
-  Ok (record { seed = seed; frames = frames; buffers = buffers; lanes = 1; turns = turns })
+  Ok (record { seed = seed; frames = frames; buffers = buffers; lanes = 1; turns = turns; mode = OldestFirst })
 
 -- A live run wants 1 to 1,000 frames and 1 to 15 buffers, has 1 to 4 lanes, and makes 1 to 100,000,000 turns.
 pub record IsInRange (n : LiveNumbers) : Type 0 where
@@ -39,10 +52,11 @@ pub record IsInRange (n : LiveNumbers) : Type 0 where
   pub some_turns : 1 ≤ n.turns
   pub few_turns : n.turns ≤ 100000000
 
--- A recorded run makes at most 100,000.
+-- A recorded run makes at most 100,000, and drops nothing.
 pub record IsRecordable (n : LiveNumbers) : Type 0 where
   pub range : IsInRange n
   pub few_turns : n.turns ≤ 100000
+  pub mode : n.mode ≡ OldestFirst
 
 -- the numbers of what is asked for are in their ranges
 abbrev pub IsErrand : Errand → Type 0

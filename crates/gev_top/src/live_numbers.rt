@@ -1,3 +1,5 @@
+use mode_calls::Mode;
+
 /// What the words of a live run ask for, or those of a recorded one.
 #[derive(Clone, Copy, Debug, PartialEq, Eq)]
 pub struct LiveNumbers {
@@ -11,4 +13,6 @@ pub struct LiveNumbers {
     pub lanes: u8,
     /// The most turns of the reader, from 1 to 100,000,000; of a recorded run to 100,000.
     pub turns: u64,
+    /// Which waiting images are dropped; of a recorded run `OldestFirst`, which drops none.
+    pub mode: Mode,
 }

@@ -2,12 +2,15 @@
 
 ghost use Rattle.std.specs.Prelude.{◌≡◌, map, IfOk};
 ghost use Rattle.std.specs.String.{string_bytes};
+ghost use Rattle.script_trace.specs.Modes.{mode_of};
 ghost use Rattle.gev_top.specs.Usage.{named};
-ghost use Rattle.gev_top.specs.LiveWords.{IsInRange, IsRecordable, IsErrand, live_of, record_of, errand_named, errand_of};
+ghost use Rattle.gev_top.specs.LiveWords.{IsInRange, IsRecordable, IsErrand, mode_at, live_of, record_of, errand_named, errand_of};
 
 use crate::errand::Errand;
 use crate::live_numbers::LiveNumbers;
 use crate::usage::{is, none_at, number_at, read_named};
+use gev_script::number_in;
+use mode_calls::Mode;
 
 /// What the words ask for, or the place, from 0, of the first word with which no command line goes on. Where more words
 /// are wanted it is their number.
@@ -38,7 +41,7 @@ fn read_errand_named(name: &[u8], words: &[String]) -> Result<Errand, u32>
     Ok(Errand::Plain(command))
 }
 
-/// Five numbers follow `live`, and no further word.
+/// Five numbers follow `live`, then the mode's or none, and no further word.
 fn read_live_numbers(words: &[String]) -> Result<LiveNumbers, u32>
     ensures said { result ≡ live_of (map (λ word. string_bytes word) words.now) }
     ensures within { IfOk result (λ n. IsInRange n) }
@@ -48,13 +51,15 @@ fn read_live_numbers(words: &[String]) -> Result<LiveNumbers, u32>
     let buffers = number_at(1, 15, 3, words)? as u8;
     let lanes = number_at(1, 4, 4, words)? as u8;
     let turns = number_at(1, 100_000_000, 5, words)?;
-    none_at(6, words)?;
+    let mode = mode_at(6, words)?;
+    none_at(7, words)?;
     Ok(LiveNumbers {
         seed,
         frames,
         buffers,
         lanes,
         turns,
+        mode,
     })
 }
 
@@ -74,5 +79,32 @@ fn read_record_numbers(words: &[String]) -> Result<LiveNumbers, u32>
         buffers,
         lanes: 1,
         turns,
+        mode: Mode::OldestFirst,
     })
+}
+
+/// The buffer handling mode whose number the word at this place is, or the place; without a word `OldestFirst`.
+fn mode_at(place: u32, words: &[String]) -> Result<Mode, u32>
+    ensures { result ≡ mode_at place (map (λ word. string_bytes word) words.now) }
+{
+    match words.get(place as usize) {
+        Some(word) => match number_in(0, 2, word.as_bytes()) {
+            Ok(number) => Ok(mode_of(number)),
+            Err(_) => Err(place),
+        },
+        None => Ok(Mode::OldestFirst),
+    }
+}
+
+/// The mode with this number, 0 to 2.
+fn mode_of(number: u64) -> Mode
+    ensures { result ≡ mode_of number }
+{
+    if number == 0 {
+        return Mode::OldestFirst;
+    }
+    if number == 1 {
+        return Mode::OldestFirstOverwrite;
+    }
+    Mode::NewestOnly
 }
