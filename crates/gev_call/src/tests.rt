@@ -252,7 +252,7 @@ end taken=0 fills=0 complete=0 underrun=0 requests=0 foreign=0 late=0 repeat=0 m
         0,
         false,
     )?;
-    let rows: [(&[&str], u32); 15] = [
+    let rows: [(&[&str], u32); 17] = [
         (&[], 0),
         (&["lives"], 0),
         (&["recorded"], 0),
@@ -262,7 +262,9 @@ end taken=0 fills=0 complete=0 underrun=0 requests=0 foreign=0 late=0 repeat=0 m
         (&["live", "1", "1", "16", "1", "1"], 3),
         (&["live", "1", "1", "1", "5", "1"], 4),
         (&["live", "1", "1", "1", "1", "0"], 5),
-        (&["live", "1", "1", "1", "1", "1", "1"], 6),
+        (&["live", "1", "1", "1", "1", "1", "3"], 6),
+        (&["live", "1", "1", "1", "1", "1", "01"], 6),
+        (&["live", "1", "1", "1", "1", "1", "2", "2"], 7),
         (&["record"], 1),
         (&["record", "1", "1001", "1", "1"], 2),
         (&["record", "1", "1", "16", "1"], 3),

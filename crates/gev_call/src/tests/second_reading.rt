@@ -5,6 +5,7 @@ use clap::builder::ValueParser;
 use clap::error::ErrorKind;
 use clap::{Arg, ArgMatches, Error};
 use gev_top::{Errand, LiveNumbers, read_errand};
+use mode_calls::Mode;
 use std::alloc::Global;
 use std::test::Fail;
 
@@ -12,7 +13,7 @@ use std::test::Fail;
 type Words = &'static [&'static str];
 
 /// Command lines that ask for a live run, and its numbers.
-const LIVE: [(Words, LiveNumbers); 4] = [
+const LIVE: [(Words, LiveNumbers); 7] = [
     (
         &["live", "0", "1", "1", "1", "1"],
         LiveNumbers {
@@ -21,6 +22,7 @@ const LIVE: [(Words, LiveNumbers); 4] = [
             buffers: 1,
             lanes: 1,
             turns: 1,
+            mode: Mode::OldestFirst,
         },
     ),
     (
@@ -31,6 +33,7 @@ const LIVE: [(Words, LiveNumbers); 4] = [
             buffers: 4,
             lanes: 2,
             turns: 1_000_000,
+            mode: Mode::OldestFirst,
         },
     ),
     (
@@ -48,6 +51,7 @@ const LIVE: [(Words, LiveNumbers); 4] = [
             buffers: 15,
             lanes: 4,
             turns: 100_000_000,
+            mode: Mode::OldestFirst,
         },
     ),
     (
@@ -58,6 +62,40 @@ const LIVE: [(Words, LiveNumbers); 4] = [
             buffers: 14,
             lanes: 1,
             turns: 99_999_999,
+            mode: Mode::OldestFirst,
+        },
+    ),
+    (
+        &["live", "1", "20", "4", "2", "1000000", "0"],
+        LiveNumbers {
+            seed: 1,
+            frames: 20,
+            buffers: 4,
+            lanes: 2,
+            turns: 1_000_000,
+            mode: Mode::OldestFirst,
+        },
+    ),
+    (
+        &["live", "1", "20", "4", "2", "1000000", "1"],
+        LiveNumbers {
+            seed: 1,
+            frames: 20,
+            buffers: 4,
+            lanes: 2,
+            turns: 1_000_000,
+            mode: Mode::OldestFirstOverwrite,
+        },
+    ),
+    (
+        &["live", "1", "20", "4", "1", "1000000", "2"],
+        LiveNumbers {
+            seed: 1,
+            frames: 20,
+            buffers: 4,
+            lanes: 1,
+            turns: 1_000_000,
+            mode: Mode::NewestOnly,
         },
     ),
 ];
@@ -72,6 +110,7 @@ const RECORDED: [(Words, LiveNumbers); 3] = [
             buffers: 1,
             lanes: 1,
             turns: 1,
+            mode: Mode::OldestFirst,
         },
     ),
     (
@@ -82,6 +121,7 @@ const RECORDED: [(Words, LiveNumbers); 3] = [
             buffers: 4,
             lanes: 1,
             turns: 99_999,
+            mode: Mode::OldestFirst,
         },
     ),
     (
@@ -92,12 +132,13 @@ const RECORDED: [(Words, LiveNumbers); 3] = [
             buffers: 15,
             lanes: 1,
             turns: 100_000,
+            mode: Mode::OldestFirst,
         },
     ),
 ];
 
 /// Refused words: the place of the first that isn't understood, and what `clap` finds wrong.
-const REFUSED: [(Words, u32, ErrorKind); 24] = [
+const REFUSED: [(Words, u32, ErrorKind); 26] = [
     (&["live"], 1, ErrorKind::MissingRequiredArgument),
     (
         &["live", "1", "1", "1", "1"],
@@ -155,8 +196,18 @@ const REFUSED: [(Words, u32, ErrorKind); 24] = [
         ErrorKind::ValueValidation,
     ),
     (
-        &["live", "1", "1", "1", "1", "1", "1"],
+        &["live", "1", "1", "1", "1", "1", "3"],
         6,
+        ErrorKind::ValueValidation,
+    ),
+    (
+        &["live", "1", "1", "1", "1", "1", "x"],
+        6,
+        ErrorKind::ValueValidation,
+    ),
+    (
+        &["live", "1", "1", "1", "1", "1", "1", "1"],
+        7,
         ErrorKind::UnknownArgument,
     ),
     (&["record"], 1, ErrorKind::MissingRequiredArgument),
@@ -219,6 +270,11 @@ fn number(alloc: Global, name: &'static str, least: u64, most: u64) -> Arg<'stat
         .value_parser(ValueParser::Unsigned(least, most))
 }
 
+/// A number from 0 to this one, or none.
+fn further_number(alloc: Global, name: &'static str, most: u64) -> Arg<'static> {
+    Arg::new(alloc, name).value_parser(ValueParser::Unsigned(0, most))
+}
+
 /// What `clap` finds in the words.
 fn matches_of(alloc: Global, words: Words) -> Result<ArgMatches<'static>, Error> {
     let live = clap::Command::new(alloc, "live")
@@ -226,7 +282,8 @@ fn matches_of(alloc: Global, words: Words) -> Result<ArgMatches<'static>, Error>
         .arg(number(alloc, "frames", 1, 1000))?
         .arg(number(alloc, "buffers", 1, 15))?
         .arg(number(alloc, "lanes", 1, 4))?
-        .arg(number(alloc, "turns", 1, 100_000_000))?;
+        .arg(number(alloc, "turns", 1, 100_000_000))?
+        .arg(further_number(alloc, "mode", 2))?;
     let record = clap::Command::new(alloc, "record")
         .arg(number(alloc, "seed", 0, u64::MAX))?
         .arg(number(alloc, "frames", 1, 1000))?
@@ -244,22 +301,35 @@ fn matches_of(alloc: Global, words: Words) -> Result<ArgMatches<'static>, Error>
 fn found_errand(found: &ArgMatches<'static>) -> Option<Errand> {
     let (name, inner) = found.subcommand()?;
     if name == "live" {
-        return Some(Errand::Live(found_numbers(inner, inner.get_one::<u8>("lanes")?)?));
+        let lanes = inner.get_one::<u8>("lanes")?;
+        let mode = found_mode(inner.get_one::<u8>("mode"))?;
+        return Some(Errand::Live(found_numbers(inner, lanes, mode)?));
     }
     if name == "record" {
-        return Some(Errand::Record(found_numbers(inner, 1)?));
+        return Some(Errand::Record(found_numbers(inner, 1, Mode::OldestFirst)?));
     }
     None
 }
 
-/// The numbers of a run with so many lanes.
-fn found_numbers(inner: &ArgMatches<'static>, lanes: u8) -> Option<LiveNumbers> {
+/// The mode of this number; `OldestFirst` where none was given.
+fn found_mode(number: Option<u8>) -> Option<Mode> {
+    match number {
+        None | Some(0) => Some(Mode::OldestFirst),
+        Some(1) => Some(Mode::OldestFirstOverwrite),
+        Some(2) => Some(Mode::NewestOnly),
+        Some(_) => None,
+    }
+}
+
+/// The numbers of a run with so many lanes, in this mode.
+fn found_numbers(inner: &ArgMatches<'static>, lanes: u8, mode: Mode) -> Option<LiveNumbers> {
     Some(LiveNumbers {
         seed: inner.get_one::<u64>("seed")?,
         frames: inner.get_one::<u32>("frames")?,
         buffers: inner.get_one::<u8>("buffers")?,
         lanes,
         turns: inner.get_one::<u64>("turns")?,
+        mode,
     })
 }
 
