@@ -1,5 +1,6 @@
 //! Live and recorded runs over links in memory whose stream tells frames of 640 x 480 pixels.
 
+mod modes;
 mod recorded;
 mod twenty;
 
