@@ -4,6 +4,8 @@ use Rattle.board_machine.specs.declared.events.Entry.{Entry}
 use Rattle.gev_links.specs.Links.{Address, Answer}
 use Rattle.gev_status.specs.declared.status.Status.{Status}
 use Rattle.gev_status.specs.declared.status.Status.TheVariants.{Done, Usage, BadScript, ReadFault, WriteFault, LinkFault, NoMemory, NoAnswer, Refused, TurnsSpent, BadCapture, NoPicture}
+use Rattle.mode_calls.specs.declared.mode.Mode.{Mode}
+use Rattle.mode_calls.specs.declared.mode.Mode.TheVariants.{OldestFirst}
 use Rattle.gev_binding.specs.Bound.{ComeBack}
 use Rattle.gev_top.specs.declared.live_numbers.LiveNumbers.{LiveNumbers}
 use Rattle.gev_top.specs.Completeness.{NoneRose, EndsLive}
@@ -47,21 +49,26 @@ record_understood n camera stream answer o e taped written written_after faults 
 record_understood n camera stream answer o e taped written written_after faults faults_after h (inr nothing) place is =
     let bad : NoMemory ≡ Usage place = sym nothing.never.wanted ∙ is in cc
 
+in_mode : LiveNumbers → Mode → Numbers
+in_mode n mode = record { seed = n.seed; frames = n.frames; buffers = n.buffers; turns = n.turns; mode = mode }
+
 pub recorded_over : {L C : Type 0} (received : L → Option (List Answer)) (sent : L → Option (List (Address × List ℕ))) (faults : L → ℕ) (told : C → Option (List ℕ))
     (n : LiveNumbers) (status : Status) (links links_after : Option (List L)) (clocks clocks_after : Option (List C)) (written written_after : Option (List ℕ)) (writes writes_after : ℕ) (h : List Entry)
-    (camera stream : Address) (begins : Told) (taped : List (Option (List ℕ))) (camera_link stream_link control_link : L) (camera_clock host_clock app_clock : C) → IsUntold begins
-    → RecordsLive (numbers_of n) camera stream status begins (told_by received sent faults told camera_link stream_link control_link camera_clock host_clock app_clock) taped written written_after writes writes_after h
+    (camera stream : Address) (begins : Told) (taped : List (Option (List ℕ))) (camera_link stream_link control_link : L) (camera_clock host_clock app_clock : C) → IsUntold begins → n.mode ≡ OldestFirst
+    → RecordsLive (in_mode n OldestFirst) camera stream status begins (told_by received sent faults told camera_link stream_link control_link camera_clock host_clock app_clock) taped written written_after writes writes_after h
     → ComeBack links links_after (camera_link ∷ stream_link ∷ control_link ∷ []) → ComeBack clocks clocks_after (camera_clock ∷ host_clock ∷ app_clock ∷ [])
     → RecordsOver received sent faults told n status links links_after clocks clocks_after written written_after writes writes_after h
 recorded_over received sent faults told n status links links_after clocks clocks_after written written_after writes writes_after h
-    camera stream begins taped camera_link stream_link control_link camera_clock host_clock app_clock untold runs links_back clocks_back = record {
+    camera stream begins taped camera_link stream_link control_link camera_clock host_clock app_clock untold oldest runs links_back clocks_back = record {
       camera = camera;
       stream = stream;
       begins = begins;
       untold = untold;
       ends = told_by received sent faults told camera_link stream_link control_link camera_clock host_clock app_clock;
       taped = taped;
-      runs = runs;
+      runs = subst
+          (λ (m : Mode). RecordsLive (in_mode n m) camera stream status begins (told_by received sent faults told camera_link stream_link control_link camera_clock host_clock app_clock) taped written written_after writes writes_after h)
+          (sym oldest) runs;
       listed = λ none no_clocks. record {
         camera = camera_link;
         stream = stream_link;

@@ -52,7 +52,7 @@ pub record AreListed {L C : Type 0} (received : L → Option (List Answer)) (sen
   pub are : e ≡ told_by received sent faults told camera stream control camera_clock host_clock app_clock
 
 abbrev pub numbers_of : LiveNumbers → Numbers
-numbers_of n = record { seed = n.seed; frames = n.frames; buffers = n.buffers; turns = n.turns }
+numbers_of n = record { seed = n.seed; frames = n.frames; buffers = n.buffers; turns = n.turns; mode = n.mode }
 
 -- A live run with so many lanes; with one lane the reader is the lane.
 abbrev pub RunsSo : LiveNumbers → Address → Address → Status → Told → Told → Option (List ℕ) → Option (List ℕ) → ℕ → ℕ → List Entry → Type 0

@@ -124,6 +124,7 @@ fn run_on<
             ends,
             gate,
             sink,
+            numbers.mode,
         );
     }
     live_lanes(
@@ -139,6 +140,7 @@ fn run_on<
         ends,
         gate,
         sink,
+        numbers.mode,
     )
 }
 

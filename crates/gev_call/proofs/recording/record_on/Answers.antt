@@ -15,7 +15,7 @@ returns-in-Ok-clause-recorded g c =
       host_clock = c.requires.host_clock;
       app_clock = c.requires.app_clock;
     })
-    c.record_over-status.ensures.records c.give_taped.ensures.links c.give_taped.ensures.clocks
+    c.requires.within.mode c.record_over-status.ensures.records c.give_taped.ensures.links c.give_taped.ensures.clocks
 
 pub returns-in-Ok-clause-link_fault : goal.returns-in-Ok-clause-link_fault
 returns-in-Ok-clause-link_fault g c =
