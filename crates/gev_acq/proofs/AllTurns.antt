@@ -11,6 +11,7 @@ use Rattle.gev_links.specs.Moments.{TellsEach}
 use Rattle.gev_links.proofs.Growing.{tells_none, tells_more, tells_then, adds_none}
 use Rattle.buffer_words.specs.Passes.{Token, Enters}
 use Rattle.buffer_words.proofs.Several.{each_none, each_one, each_first, each_then}
+use Rattle.mode_calls.specs.declared.mode.Mode.{Mode}
 use Rattle.gev_acq.specs.declared.turn.Turn.{Turn}
 use Rattle.gev_control.specs.declared.turn_end.TurnEnd.{TurnEnd}
 use Rattle.gev_control.specs.declared.turn_end.TurnEnd.TheVariants as ends
@@ -27,16 +28,16 @@ use Rattle.gev_control.proofs.Fronts.{added_then}
 use Rattle.gev_acq.proofs.TurnLists.{inputs-push, answers-push, moments-push, heards-push, sends-push, go_on-push, turns-push, notes-push, controls-push}
 
 -- So many turns were made, and all went on.
-pub record GoesOn (c : AcqConfig) (camera : Address) (Old New : List Input → Type 0) (o n : Outside) (journal journal_now : List Turn) (count : ℕ) (s t : Token) : Type 0 where
+pub record GoesOn (mode : Mode) (c : AcqConfig) (camera : Address) (Old New : List Input → Type 0) (o n : Outside) (journal journal_now : List Turn) (count : ℕ) (s t : Token) : Type 0 where
   pub made : List Turned
   pub entries : List Turn
-  pub on : TurnsOn c camera Old New o n made entries s t
+  pub on : TurnsOn mode c camera Old New o n made entries s t
   pub number : length made ≡ count
   pub all : AllGoOn made
   pub journal_is : journal_now ≡ journal ++ entries
 
-pub begins : (c : AcqConfig) (camera : Address) (Old : List Input → Type 0) (o : Outside) (journal : List Turn) (s : Token) → GoesOn c camera Old Old o o journal journal 0 s s
-begins c camera Old o journal s = record {
+pub begins : (mode : Mode) (c : AcqConfig) (camera : Address) (Old : List Input → Type 0) (o : Outside) (journal : List Turn) (s : Token) → GoesOn mode c camera Old Old o o journal journal 0 s s
+begins mode c camera Old o journal s = record {
   made = [];
   entries = [];
   on = record {
@@ -44,7 +45,7 @@ begins c camera Old o journal s = record {
     enters = each_none s;
     serves = λ q old. refl;
     stands = λ q old. subst Old (sym (append-nil q)) old;
-    claims = claims_none [] s s [] refl tt (each_none s);
+    claims = claims_none mode [] s s [] refl tt (each_none s);
     notes = λ q old. tt;
     controlled = λ q old. refl;
     received = tells_none o.received;
@@ -58,23 +59,23 @@ begins c camera Old o journal s = record {
 }
 
 -- a look before the turn
-looked_claims : (is : List Input) (s t u : Token) (run : ℕ) → Enters s (LookRun run) t → Claims is t u → Claims is s u
-looked_claims is s t u run look claims =
-    claims_then [] is s t u look.number (claims_none [] s t (LookRun run ∷ []) refl (λ b. refl, tt) (each_one s t (LookRun run) look refl)) claims
+looked_claims : (mode : Mode) (is : List Input) (s t u : Token) (run : ℕ) → Enters s (LookRun run) t → Claims mode is t u → Claims mode is s u
+looked_claims mode is s t u run look claims =
+    claims_then mode [] is s t u look.number (claims_none mode [] s t (LookRun run ∷ []) refl (λ m b ms. refl, tt) (each_one s t (LookRun run) look refl)) claims
 
-turns_more : (c : AcqConfig) (camera : Address) (Old Mid New : List Input → Type 0) (o m n : Outside) (made : List Turned) (entries : List Turn) (turned : Turned) (entry : Turn) (s t u v : Token)
-    → TurnsOn c camera Old Mid o m made entries s t → Enters t (LookRun 1) u → TakesTurn c camera Mid New m n turned entry u v
-    → TurnsOn c camera Old New o n (made ++ turned ∷ []) (entries ++ entry ∷ []) s v
-turns_more c camera Old Mid New o m n made entries turned entry s t u v on look one = record {
+turns_more : (mode : Mode) (c : AcqConfig) (camera : Address) (Old Mid New : List Input → Type 0) (o m n : Outside) (made : List Turned) (entries : List Turn) (turned : Turned) (entry : Turn) (s t u v : Token)
+    → TurnsOn mode c camera Old Mid o m made entries s t → Enters t (LookRun 1) u → TakesTurn mode c camera Mid New m n turned entry u v
+    → TurnsOn mode c camera Old New o n (made ++ turned ∷ []) (entries ++ entry ∷ []) s v
+turns_more mode c camera Old Mid New o m n made entries turned entry s t u v on look one = record {
   events = on.events ++ LookRun 1 ∷ one.serves.events;
   enters = each_then s t v on.events (LookRun 1 ∷ one.serves.events) on.enters (each_first t u v (LookRun 1) one.serves.events look refl one.serves.enters);
   serves = λ q old.
-      turns-push c (After c q) made turned on.events one.serves.events (on.serves q old)
-      (subst (λ x. Serves c x (inputs_of turned) one.serves.events) (after_from-append c first_state q (inputs_in made))
+      turns-push mode c (After c q) made turned on.events one.serves.events (on.serves q old)
+      (subst (λ x. Serves mode c x (inputs_of turned) one.serves.events) (after_from-append c first_state q (inputs_in made))
       (one.serves.serves (q ++ inputs_in made) (on.stands q old)));
   stands = λ q old. subst New (ends_at q) (one.serves.stands (q ++ inputs_in made) (on.stands q old));
-  claims = subst (λ l. Claims l s v) (sym (inputs-push made turned))
-      (claims_then (inputs_in made) (inputs_of turned) s t v on.enters.number on.claims (looked_claims (inputs_of turned) t u v 1 look one.serves.claims));
+  claims = subst (λ l. Claims mode l s v) (sym (inputs-push made turned))
+      (claims_then mode (inputs_in made) (inputs_of turned) s t v on.enters.number on.claims (looked_claims mode (inputs_of turned) t u v 1 look one.serves.claims));
   notes = λ q old. notes-push c q made turned entries entry (on.notes q old) (one.notes (q ++ inputs_in made) (on.stands q old));
   controlled = λ q old.
       controls-push c q o.client m.client n.client made turned (on.controlled q old) (one.controlled (q ++ inputs_in made) (on.stands q old)) one.client;
@@ -92,25 +93,25 @@ turns_more c camera Old Mid New o m n made entries turned entry s t u v on look 
     ends_at q = append_assoc q (inputs_in made) (inputs_of turned) ∙ ap (λ l. q ++ l) (sym (inputs-push made turned))
 
 -- The turns so far, a look that found the run word 1, and one more turn that ended so.
-record OneMore (c : AcqConfig) (camera : Address) (Old New : List Input → Type 0) (o n : Outside) (journal journal_after : List Turn) (count : ℕ) (end : TurnEnd) (s v : Token) : Type 0 where
+record OneMore (mode : Mode) (c : AcqConfig) (camera : Address) (Old New : List Input → Type 0) (o n : Outside) (journal journal_after : List Turn) (count : ℕ) (end : TurnEnd) (s v : Token) : Type 0 where
   made : List Turned
   turned : Turned
   entries : List Turn
-  on : TurnsOn c camera Old New o n (made ++ turned ∷ []) entries s v
+  on : TurnsOn mode c camera Old New o n (made ++ turned ∷ []) entries s v
   number : length made ≡ count
   all : AllGoOn made
   ended : turned.end ≡ end
   journal_is : journal_after ≡ journal ++ entries
 
-one_more : (c d : AcqConfig) (camera : Address) (Old Mid New : List Input → Type 0) (o m n : Outside) (journal journal_now journal_after : List Turn) (count run : ℕ) (entry : Turn) (end : TurnEnd) (s t u v : Token)
-    → GoesOn c camera Old Mid o m journal journal_now count s t → d ≡ c → Enters t (LookRun run) u → run ≡ 1 → TakesOne d camera Mid New m n entry end u v → journal_after ≡ journal_now ++ entry ∷ []
-    → OneMore c camera Old New o n journal journal_after count end s v
-one_more c d camera Old Mid New o m n journal journal_now journal_after count run entry end s t u v so config look one takes pushed = record {
+one_more : (mode : Mode) (c d : AcqConfig) (camera : Address) (Old Mid New : List Input → Type 0) (o m n : Outside) (journal journal_now journal_after : List Turn) (count run : ℕ) (entry : Turn) (end : TurnEnd) (s t u v : Token)
+    → GoesOn mode c camera Old Mid o m journal journal_now count s t → d ≡ c → Enters t (LookRun run) u → run ≡ 1 → TakesOne mode d camera Mid New m n entry end u v → journal_after ≡ journal_now ++ entry ∷ []
+    → OneMore mode c camera Old New o n journal journal_after count end s v
+one_more mode c d camera Old Mid New o m n journal journal_now journal_after count run entry end s t u v so config look one takes pushed = record {
   made = so.made;
   turned = takes.turned;
   entries = so.entries ++ entry ∷ [];
-  on = turns_more c camera Old Mid New o m n so.made so.entries takes.turned entry s t u v so.on (subst (λ k. Enters t (LookRun k) u) one look)
-      (subst (λ (x : AcqConfig). TakesTurn x camera Mid New m n takes.turned entry u v) config takes.takes);
+  on = turns_more mode c camera Old Mid New o m n so.made so.entries takes.turned entry s t u v so.on (subst (λ k. Enters t (LookRun k) u) one look)
+      (subst (λ (x : AcqConfig). TakesTurn mode x camera Mid New m n takes.turned entry u v) config takes.takes);
   number = so.number;
   all = so.all;
   ended = takes.ended;
@@ -118,10 +119,10 @@ one_more c d camera Old Mid New o m n journal journal_now journal_after count ru
 }
 
 -- the turn went on
-pub goes_on : (c d : AcqConfig) (camera : Address) (Old Mid New : List Input → Type 0) (o m n : Outside) (journal journal_now journal_after : List Turn) (count run : ℕ) (entry : Turn) (end : TurnEnd) (s t u v : Token)
-    → GoesOn c camera Old Mid o m journal journal_now count s t → d ≡ c → Enters t (LookRun run) u → run ≡ 1 → TakesOne d camera Mid New m n entry end u v → journal_after ≡ journal_now ++ entry ∷ []
-    → end ≡ ends.GoesOn → GoesOn c camera Old New o n journal journal_after (count + 1) s v
-goes_on c d camera Old Mid New o m n journal journal_now journal_after count run entry end s t u v so config look one takes pushed fine = record {
+pub goes_on : (mode : Mode) (c d : AcqConfig) (camera : Address) (Old Mid New : List Input → Type 0) (o m n : Outside) (journal journal_now journal_after : List Turn) (count run : ℕ) (entry : Turn) (end : TurnEnd) (s t u v : Token)
+    → GoesOn mode c camera Old Mid o m journal journal_now count s t → d ≡ c → Enters t (LookRun run) u → run ≡ 1 → TakesOne mode d camera Mid New m n entry end u v → journal_after ≡ journal_now ++ entry ∷ []
+    → end ≡ ends.GoesOn → GoesOn mode c camera Old New o n journal journal_after (count + 1) s v
+goes_on mode c d camera Old Mid New o m n journal journal_now journal_after count run entry end s t u v so config look one takes pushed fine = record {
   made = more.made ++ more.turned ∷ [];
   entries = more.entries;
   on = more.on;
@@ -130,73 +131,73 @@ goes_on c d camera Old Mid New o m n journal journal_now journal_after count run
   journal_is = more.journal_is;
 }
   where
-    more : OneMore c camera Old New o n journal journal_after count end s v
-    more = one_more c d camera Old Mid New o m n journal journal_now journal_after count run entry end s t u v so config look one takes pushed
+    more : OneMore mode c camera Old New o n journal journal_after count end s v
+    more = one_more mode c d camera Old Mid New o m n journal journal_now journal_after count run entry end s t u v so config look one takes pushed
 
 -- ---- the ends
 
-ends_in : (c : AcqConfig) (camera : Address) (Old New : List Input → Type 0) (o n : Outside) (journal journal_after : List Turn) (count turns : ℕ) (end : TurnEnd) (s v : Token)
-    → (more : OneMore c camera Old New o n journal journal_after count end s v) → count < turns
+ends_in : (mode : Mode) (c : AcqConfig) (camera : Address) (Old New : List Input → Type 0) (o n : Outside) (journal journal_after : List Turn) (count turns : ℕ) (end : TurnEnd) (s v : Token)
+    → (more : OneMore mode c camera Old New o n journal journal_after count end s v) → count < turns
     → (length (more.made ++ more.turned ∷ []) ≤ turns) × EndsIn end (more.made ++ more.turned ∷ [])
-ends_in c camera Old New o n journal journal_after count turns end s v more few = (
+ends_in mode c camera Old New o n journal journal_after count turns end s v more few = (
   omega (arith, length-append more.made (more.turned ∷ []), more.number, few),
   record { before = more.made; last = more.turned; is = refl; on = more.all; ended = more.ended },
 )
 
-pub ends_fault : (c d : AcqConfig) (camera : Address) (Old Mid New : List Input → Type 0) (o m n : Outside) (journal journal_now journal_after : List Turn) (count turns run : ℕ) (entry : Turn) (end : TurnEnd) (s t u v : Token)
-    → GoesOn c camera Old Mid o m journal journal_now count s t → d ≡ c → Enters t (LookRun run) u → run ≡ 1 → TakesOne d camera Mid New m n entry end u v → journal_after ≡ journal_now ++ entry ∷ []
-    → count < turns → end ≡ ends.Fault → Acquires c camera Old New o n journal journal_after turns how.Fault s v
-ends_fault c d camera Old Mid New o m n journal journal_now journal_after count turns run entry end s t u v so config look one takes pushed few is = record {
+pub ends_fault : (mode : Mode) (c d : AcqConfig) (camera : Address) (Old Mid New : List Input → Type 0) (o m n : Outside) (journal journal_now journal_after : List Turn) (count turns run : ℕ) (entry : Turn) (end : TurnEnd) (s t u v : Token)
+    → GoesOn mode c camera Old Mid o m journal journal_now count s t → d ≡ c → Enters t (LookRun run) u → run ≡ 1 → TakesOne mode d camera Mid New m n entry end u v → journal_after ≡ journal_now ++ entry ∷ []
+    → count < turns → end ≡ ends.Fault → Acquires mode c camera Old New o n journal journal_after turns how.Fault s v
+ends_fault mode c d camera Old Mid New o m n journal journal_now journal_after count turns run entry end s t u v so config look one takes pushed few is = record {
   made = more.made ++ more.turned ∷ [];
   entries = more.entries;
   middle = v;
   on = more.on;
   last = refl;
-  ends = ends_in c camera Old New o n journal journal_after count turns ends.Fault s v more few;
+  ends = ends_in mode c camera Old New o n journal journal_after count turns ends.Fault s v more few;
   journal_is = more.journal_is;
 }
   where
-    more : OneMore c camera Old New o n journal journal_after count ends.Fault s v
-    more = one_more c d camera Old Mid New o m n journal journal_now journal_after count run entry ends.Fault s t u v so config look one
-        (subst (λ e. TakesOne d camera Mid New m n entry e u v) is takes) pushed
+    more : OneMore mode c camera Old New o n journal journal_after count ends.Fault s v
+    more = one_more mode c d camera Old Mid New o m n journal journal_now journal_after count run entry ends.Fault s t u v so config look one
+        (subst (λ e. TakesOne mode d camera Mid New m n entry e u v) is takes) pushed
 
-pub ends_unanswered : (c d : AcqConfig) (camera : Address) (Old Mid New : List Input → Type 0) (o m n : Outside) (journal journal_now journal_after : List Turn) (count turns run req : ℕ) (entry : Turn) (end : TurnEnd) (s t u v : Token)
-    → GoesOn c camera Old Mid o m journal journal_now count s t → d ≡ c → Enters t (LookRun run) u → run ≡ 1 → TakesOne d camera Mid New m n entry end u v → journal_after ≡ journal_now ++ entry ∷ []
-    → count < turns → end ≡ ends.NoAnswer req → Acquires c camera Old New o n journal journal_after turns (how.NoAnswer req) s v
-ends_unanswered c d camera Old Mid New o m n journal journal_now journal_after count turns run req entry end s t u v so config look one takes pushed few is = record {
+pub ends_unanswered : (mode : Mode) (c d : AcqConfig) (camera : Address) (Old Mid New : List Input → Type 0) (o m n : Outside) (journal journal_now journal_after : List Turn) (count turns run req : ℕ) (entry : Turn) (end : TurnEnd) (s t u v : Token)
+    → GoesOn mode c camera Old Mid o m journal journal_now count s t → d ≡ c → Enters t (LookRun run) u → run ≡ 1 → TakesOne mode d camera Mid New m n entry end u v → journal_after ≡ journal_now ++ entry ∷ []
+    → count < turns → end ≡ ends.NoAnswer req → Acquires mode c camera Old New o n journal journal_after turns (how.NoAnswer req) s v
+ends_unanswered mode c d camera Old Mid New o m n journal journal_now journal_after count turns run req entry end s t u v so config look one takes pushed few is = record {
   made = more.made ++ more.turned ∷ [];
   entries = more.entries;
   middle = v;
   on = more.on;
   last = refl;
-  ends = ends_in c camera Old New o n journal journal_after count turns (ends.NoAnswer req) s v more few;
+  ends = ends_in mode c camera Old New o n journal journal_after count turns (ends.NoAnswer req) s v more few;
   journal_is = more.journal_is;
 }
   where
-    more : OneMore c camera Old New o n journal journal_after count (ends.NoAnswer req) s v
-    more = one_more c d camera Old Mid New o m n journal journal_now journal_after count run entry (ends.NoAnswer req) s t u v so config look one
-        (subst (λ e. TakesOne d camera Mid New m n entry e u v) is takes) pushed
+    more : OneMore mode c camera Old New o n journal journal_after count (ends.NoAnswer req) s v
+    more = one_more mode c d camera Old Mid New o m n journal journal_now journal_after count run entry (ends.NoAnswer req) s t u v so config look one
+        (subst (λ e. TakesOne mode d camera Mid New m n entry e u v) is takes) pushed
 
-pub ends_refused : (c d : AcqConfig) (camera : Address) (Old Mid New : List Input → Type 0) (o m n : Outside) (journal journal_now journal_after : List Turn) (count turns run status : ℕ) (entry : Turn) (end : TurnEnd) (s t u v : Token)
-    → GoesOn c camera Old Mid o m journal journal_now count s t → d ≡ c → Enters t (LookRun run) u → run ≡ 1 → TakesOne d camera Mid New m n entry end u v → journal_after ≡ journal_now ++ entry ∷ []
-    → count < turns → end ≡ ends.Refused status → Acquires c camera Old New o n journal journal_after turns (how.Refused status) s v
-ends_refused c d camera Old Mid New o m n journal journal_now journal_after count turns run status entry end s t u v so config look one takes pushed few is = record {
+pub ends_refused : (mode : Mode) (c d : AcqConfig) (camera : Address) (Old Mid New : List Input → Type 0) (o m n : Outside) (journal journal_now journal_after : List Turn) (count turns run status : ℕ) (entry : Turn) (end : TurnEnd) (s t u v : Token)
+    → GoesOn mode c camera Old Mid o m journal journal_now count s t → d ≡ c → Enters t (LookRun run) u → run ≡ 1 → TakesOne mode d camera Mid New m n entry end u v → journal_after ≡ journal_now ++ entry ∷ []
+    → count < turns → end ≡ ends.Refused status → Acquires mode c camera Old New o n journal journal_after turns (how.Refused status) s v
+ends_refused mode c d camera Old Mid New o m n journal journal_now journal_after count turns run status entry end s t u v so config look one takes pushed few is = record {
   made = more.made ++ more.turned ∷ [];
   entries = more.entries;
   middle = v;
   on = more.on;
   last = refl;
-  ends = ends_in c camera Old New o n journal journal_after count turns (ends.Refused status) s v more few;
+  ends = ends_in mode c camera Old New o n journal journal_after count turns (ends.Refused status) s v more few;
   journal_is = more.journal_is;
 }
   where
-    more : OneMore c camera Old New o n journal journal_after count (ends.Refused status) s v
-    more = one_more c d camera Old Mid New o m n journal journal_now journal_after count run entry (ends.Refused status) s t u v so config look one
-        (subst (λ e. TakesOne d camera Mid New m n entry e u v) is takes) pushed
+    more : OneMore mode c camera Old New o n journal journal_after count (ends.Refused status) s v
+    more = one_more mode c d camera Old Mid New o m n journal journal_now journal_after count run entry (ends.Refused status) s t u v so config look one
+        (subst (λ e. TakesOne mode d camera Mid New m n entry e u v) is takes) pushed
 
-pub ends_stopped : (c : AcqConfig) (camera : Address) (Old New : List Input → Type 0) (o n : Outside) (journal journal_now : List Turn) (count turns run : ℕ) (s t u : Token)
-    → GoesOn c camera Old New o n journal journal_now count s t → Enters t (LookRun run) u → run ≢ 1 → count < turns → Acquires c camera Old New o n journal journal_now turns how.Stopped s u
-ends_stopped c camera Old New o n journal journal_now count turns run s t u so look other few = record {
+pub ends_stopped : (mode : Mode) (c : AcqConfig) (camera : Address) (Old New : List Input → Type 0) (o n : Outside) (journal journal_now : List Turn) (count turns run : ℕ) (s t u : Token)
+    → GoesOn mode c camera Old New o n journal journal_now count s t → Enters t (LookRun run) u → run ≢ 1 → count < turns → Acquires mode c camera Old New o n journal journal_now turns how.Stopped s u
+ends_stopped mode c camera Old New o n journal journal_now count turns run s t u so look other few = record {
   made = so.made;
   entries = so.entries;
   middle = t;
@@ -206,9 +207,9 @@ ends_stopped c camera Old New o n journal journal_now count turns run s t u so l
   journal_is = so.journal_is;
 }
 
-pub ends_spent : (c : AcqConfig) (camera : Address) (Old New : List Input → Type 0) (o n : Outside) (journal journal_now : List Turn) (count turns : ℕ) (s t : Token)
-    → GoesOn c camera Old New o n journal journal_now count s t → count ≡ turns → Acquires c camera Old New o n journal journal_now turns how.Spent s t
-ends_spent c camera Old New o n journal journal_now count turns s t so all = record {
+pub ends_spent : (mode : Mode) (c : AcqConfig) (camera : Address) (Old New : List Input → Type 0) (o n : Outside) (journal journal_now : List Turn) (count turns : ℕ) (s t : Token)
+    → GoesOn mode c camera Old New o n journal journal_now count s t → count ≡ turns → Acquires mode c camera Old New o n journal journal_now turns how.Spent s t
+ends_spent mode c camera Old New o n journal journal_now count turns s t so all = record {
   made = so.made;
   entries = so.entries;
   middle = t;

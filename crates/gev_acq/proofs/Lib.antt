@@ -1,5 +1,6 @@
 pub mod Backing
 pub mod Owning
+pub mod Parts
 pub mod Serves
 pub mod Emptying
 pub mod Picking

@@ -9,41 +9,42 @@ use Rattle.acq_core.specs.Waiting.{waiting_fills, waiting_requests}
 use Rattle.buffer_words.specs.Rule.{Slot}
 use Rattle.buffer_words.specs.Passes.{Token, slot_at, gone, IsEmptyHanded}
 use Rattle.buffer_words.specs.Several.{EntersOf}
+use Rattle.mode_calls.specs.declared.mode.Mode.{Mode}
 use Rattle.gev_acq.specs.declared.heard.Heard.{Heard}
-use Rattle.block_fills.specs.Fills.{FillsRetired}
+use Rattle.gev_acq.specs.Filling.{FillsRetiredFor}
 use Rattle.gev_acq.specs.Buffers.{HoldsAlone}
 use Rattle.gev_acq.specs.Turning.{inputs_if, unheard, HearsIf, TicksOnce, ServesTurn}
 use Rattle.gev_acq.proofs.Serves.{serves_then, serves_none, serves_filled}
 
-pub ticks_once : (m mid new : Machine) (moment : ℕ) (s t : Token) → waiting_fills m ≡ [] → waiting_requests m ≡ [] → Takes m mid (tick moment)
-    → waiting_requests new ≡ waiting_requests mid → KeepsBlocks mid new → EntersOf s (FillsRetired (waiting_fills mid)) t
-    → TicksOnce (config_of m) (Stands m) (Stands new) moment (waiting_requests new) s t
-ticks_once m mid new moment s t fills requests takes same keeps filled = record {
-  serves = serves_filled m mid new (tick moment) s t refl refl fills takes keeps filled;
+pub ticks_once : (mode : Mode) (m mid new : Machine) (moment : ℕ) (s t : Token) → waiting_fills m ≡ [] → waiting_requests m ≡ [] → Takes m mid (tick moment)
+    → waiting_requests new ≡ waiting_requests mid → KeepsBlocks mid new → EntersOf s (FillsRetiredFor mode (waiting_fills mid)) t
+    → TicksOnce mode (config_of m) (Stands m) (Stands new) moment (waiting_requests new) s t
+ticks_once mode m mid new moment s t fills requests takes same keeps filled = record {
+  serves = serves_filled mode m mid new (tick moment) s t refl refl fills takes keeps filled;
   asks = λ q old.
       same ∙ (takes.requests q old ∙ ap (λ l. l ++ map request_bytes (turn (config_of m) q (tick moment)).requests) requests);
 }
 
-hears_none : (c : AcqConfig) (Old : List Input → Type 0) (s : Token) → HearsIf c Old Old None unheard s s
-hears_none c Old s = record { given = None; serves = serves_none c Old s; heard = λ q old. (refl, refl) }
+hears_none : (mode : Mode) (c : AcqConfig) (Old : List Input → Type 0) (s : Token) → HearsIf mode c Old Old None unheard s s
+hears_none mode c Old s = record { given = None; serves = serves_none mode c Old s; heard = λ q old. (refl, refl) }
 
 -- where nothing came
-pub hears_nothing : (c : AcqConfig) (Old : List Input → Type 0) (came : Option (List ℕ)) (s : Token) → came ≡ None → HearsIf c Old Old came unheard s s
-hears_nothing c Old came s is = subst (λ (o : Option (List ℕ)). HearsIf c Old Old o unheard s s) (sym is) (hears_none c Old s)
+pub hears_nothing : (mode : Mode) (c : AcqConfig) (Old : List Input → Type 0) (came : Option (List ℕ)) (s : Token) → came ≡ None → HearsIf mode c Old Old came unheard s s
+hears_nothing mode c Old came s is = subst (λ (o : Option (List ℕ)). HearsIf mode c Old Old o unheard s s) (sym is) (hears_none mode c Old s)
 
-turned : (c : AcqConfig) (Old Mid New : List Input → Type 0) (came : Option (List ℕ)) (moment : ℕ) (r : Heard) (requests : List (List ℕ)) (s t u : Token)
-    → HearsIf c Old Mid came r s t → TicksOnce c Mid New moment requests t u → ServesTurn c Old New came moment r requests s u
-turned c Old Mid New came moment r requests s t u first second = record {
+turned : (mode : Mode) (c : AcqConfig) (Old Mid New : List Input → Type 0) (came : Option (List ℕ)) (moment : ℕ) (r : Heard) (requests : List (List ℕ)) (s t u : Token)
+    → HearsIf mode c Old Mid came r s t → TicksOnce mode c Mid New moment requests t u → ServesTurn mode c Old New came moment r requests s u
+turned mode c Old Mid New came moment r requests s t u first second = record {
   given = first.given;
-  serves = serves_then c Old Mid New (inputs_if came first.given) (tick moment ∷ []) s t u first.serves second.serves;
+  serves = serves_then mode c Old Mid New (inputs_if came first.given) (tick moment ∷ []) s t u first.serves second.serves;
   heard = first.heard;
   asks = λ q old. second.asks (q ++ inputs_if came first.given) (first.serves.stands q old);
 }
 
-pub serves_turn : (c d : AcqConfig) (Old Mid New : List Input → Type 0) (came : Option (List ℕ)) (moment : ℕ) (r : Heard) (requests : List (List ℕ)) (s t u : Token)
-    → d ≡ c → HearsIf c Old Mid came r s t → TicksOnce d Mid New moment requests t u → ServesTurn c Old New came moment r requests s u
-serves_turn c d Old Mid New came moment r requests s t u is first second =
-    turned c Old Mid New came moment r requests s t u first (subst (λ (x : AcqConfig). TicksOnce x Mid New moment requests t u) is second)
+pub serves_turn : (mode : Mode) (c d : AcqConfig) (Old Mid New : List Input → Type 0) (came : Option (List ℕ)) (moment : ℕ) (r : Heard) (requests : List (List ℕ)) (s t u : Token)
+    → d ≡ c → HearsIf mode c Old Mid came r s t → TicksOnce mode d Mid New moment requests t u → ServesTurn mode c Old New came moment r requests s u
+serves_turn mode c d Old Mid New came moment r requests s t u is first second =
+    turned mode c Old Mid New came moment r requests s t u first (subst (λ (x : AcqConfig). TicksOnce mode x Mid New moment requests t u) is second)
 
 none_held : (o : Option Slot) → (o ≢ gone → ⊥) → o ≡ gone
 none_held None none = refl

@@ -2,8 +2,7 @@
 use Rattle.std.proofs.Common.{◌≡◌, Bool, true, false, List, [], ◌∷◌, ◌++◌, refl, ap, sym, ◌∙◌, subst, append_assoc}
 use Rattle.std.proofs.lemmas.List.{append-nil}
 use Rattle.board_machine.specs.declared.events.Event.{Event}
-use Rattle.block_fills.specs.Fills.{FillsRetired}
-use Rattle.board_calls.specs.Rounds.{filled_or_laid}
+use Rattle.board_machine.specs.declared.events.Event.TheVariants.{Fill}
 use Rattle.acquisition_machine.specs.declared.config.AcqConfig.{AcqConfig}
 use Rattle.acquisition_machine.specs.declared.retired.Retired.{Retired}
 use Rattle.acquisition_machine.specs.Blocks.{fills}
@@ -16,71 +15,83 @@ use Rattle.acq_core.specs.Waiting.{waiting_fills}
 use Rattle.buffer_words.specs.Passes.{Token}
 use Rattle.buffer_words.specs.Several.{EntersOf}
 use Rattle.buffer_words.proofs.Several.{each_none, each_then}
-use Rattle.gev_acq.specs.Serving.{claim_events, Serves}
+use Rattle.mode_calls.specs.declared.mode.Mode.{Mode}
+use Rattle.gev_acq.specs.Filling.{laid_unless, FillsRetiredFor}
+use Rattle.gev_acq.specs.Serving.{ClaimsOf, Serves}
 use Rattle.gev_acq.specs.Claims.{claims_in, ServesOn}
 use Rattle.gev_acq.proofs.Owning.{ClaimNothing, claim_nothing-append, claims_none, claims_then}
+use Rattle.gev_acq.proofs.Parts.{Holds, fills_hold}
 
-pub serves-append : (c : AcqConfig) (s : State) (is js : List Input) (es fs : List Event) → Serves c s is es → Serves c (after_from c s is) js fs → Serves c s (is ++ js) (es ++ fs)
-serves-append c s [] js es fs first second = subst (λ l. Serves c s js (l ++ fs)) (sym first) second
-serves-append c s (i ∷ is) js es fs first second = (
+pub serves-append : (mode : Mode) (c : AcqConfig) (s : State) (is js : List Input) (es fs : List Event) → Serves mode c s is es → Serves mode c (after_from c s is) js fs → Serves mode c s (is ++ js) (es ++ fs)
+serves-append mode c s [] js es fs first second = subst (λ l. Serves mode c s js (l ++ fs)) (sym first) second
+serves-append mode c s (i ∷ is) js es fs first second = (
   first.0,
-  first.1 ++ fs,
-  first.2,
-  serves-append c (step c s i).after is js first.1 fs first.3 second,
-  ap (λ l. l ++ fs) first.4
-      ∙ (append_assoc (claim_events i) (first.0 ++ first.1) fs
-      ∙ ap (λ l. claim_events i ++ l) (append_assoc first.0 first.1 fs)),
+  first.1,
+  first.2 ++ fs,
+  first.3,
+  first.4,
+  serves-append mode c (step c s i).after is js first.2 fs first.5 second,
+  ap (λ l. l ++ fs) first.6
+      ∙ (append_assoc first.0 (first.1 ++ first.2) fs
+      ∙ ap (λ l. first.0 ++ l) (append_assoc first.1 first.2 fs)),
 )
 
 -- two lists of inputs, one after the other
-pub serves_then : (c : AcqConfig) (Old Mid New : List Input → Type 0) (is js : List Input) (s t u : Token)
-    → ServesOn c Old Mid is s t → ServesOn c Mid New js t u → ServesOn c Old New (is ++ js) s u
-serves_then c Old Mid New is js s t u first second = record {
+pub serves_then : (mode : Mode) (c : AcqConfig) (Old Mid New : List Input → Type 0) (is js : List Input) (s t u : Token)
+    → ServesOn mode c Old Mid is s t → ServesOn mode c Mid New js t u → ServesOn mode c Old New (is ++ js) s u
+serves_then mode c Old Mid New is js s t u first second = record {
   events = first.events ++ second.events;
   enters = each_then s t u first.events second.events first.enters second.enters;
   serves = λ q old.
-      serves-append c (After c q) is js first.events second.events (first.serves q old)
-      (subst (λ x. Serves c x js second.events) (after_from-append c first_state q is) (second.serves (q ++ is) (first.stands q old)));
+      serves-append mode c (After c q) is js first.events second.events (first.serves q old)
+      (subst (λ x. Serves mode c x js second.events) (after_from-append c first_state q is) (second.serves (q ++ is) (first.stands q old)));
   stands = λ q old. subst New (append_assoc q is js) (second.stands (q ++ is) (first.stands q old));
-  claims = claims_then is js s t u first.enters.number first.claims second.claims;
+  claims = claims_then mode is js s t u first.enters.number first.claims second.claims;
 }
 
 -- no inputs
-pub serves_none : (c : AcqConfig) (Old : List Input → Type 0) (s : Token) → ServesOn c Old Old [] s s
-serves_none c Old s = record {
+pub serves_none : (mode : Mode) (c : AcqConfig) (Old : List Input → Type 0) (s : Token) → ServesOn mode c Old Old [] s s
+serves_none mode c Old s = record {
   events = [];
   enters = each_none s;
   serves = λ q old. refl;
   stands = λ q old. subst Old (sym (append-nil q)) old;
-  claims = claims_none [] s s [] refl tt (each_none s);
+  claims = claims_none mode [] s s [] refl tt (each_none s);
 }
 
-fill_claims_nothing : (r : Retired) (filled : Bool) → ClaimNothing (filled_or_laid r.place r.buf filled)
-fill_claims_nothing r true = (λ b. refl, tt)
-fill_claims_nothing r false = (λ b. refl, (λ b. refl, tt))
+quiet_holds : (mode : Mode) → Holds mode ClaimNothing
+quiet_holds mode = record {
+  none = tt;
+  both = claim_nothing-append;
+  take = λ may end. (λ m b ms. refl, tt);
+  pool = λ may i. (λ m b ms. refl, tt);
+}
 
-fills_claim_nothing : (rs : List Retired) (es : List Event) → FillsRetired rs es → ClaimNothing es
-fills_claim_nothing [] es none = subst ClaimNothing (sym none) tt
-fills_claim_nothing (r ∷ rs) es each =
-    subst ClaimNothing (sym each.2)
-    (claim_nothing-append (filled_or_laid r.place r.buf each.0) each.1 (fill_claims_nothing r each.0) (fills_claim_nothing rs each.1 each.3))
+fill_claims_nothing : (r : Retired) (filled : Bool) → ClaimNothing (Fill r.place r.buf filled ∷ laid_unless filled r.place)
+fill_claims_nothing r true = (λ m b ms. refl, tt)
+fill_claims_nothing r false = (λ m b ms. refl, (λ m b ms. refl, tt))
+
+fills_claim_nothing : (mode : Mode) (rs : List Retired) (es : List Event) → FillsRetiredFor mode rs es → ClaimNothing es
+fills_claim_nothing mode rs es fills = fills_hold mode ClaimNothing rs es (quiet_holds mode) fill_claims_nothing fills
 
 -- One input that is no claim: what retires is filled.
-pub serves_filled : (m mid new : Machine) (i : Input) (s t : Token) → claim_events i ≡ [] → claims_in (i ∷ []) ≡ []
-    → waiting_fills m ≡ [] → Takes m mid i → KeepsBlocks mid new → EntersOf s (FillsRetired (waiting_fills mid)) t
-    → ServesOn (config_of m) (Stands m) (Stands new) (i ∷ []) s t
-serves_filled m mid new i s t quiet none empty takes keeps filled = record {
+pub serves_filled : (mode : Mode) (m mid new : Machine) (i : Input) (s t : Token) → ClaimsOf mode i [] → claims_in (i ∷ []) ≡ []
+    → waiting_fills m ≡ [] → Takes m mid i → KeepsBlocks mid new → EntersOf s (FillsRetiredFor mode (waiting_fills mid)) t
+    → ServesOn mode (config_of m) (Stands m) (Stands new) (i ∷ []) s t
+serves_filled mode m mid new i s t quiet none empty takes keeps filled = record {
   events = filled.events;
   enters = filled.enters;
   serves = λ q old.
       let waits : waiting_fills mid ≡ fills (config_of m).p (turn (config_of m) q i).retired =
       takes.fills q old ∙ ap (λ l. l ++ fills (config_of m).p (turn (config_of m) q i).retired) empty in (
+        [],
         filled.events,
         [],
-        subst (λ rs. FillsRetired rs filled.events) waits filled.kind,
+        quiet,
+        subst (λ rs. FillsRetiredFor mode rs filled.events) waits filled.kind,
         refl,
-        sym (ap (λ l. l ++ (filled.events ++ [])) quiet ∙ append-nil filled.events),
+        sym (append-nil filled.events),
       );
   stands = λ q old. keeps.stands (q ++ i ∷ []) (takes.stands q old);
-  claims = claims_none (i ∷ []) s t filled.events none (fills_claim_nothing (waiting_fills mid) filled.events filled.kind) filled.enters;
+  claims = claims_none mode (i ∷ []) s t filled.events none (fills_claim_nothing mode (waiting_fills mid) filled.events filled.kind) filled.enters;
 }

@@ -8,6 +8,7 @@ use Rattle.acquisition_machine.specs.declared.config.AcqConfig.{AcqConfig}
 use Rattle.acquisition_machine.specs.Machine.{Input, State}
 use Rattle.acquisition_machine.specs.Runs.{after_from}
 use Rattle.acquisition_machine.proofs.Joining.{after_from-append}
+use Rattle.mode_calls.specs.declared.mode.Mode.{Mode}
 use Rattle.gev_acq.specs.declared.turn.Turn.{Turn}
 use Rattle.gev_control.specs.declared.turn_end.TurnEnd.TheVariants as ends
 use Rattle.gev_acq.specs.Serving.{Serves}
@@ -43,15 +44,15 @@ go_on-push (x ∷ ts) t on more = (on.0, go_on-push ts t on.1 more)
 inputs_before : (q : List Input) (x : Turned) (ts : List Turned) → q ++ inputs_in (x ∷ ts) ≡ (q ++ inputs_of x) ++ inputs_in ts
 inputs_before q x ts = sym (append_assoc q (inputs_of x) (inputs_in ts))
 
-pub turns-push : (c : AcqConfig) (s : State) (ts : List Turned) (t : Turned) (es front : List Event) → ServesTurns c s ts es → Serves c (after_from c s (inputs_in ts)) (inputs_of t) front
-    → ServesTurns c s (ts ++ t ∷ []) (es ++ LookRun 1 ∷ front)
-turns-push c s [] t es front none one = (front, [], one, refl, ap (λ l. l ++ LookRun 1 ∷ front) none ∙ sym (ap (λ l. LookRun 1 ∷ l) (append-nil front)))
-turns-push c s (x ∷ ts) t es front each one = (
+pub turns-push : (mode : Mode) (c : AcqConfig) (s : State) (ts : List Turned) (t : Turned) (es front : List Event) → ServesTurns mode c s ts es → Serves mode c (after_from c s (inputs_in ts)) (inputs_of t) front
+    → ServesTurns mode c s (ts ++ t ∷ []) (es ++ LookRun 1 ∷ front)
+turns-push mode c s [] t es front none one = (front, [], one, refl, ap (λ l. l ++ LookRun 1 ∷ front) none ∙ sym (ap (λ l. LookRun 1 ∷ l) (append-nil front)))
+turns-push mode c s (x ∷ ts) t es front each one = (
   each.0,
   each.1 ++ LookRun 1 ∷ front,
   each.2,
-  turns-push c (after_from c s (inputs_of x)) ts t each.1 front each.3
-      (subst (λ v. Serves c v (inputs_of t) front) (after_from-append c s (inputs_of x) (inputs_in ts)) one),
+  turns-push mode c (after_from c s (inputs_of x)) ts t each.1 front each.3
+      (subst (λ v. Serves mode c v (inputs_of t) front) (after_from-append c s (inputs_of x) (inputs_in ts)) one),
   ap (λ l. l ++ LookRun 1 ∷ front) each.4 ∙ ap (λ l. LookRun 1 ∷ l) (append_assoc each.0 each.1 (LookRun 1 ∷ front)),
 )
 

@@ -10,6 +10,7 @@ use Rattle.gev_links.specs.Links.{Address, Answer, Adds}
 use Rattle.gev_links.specs.Moments.{TellsEach}
 use Rattle.buffer_words.specs.Passes.{Token}
 use Rattle.buffer_words.specs.Several.{EntersEach}
+use Rattle.mode_calls.specs.declared.mode.Mode.{Mode}
 use Rattle.gev_acq.specs.declared.turn.Turn.{Turn}
 use Rattle.gev_control.specs.declared.turn_end.TurnEnd.{TurnEnd}
 use Rattle.gev_control.specs.declared.turn_end.TurnEnd.TheVariants as ends
@@ -47,11 +48,11 @@ sends_in (t ∷ ts) = t.sent ++ sends_in ts
 
 -- From this state of the receiver these turns are served by these events: in each the run word is 1, and the
 -- turn's inputs are served.
-abbrev pub ServesTurns : AcqConfig → State → List Turned → List Event → Type 0
-ServesTurns c s [] es = es ≡ []
-ServesTurns c s (t ∷ ts) es =
-    (front rest : List Event) × Serves c s (inputs_of t) front
-    × ServesTurns c (after_from c s (inputs_of t)) ts rest
+abbrev pub ServesTurns : Mode → AcqConfig → State → List Turned → List Event → Type 0
+ServesTurns mode c s [] es = es ≡ []
+ServesTurns mode c s (t ∷ ts) es =
+    (front rest : List Event) × Serves mode c s (inputs_of t) front
+    × ServesTurns mode c (after_from c s (inputs_of t)) ts rest
     × (es ≡ LookRun 1 ∷ (front ++ rest))
 
 -- The journal's entries tell of these turns, one by one.
@@ -69,12 +70,12 @@ ControlEach c q s (t ∷ ts) u = IsControlled c q s t × ControlEach c (q ++ inp
 -- These turns were made, and nothing else: the run word was 1 in each, and its inputs were served, whatever
 -- inputs the receiver stood for; the entries tell of them; the links and the clock told just what the turns
 -- received, sent and read.
-pub record TurnsOn (c : AcqConfig) (camera : Address) (Old New : List Input → Type 0) (o n : Outside) (made : List Turned) (entries : List Turn) (s u : Token) : Type 0 where
+pub record TurnsOn (mode : Mode) (c : AcqConfig) (camera : Address) (Old New : List Input → Type 0) (o n : Outside) (made : List Turned) (entries : List Turn) (s u : Token) : Type 0 where
   pub events : List Event
   pub enters : EntersEach s events u
-  pub serves : (q : List Input) → Old q → ServesTurns c (After c q) made events
+  pub serves : (q : List Input) → Old q → ServesTurns mode c (After c q) made events
   pub stands : (q : List Input) → Old q → New (q ++ inputs_in made)
-  pub claims : Claims (inputs_in made) s u
+  pub claims : Claims mode (inputs_in made) s u
   pub notes : (q : List Input) → Old q → NoteEach c q made entries
   pub controlled : (q : List Input) → Old q → ControlEach c q o.client made n.client
   pub received : TellsEach o.received n.received (answers_in made)
@@ -120,11 +121,11 @@ LooksLast (how.NoAnswer req) s u = u ≡ s
 LooksLast (how.Refused status) s u = u ≡ s
 
 -- The reader made turns, at most the asked number, and ended so. The journal has an entry more for each.
-pub record Acquires (c : AcqConfig) (camera : Address) (Old New : List Input → Type 0) (o n : Outside) (journal journal_after : List Turn) (turns : ℕ) (end : AcqEnd) (s u : Token) : Type 0 where
+pub record Acquires (mode : Mode) (c : AcqConfig) (camera : Address) (Old New : List Input → Type 0) (o n : Outside) (journal journal_after : List Turn) (turns : ℕ) (end : AcqEnd) (s u : Token) : Type 0 where
   pub made : List Turned
   pub entries : List Turn
   pub middle : Token
-  pub on : TurnsOn c camera Old New o n made entries s middle
+  pub on : TurnsOn mode c camera Old New o n made entries s middle
   pub last : LooksLast end middle u
   pub ends : EndsBy end turns made
   pub journal_is : journal_after ≡ journal ++ entries

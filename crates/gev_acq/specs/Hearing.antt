@@ -6,17 +6,18 @@ use Rattle.acquisition_machine.specs.Blocks.{Given}
 use Rattle.acquisition_machine.specs.Machine.{Input, datagram}
 use Rattle.acquisition_machine.specs.Runs.{turn}
 use Rattle.buffer_words.specs.Passes.{Token}
+use Rattle.mode_calls.specs.declared.mode.Mode.{Mode}
 use Rattle.gev_acq.specs.declared.heard.Heard.{Heard}
 use Rattle.gev_acq.specs.Claims.{ServesOn}
 use Rattle.gev_acq.specs.Heard.{inputs_heard, IsHeard}
 
 -- The datagram was told once, with this answer.
-pub record TellsOnce (c : AcqConfig) (Old New : List Input → Type 0) (bytes : List ℕ) (need : Need) (s t : Token) : Type 0 where
+pub record TellsOnce (mode : Mode) (c : AcqConfig) (Old New : List Input → Type 0) (bytes : List ℕ) (need : Need) (s t : Token) : Type 0 where
   pub need_is : (q : List Input) → Old q → (turn c q (datagram bytes)).need ≡ Some need
-  pub serves : ServesOn c Old New (datagram bytes ∷ []) s t
+  pub serves : ServesOn mode c Old New (datagram bytes ∷ []) s t
 
 -- The datagram's inputs were served.
-pub record Hears (c : AcqConfig) (Old New : List Input → Type 0) (bytes : List ℕ) (r : Heard) (s t : Token) : Type 0 where
+pub record Hears (mode : Mode) (c : AcqConfig) (Old New : List Input → Type 0) (bytes : List ℕ) (r : Heard) (s t : Token) : Type 0 where
   pub given : Option (Option Given)
-  pub serves : ServesOn c Old New (inputs_heard bytes given) s t
+  pub serves : ServesOn mode c Old New (inputs_heard bytes given) s t
   pub heard : (q : List Input) → Old q → IsHeard c q bytes given r

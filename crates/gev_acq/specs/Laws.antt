@@ -10,6 +10,7 @@ use Rattle.acquisition_machine.specs.Machine.{Input, stop, State}
 use Rattle.acquisition_machine.specs.Runs.{first_state, After, retired_from}
 use Rattle.block_fills.specs.Fills.{tried, item_of, retired_items}
 use Rattle.gev_control.specs.Controlled.{control_of}
+use Rattle.mode_calls.specs.declared.mode.Mode.{Mode}
 use Rattle.gev_acq.specs.Serving.{Serves}
 use Rattle.gev_acq.specs.Turns.{Turned}
 use Rattle.gev_acq.specs.Acquired.{inputs_in, ServesTurns, ControlEach}
@@ -18,20 +19,20 @@ use Rattle.gev_acq.specs.Acquired.{inputs_in, ServesTurns, ControlEach}
 -- order.
 abbrev pub ServedFillsAreRetired : Type 0
 ServedFillsAreRetired =
-    (k : ℕ) (c : AcqConfig) (s : State) (is : List Input) (es : List Event) → Serves c s is es
+    (mode : Mode) (k : ℕ) (c : AcqConfig) (s : State) (is : List Input) (es : List Event) → Serves mode c s is es
     → tried (entries_of k es) ≡ map item_of (fills c.p (retired_from c s is))
 
 -- The same of turns.
 abbrev pub TurnsFillTheRetired : Type 0
 TurnsFillTheRetired =
-    (k : ℕ) (c : AcqConfig) (s : State) (made : List Turned) (es : List Event) → ServesTurns c s made es
+    (mode : Mode) (k : ℕ) (c : AcqConfig) (s : State) (made : List Turned) (es : List Event) → ServesTurns mode c s made es
     → tried (entries_of k es) ≡ map item_of (fills c.p (retired_from c s (inputs_in made)))
 
 -- A new receiver's turns and then its stop: what they put into the output is all that their inputs retire.
 abbrev pub ReadersFillTheRetired : Type 0
 ReadersFillTheRetired =
-    (k : ℕ) (c : AcqConfig) (made : List Turned) (es fs : List Event) → ServesTurns c first_state made es
-    → Serves c (After c (inputs_in made)) (stop ∷ []) fs
+    (mode : Mode) (k : ℕ) (c : AcqConfig) (made : List Turned) (es fs : List Event) → ServesTurns mode c first_state made es
+    → Serves mode c (After c (inputs_in made)) (stop ∷ []) fs
     → tried (entries_of k (es ++ fs)) ≡ retired_items c (inputs_in made ++ stop ∷ [])
 
 -- what the client goes through in these turns, first in first

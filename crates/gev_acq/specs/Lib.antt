@@ -1,3 +1,4 @@
+pub mod Filling
 pub mod Serving
 pub mod Claims
 pub mod Buffers

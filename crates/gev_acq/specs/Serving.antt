@@ -1,24 +1,28 @@
--- The entries that a worker adds to the board's history when it serves inputs of the acquisition machine.
-use Rattle.std.specs.Prelude.{◌≡◌, List, [], ◌∷◌, ◌++◌, option_map}
+-- The entries that a worker adds to the board's history when it serves inputs of the acquisition machine, in each
+-- buffer handling mode.
+use Rattle.std.specs.Prelude.{◌≡◌, Bool, List, [], ◌∷◌, ◌++◌, Some, None}
 use Rattle.board_machine.specs.declared.events.Event.{Event}
-use Rattle.board_machine.specs.declared.events.Event.TheVariants.{Claim}
 use Rattle.acquisition_machine.specs.declared.config.AcqConfig.{AcqConfig}
-use Rattle.acquisition_machine.specs.Blocks.{Given, fills}
-use Rattle.block_fills.specs.Fills.{FillsRetired}
+use Rattle.acquisition_machine.specs.Blocks.{fills}
 use Rattle.acquisition_machine.specs.Machine.{Input, datagram, claimed, tick, stop, restart, State, step}
+use Rattle.mode_calls.specs.declared.mode.Mode.{Mode}
+use Rattle.mode_calls.specs.Modes.{ClaimsFor}
+use Rattle.gev_acq.specs.Filling.{FillsRetiredFor}
 
--- the claim of which an input tells
-abbrev pub claim_events : Input → List Event
-claim_events (datagram bytes) = []
-claim_events (claimed given) = Claim (option_map (λ (g : Given). g.place) given) ∷ []
-claim_events (tick moment) = []
-claim_events stop = []
-claim_events restart = []
+-- These events are the claim of which an input tells: it got the place that is told of, whether that was in the
+-- pool or dropped for it. Another input tells of none.
+abbrev pub ClaimsOf : Mode → Input → List Event → Type 0
+ClaimsOf mode (datagram bytes) es = es ≡ []
+ClaimsOf mode (claimed None) es = ClaimsFor mode None es
+ClaimsOf mode (claimed (Some g)) es = (dropped : Bool) × ClaimsFor mode (Some (g.place, dropped)) es
+ClaimsOf mode (tick moment) es = es ≡ []
+ClaimsOf mode stop es = es ≡ []
+ClaimsOf mode restart es = es ≡ []
 
 -- From this state the inputs are served by these events: each claim is made, and what retires is filled.
-abbrev pub Serves : AcqConfig → State → List Input → List Event → Type 0
-Serves c s [] es = es ≡ []
-Serves c s (i ∷ is) es =
-    (filling rest : List Event) × FillsRetired (fills c.p (step c s i).retired) filling
-    × Serves c (step c s i).after is rest
-    × (es ≡ claim_events i ++ (filling ++ rest))
+abbrev pub Serves : Mode → AcqConfig → State → List Input → List Event → Type 0
+Serves mode c s [] es = es ≡ []
+Serves mode c s (i ∷ is) es =
+    (claiming filling rest : List Event) × ClaimsOf mode i claiming × FillsRetiredFor mode (fills c.p (step c s i).retired) filling
+    × Serves mode c (step c s i).after is rest
+    × (es ≡ claiming ++ (filling ++ rest))

@@ -10,6 +10,7 @@ use Rattle.gev_links.specs.Moments.{Tells, TellsEach}
 use Rattle.buffer_words.specs.Passes.{Token}
 use Rattle.gev_control.specs.declared.turn_end.TurnEnd.{TurnEnd}
 use Rattle.gev_control.specs.declared.turn_end.TurnEnd.TheVariants as ends
+use Rattle.mode_calls.specs.declared.mode.Mode.{Mode}
 use Rattle.gev_acq.specs.declared.turn.Turn.{Turn}
 use Rattle.gev_acq.specs.declared.heard.Heard.{Heard}
 use Rattle.gev_acq.specs.Claims.{ServesOn}
@@ -84,8 +85,8 @@ pub record Outside : Type 0 where
   pub client : Client
 
 -- The turn was made: one receive on the stream, one moment, its inputs served, and its control part.
-pub record TakesTurn (c : AcqConfig) (camera : Address) (Old New : List Input → Type 0) (o n : Outside) (t : Turned) (e : Turn) (s u : Token) : Type 0 where
-  pub serves : ServesOn c Old New (inputs_of t) s u
+pub record TakesTurn (mode : Mode) (c : AcqConfig) (camera : Address) (Old New : List Input → Type 0) (o n : Outside) (t : Turned) (e : Turn) (s u : Token) : Type 0 where
+  pub serves : ServesOn mode c Old New (inputs_of t) s u
   pub notes : (q : List Input) → Old q → Notes c q t e
   pub controlled : (q : List Input) → Old q → IsControlled c q o.client t
   pub client : n.client ≡ (control_of o.client t.heard t.moment).state
@@ -95,7 +96,7 @@ pub record TakesTurn (c : AcqConfig) (camera : Address) (Old New : List Input �
   pub sent : Adds o.sent n.sent (addressed camera t.sent)
 
 -- the same of some turn that ended so
-pub record TakesOne (c : AcqConfig) (camera : Address) (Old New : List Input → Type 0) (o n : Outside) (e : Turn) (end : TurnEnd) (s u : Token) : Type 0 where
+pub record TakesOne (mode : Mode) (c : AcqConfig) (camera : Address) (Old New : List Input → Type 0) (o n : Outside) (e : Turn) (end : TurnEnd) (s u : Token) : Type 0 where
   pub turned : Turned
   pub ended : turned.end ≡ end
-  pub takes : TakesTurn c camera Old New o n turned e s u
+  pub takes : TakesTurn mode c camera Old New o n turned e s u

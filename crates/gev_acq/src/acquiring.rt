@@ -17,6 +17,7 @@ use control_client::Client;
 use gev_control::{AcqEnd, TurnEnd};
 use gev_links::{Clock, Gate, Link};
 use gev_types::Peer;
+use mode_calls::Mode;
 use std::sync::Wait;
 
 // The room of a receive, in bytes.
@@ -27,7 +28,7 @@ const RECEIVE_ROOM: usize = 9000;
 ///
 /// A turn looks at the run word, and the reader ends where that isn't 1. It receives once on `stream`, reads
 /// the clock once, gives the receiver the datagram that came and then the moment, fills what retires and
-/// claims what is asked for. It sends the requests on `control`, receives there once, gives the client what
+/// claims what is asked for, each by the mode. It sends the requests on `control`, receives there once, gives the client what
 /// came, lets it tick and sends what it has to send. Each turn has its entry in the journal. After a receive
 /// or a send that failed the turn sends and receives nothing more, and is the last one.
 pub fn acquire<R: Wait, L: Link, M: Link, C: Clock, G: Gate>(
@@ -43,13 +44,14 @@ pub fn acquire<R: Wait, L: Link, M: Link, C: Clock, G: Gate>(
     camera: Peer,
     journal: &mut Vec<Turn>,
     turns: u64,
+    mode: Mode,
 ) -> AcqEnd
     requires table { pass.old.table ≡ board_id board.now }
     requires fills { waiting_fills acq.old ≡ [] }
     requires requests { waiting_requests acq.old ≡ [] }
     requires backs { Backs pass.old (buffers acq.old) }
     requires room { vec_len journal.old + turns ≤ vec_capacity journal.old }
-    ensures acquires { Acquires (config_of acq.old) camera (Stands acq.old) (Stands acq.new)
+    ensures acquires { Acquires mode (config_of acq.old) camera (Stands acq.old) (Stands acq.new)
         (record { received = L.received stream.old; heard = M.received control.old; sent = M.sent control.old; told = C.told clock.old; client = client.old })
         (record { received = L.received stream.new; heard = M.received control.new; sent = M.sent control.new; told = C.told clock.new; client = client.new })
         journal.old.items journal.new.items turns result pass.old pass.new }
@@ -68,7 +70,7 @@ pub fn acquire<R: Wait, L: Link, M: Link, C: Clock, G: Gate>(
             return AcqEnd::Stopped;
         }
         let (turn, end) = turn_once(
-            rt, board, pass, acq, client, stream, control, clock, gate, camera, &mut out,
+            rt, board, pass, acq, client, stream, control, clock, gate, camera, &mut out, mode,
         );
         journal.push_reserved(turn);
         match end {

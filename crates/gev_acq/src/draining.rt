@@ -11,15 +11,16 @@ use crate::filling::fill_all;
 use acq_core::Acq;
 use buffer_words::{Board, Pass};
 use gev_links::{Gate, OpenGate};
+use mode_calls::Mode;
 use std::sync::Wait;
 
-/// Stops the receiver: all of its open blocks retire, and are filled.
-pub fn drain<R: Wait>(rt: &R, board: &Board, pass: &mut Pass, acq: &mut Acq)
+/// Stops the receiver: all of its open blocks retire, and are filled by the mode.
+pub fn drain<R: Wait>(rt: &R, board: &Board, pass: &mut Pass, acq: &mut Acq, mode: Mode)
     requires table { pass.old.table ≡ board_id board.now }
     requires fills { waiting_fills acq.old ≡ [] }
     requires requests { waiting_requests acq.old ≡ [] }
     requires backs { Backs pass.old (buffers acq.old) }
-    ensures serves { ServesOn (config_of acq.old) (Stands acq.old) (Stands acq.new) (stopped ∷ []) pass.old pass.new }
+    ensures serves { ServesOn mode (config_of acq.old) (Stands acq.old) (Stands acq.new) (stopped ∷ []) pass.old pass.new }
     ensures table { pass.new.table ≡ pass.old.table }
     ensures config { config_of acq.new ≡ config_of acq.old }
     ensures fills { waiting_fills acq.new ≡ [] }
@@ -27,16 +28,23 @@ pub fn drain<R: Wait>(rt: &R, board: &Board, pass: &mut Pass, acq: &mut Acq)
     ensures buffers { buffers acq.new ≡ [] }
     ensures empty { HoldsAlone pass.old (buffers acq.old) → IsEmptyHanded pass.new }
 {
-    retire_all(rt, board, pass, acq, &OpenGate);
+    retire_all(rt, board, pass, acq, &OpenGate, mode);
 }
 
 /// The same, passing a gate before each fill.
-pub fn retire_all<R: Wait, G: Gate>(rt: &R, board: &Board, pass: &mut Pass, acq: &mut Acq, gate: &G)
+pub fn retire_all<R: Wait, G: Gate>(
+    rt: &R,
+    board: &Board,
+    pass: &mut Pass,
+    acq: &mut Acq,
+    gate: &G,
+    mode: Mode,
+)
     requires table { pass.old.table ≡ board_id board.now }
     requires fills { waiting_fills acq.old ≡ [] }
     requires requests { waiting_requests acq.old ≡ [] }
     requires backs { Backs pass.old (buffers acq.old) }
-    ensures serves { ServesOn (config_of acq.old) (Stands acq.old) (Stands acq.new) (stopped ∷ []) pass.old pass.new }
+    ensures serves { ServesOn mode (config_of acq.old) (Stands acq.old) (Stands acq.new) (stopped ∷ []) pass.old pass.new }
     ensures table { pass.new.table ≡ pass.old.table }
     ensures config { config_of acq.new ≡ config_of acq.old }
     ensures fills { waiting_fills acq.new ≡ [] }
@@ -45,5 +53,5 @@ pub fn retire_all<R: Wait, G: Gate>(rt: &R, board: &Board, pass: &mut Pass, acq:
     ensures empty { HoldsAlone pass.old (buffers acq.old) → IsEmptyHanded pass.new }
 {
     acq.stop();
-    fill_all(rt, board, pass, acq, gate);
+    fill_all(rt, board, pass, acq, gate, mode);
 }

@@ -2,37 +2,40 @@ ghost use Rattle.std.specs.Prelude.{◌≡◌, ◌++◌, [], ◌∷◌, length, 
 ghost use Rattle.acquisition_machine.specs.TurnLaws.{given_of};
 ghost use Rattle.acq_core.specs.Receiver.{buffers, KeepsBlocks};
 ghost use Rattle.acq_core.specs.Waiting.{waiting_fills, waiting_requests};
-ghost use Rattle.block_fills.specs.Fills.{FillsRetired};
 ghost use Rattle.buffer_words.specs.Boards.{board_id};
 ghost use Rattle.buffer_words.specs.Passes.{gone, IsLifted, size_at, Has};
 ghost use Rattle.buffer_words.specs.Several.{EntersOf};
 ghost use Rattle.gev_acq.specs.Buffers.{Backs, HoldsAlone};
+ghost use Rattle.gev_acq.specs.Filling.{FillsRetiredFor};
 
 use acq_core::Acq;
 use acquisition_machine::Retired;
 use board_calls::FillEnd;
 use buffer_words::{Board, Pass};
 use gev_links::Gate;
-use output_queue::fill;
+use mode_calls::Mode;
+use shared_modes::fill_for;
 use std::sync::Wait;
 
-/// Gives the buffer of a retired block to the output. Where the output is closed the buffer is laid down.
+/// Gives the buffer of a retired block to the output, by the mode. Where the output is closed the buffer is laid down.
 pub(crate) fn fill_one<R: Wait, G: Gate>(
     rt: &R,
     board: &Board,
     pass: &mut Pass,
     gate: &G,
     retired: Retired,
+    mode: Mode,
 )
     requires table { pass.old.table ≡ board_id board.now }
     requires holds { IsLifted pass.old retired.place }
     requires size { length retired.buf.bytes ≡ size_at pass.old retired.place }
-    ensures enters { EntersOf pass.old (FillsRetired (retired ∷ [])) pass.new }
+    ensures enters { EntersOf pass.old (FillsRetiredFor mode (retired ∷ [])) pass.new }
     ensures hands { Has retired.place gone pass.old pass.new }
 {
     gate.pass(1);
     let Retired { place, buf } = retired;
-    match fill(rt, board, pass, place, buf) {
+    let (end, _dropped) = fill_for(rt, board, pass, mode, place, buf);
+    match end {
         FillEnd::Filled => {}
         FillEnd::Closed(back) => {
             board.set_down(pass, place, back);
@@ -41,12 +44,19 @@ pub(crate) fn fill_one<R: Wait, G: Gate>(
     }
 }
 
-/// Gives the buffers of all blocks that retired to the output, first in first.
-pub fn fill_all<R: Wait, G: Gate>(rt: &R, board: &Board, pass: &mut Pass, acq: &mut Acq, gate: &G)
+/// Gives the buffers of all blocks that retired to the output, first in first, each by the mode.
+pub fn fill_all<R: Wait, G: Gate>(
+    rt: &R,
+    board: &Board,
+    pass: &mut Pass,
+    acq: &mut Acq,
+    gate: &G,
+    mode: Mode,
+)
     requires table { pass.old.table ≡ board_id board.now }
     requires backs { Backs pass.old (map given_of (waiting_fills acq.old) ++ buffers acq.old) }
     ensures table { pass.new.table ≡ pass.old.table }
-    ensures enters { EntersOf pass.old (FillsRetired (waiting_fills acq.old)) pass.new }
+    ensures enters { EntersOf pass.old (FillsRetiredFor mode (waiting_fills acq.old)) pass.new }
     ensures fills { waiting_fills acq.new ≡ [] }
     ensures requests { waiting_requests acq.new ≡ waiting_requests acq.old }
     ensures rest { KeepsBlocks acq.old acq.new }
@@ -54,6 +64,6 @@ pub fn fill_all<R: Wait, G: Gate>(rt: &R, board: &Board, pass: &mut Pass, acq: &
     ensures alone { HoldsAlone pass.old (map given_of (waiting_fills acq.old) ++ buffers acq.old) → HoldsAlone pass.new (buffers acq.new) }
 {
     'fills: while let Some(retired) = acq.next_fill() {
-        fill_one(rt, board, pass, gate, retired);
+        fill_one(rt, board, pass, gate, retired, mode);
     }
 }

@@ -13,6 +13,7 @@ use crate::heard::Heard;
 use acq_core::{Acq, Need};
 use buffer_words::{Board, Pass};
 use gev_links::Gate;
+use mode_calls::Mode;
 use std::sync::Wait;
 
 /// Gives a datagram to the receiver. What retires is filled. Where the receiver asks for a buffer, one is
@@ -24,22 +25,23 @@ pub fn hear<R: Wait, G: Gate>(
     acq: &mut Acq,
     gate: &G,
     bytes: &[u8],
+    mode: Mode,
 ) -> Heard
     requires table { pass.old.table ≡ board_id board.now }
     requires fills { waiting_fills acq.old ≡ [] }
     requires requests { waiting_requests acq.old ≡ [] }
     requires backs { Backs pass.old (buffers acq.old) }
-    ensures hears { Hears (config_of acq.old) (Stands acq.old) (Stands acq.new) bytes.now result pass.old pass.new }
+    ensures hears { Hears mode (config_of acq.old) (Stands acq.old) (Stands acq.new) bytes.now result pass.old pass.new }
     ensures config { config_of acq.new ≡ config_of acq.old }
     ensures fills { waiting_fills acq.new ≡ [] }
     ensures requests { waiting_requests acq.new ≡ [] }
     ensures backs { Backs pass.new (buffers acq.new) }
     ensures alone { HoldsAlone pass.old (buffers acq.old) → HoldsAlone pass.new (buffers acq.new) }
 {
-    match tell(rt, board, pass, acq, gate, bytes) {
+    match tell(rt, board, pass, acq, gate, bytes, mode) {
         Need::Buffer(block) => {
-            let claim = claim_one(rt, board, pass, acq);
-            let kept = is_done(tell(rt, board, pass, acq, gate, bytes));
+            let claim = claim_one(rt, board, pass, acq, mode);
+            let kept = is_done(tell(rt, board, pass, acq, gate, bytes, mode));
             Heard {
                 kept,
                 opened: block,
@@ -77,12 +79,13 @@ fn tell<R: Wait, G: Gate>(
     acq: &mut Acq,
     gate: &G,
     bytes: &[u8],
+    mode: Mode,
 ) -> Need
     requires table { pass.old.table ≡ board_id board.now }
     requires fills { waiting_fills acq.old ≡ [] }
     requires requests { waiting_requests acq.old ≡ [] }
     requires backs { Backs pass.old (buffers acq.old) }
-    ensures tells { TellsOnce (config_of acq.old) (Stands acq.old) (Stands acq.new) bytes.now result pass.old pass.new }
+    ensures tells { TellsOnce mode (config_of acq.old) (Stands acq.old) (Stands acq.new) bytes.now result pass.old pass.new }
     ensures table { pass.new.table ≡ pass.old.table }
     ensures config { config_of acq.new ≡ config_of acq.old }
     ensures fills { waiting_fills acq.new ≡ [] }
@@ -92,6 +95,6 @@ fn tell<R: Wait, G: Gate>(
     ensures alone { HoldsAlone pass.old (buffers acq.old) → HoldsAlone pass.new (buffers acq.new) }
 {
     let need = acq.datagram(bytes);
-    fill_all(rt, board, pass, acq, gate);
+    fill_all(rt, board, pass, acq, gate, mode);
     need
 }

@@ -8,6 +8,8 @@ mod filling;
 mod heard;
 mod hearing;
 mod laws;
+#[cfg(test)]
+mod mode_tests;
 mod sending;
 #[cfg(test)]
 mod tests;

@@ -15,18 +15,19 @@ use gev_gates::MeetingGate;
 use gev_links::{Clock, CountsFaults, DiscardingLink, Link, MemoryClock, MemoryLink, OpenGate};
 use gev_types::{Buf, Peer};
 use gvcp_wire::Command;
+use mode_calls::Mode;
 use output_queue::{close, take};
 use std::alloc::Global;
 use std::process::Abort;
 use std::sync::Wait;
 use std::test::Fail;
 
-const CAMERA: Peer = Peer {
+pub(crate) const CAMERA: Peer = Peer {
     address: 0x7f00_0001,
     port: 3956,
 };
 
-const HOST: Peer = Peer {
+pub(crate) const HOST: Peer = Peer {
     address: 0x7f00_0001,
     port: 1,
 };
@@ -41,7 +42,7 @@ const TWO_BLOCKS: AcqConfig = AcqConfig {
     rounds: 1,
 };
 
-const ONE_BLOCK: AcqConfig = AcqConfig {
+pub(crate) const ONE_BLOCK: AcqConfig = AcqConfig {
     p: 528,
     window: 1,
     timeout: 1000,
@@ -76,7 +77,7 @@ const REFUSAL: &[u8] = b"\x80\x03\0\x81\0\0\0\x01";
 // block.
 const TWO_BEGIN: &[Option<(&[u8], Peer)>] = &[Some((LEADER, CAMERA)), Some((SECOND, CAMERA)), None];
 
-const DISPLACING: &[Option<(&[u8], Peer)>] = &[
+pub(crate) const DISPLACING: &[Option<(&[u8], Peer)>] = &[
     Some((LEADER, CAMERA)),
     Some((SECOND, CAMERA)),
     Some((LEADER, CAMERA)),
@@ -98,7 +99,7 @@ const REFUSED_THIRD: &[Option<(&[u8], Peer)>] = &[
 ];
 
 // How many turns a reader makes at most.
-const TURNS: u64 = 4;
+pub(crate) const TURNS: u64 = 4;
 
 fn quiet(moment: u64) -> Turn {
     Turn {
@@ -110,7 +111,7 @@ fn quiet(moment: u64) -> Turn {
     }
 }
 
-fn kept(moment: u64) -> Turn {
+pub(crate) fn kept(moment: u64) -> Turn {
     Turn {
         moment,
         datagram: true,
@@ -121,7 +122,7 @@ fn kept(moment: u64) -> Turn {
 }
 
 // A turn that opened a block: its packet was kept where a buffer was there.
-fn opening(moment: u64, opened: u64, claim: Option<u8>) -> Turn {
+pub(crate) fn opening(moment: u64, opened: u64, claim: Option<u8>) -> Turn {
     Turn {
         moment,
         datagram: true,
@@ -148,7 +149,7 @@ fn bring(alloc: Global, board: &Board, pass: &mut Pass, place: u8) -> Result<(),
 }
 
 // A board whose acquisition runs, with two buffers in the pool.
-fn new_board(alloc: Global) -> Result<(Board, Pass), Fail>
+pub(crate) fn new_board(alloc: Global) -> Result<(Board, Pass), Fail>
     ensures table { IfOk result (λ made. made.1.table ≡ board_id made.0) }
 {
     let (board, mut pass) = Board::new(alloc)?;
@@ -159,7 +160,7 @@ fn new_board(alloc: Global) -> Result<(Board, Pass), Fail>
 }
 
 // A client with nothing to do, or with a READREG outstanding since moment 0.
-fn new_client(asks: bool) -> Client {
+pub(crate) fn new_client(asks: bool) -> Client {
     let mut client = Client::new();
     if asks {
         let _req = client.submit(&Command::ReadReg(b"\0\0\x0a\0"), 0);
@@ -204,6 +205,7 @@ fn check_turns<R: Abort + Wait>(
         CAMERA,
         &mut found,
         TURNS,
+        Mode::OldestFirst,
     );
     assert_eq!(rt; ended, end);
     assert_eq!(rt; found.as_slice(), journal);
@@ -410,6 +412,7 @@ fn a_new_block_displaces_the_one_before(rt: HostRuntime) -> Result<(), Fail> {
         CAMERA,
         &mut journal,
         TURNS,
+        Mode::OldestFirst,
     );
     assert_eq!(rt; end, AcqEnd::Spent);
     let late = Turn {
@@ -450,11 +453,12 @@ fn a_drained_block_is_whole(rt: HostRuntime) -> Result<(), Fail> {
         CAMERA,
         &mut journal,
         TURNS,
+        Mode::OldestFirst,
     );
     assert_eq!(rt; end, AcqEnd::Spent);
     let turns = [opening(1, 1, Some(0)), kept(2), kept(3), quiet(4)];
     assert_eq!(rt; journal.as_slice(), turns.as_slice());
-    drain(&rt, &board, &mut pass, &mut acq);
+    drain(&rt, &board, &mut pass, &mut acq, Mode::OldestFirst);
     match take(&rt, &board, &mut pass) {
         TakeEnd::Taken(place) => {
             let buf = board.lift(&mut pass, place);
@@ -482,13 +486,23 @@ fn a_closed_output_gives_the_buffer_back(rt: HostRuntime) -> Result<(), Fail> {
         &OpenGate,
         Some(LEADER),
         10,
+        Mode::OldestFirst,
     );
     assert_eq!(rt; (first.kept, first.opened, first.claim), (true, 1, Some(0)));
     match acq.next_request() {
         Some(_) => return Err(Fail::new("asks at once")),
         None => {}
     }
-    let second = serve_turn(&rt, &board, &mut pass, &mut acq, &OpenGate, None, 1000);
+    let second = serve_turn(
+        &rt,
+        &board,
+        &mut pass,
+        &mut acq,
+        &OpenGate,
+        None,
+        1000,
+        Mode::OldestFirst,
+    );
     assert_eq!(rt;
         (second.kept, second.opened, second.claim),
         (false, 0, None)
@@ -503,13 +517,35 @@ fn a_closed_output_gives_the_buffer_back(rt: HostRuntime) -> Result<(), Fail> {
 fn a_stop_fills_the_open_block(rt: HostRuntime) -> Result<(), Fail> {
     let (board, mut pass) = new_board(rt.alloc())?;
     let mut acq = Acq::new(rt.alloc(), ONE_BLOCK)?;
-    let heard = hear(&rt, &board, &mut pass, &mut acq, &OpenGate, SECOND);
+    let heard = hear(
+        &rt,
+        &board,
+        &mut pass,
+        &mut acq,
+        &OpenGate,
+        SECOND,
+        Mode::OldestFirst,
+    );
     assert_eq!(rt; (heard.kept, heard.opened, heard.claim), (true, 2, Some(0)));
-    retire_all(&rt, &board, &mut pass, &mut acq, &OpenGate);
+    retire_all(
+        &rt,
+        &board,
+        &mut pass,
+        &mut acq,
+        &OpenGate,
+        Mode::OldestFirst,
+    );
     assert_eq!(rt; board.look_out(&mut pass).0.as_slice(), [0].as_slice());
     let mut acq = Acq::new(rt.alloc(), ONE_BLOCK)?;
     acq.stop();
-    fill_all(&rt, &board, &mut pass, &mut acq, &OpenGate);
+    fill_all(
+        &rt,
+        &board,
+        &mut pass,
+        &mut acq,
+        &OpenGate,
+        Mode::OldestFirst,
+    );
     assert_eq!(rt; board.look_out(&mut pass).0.as_slice(), [0].as_slice());
     Ok(())
 }

@@ -21,6 +21,7 @@ use control_client::Client;
 use gev_control::{TurnEnd, client_turn};
 use gev_links::{Clock, Failed, Gate, Link};
 use gev_types::Peer;
+use mode_calls::Mode;
 use std::sync::Wait;
 
 /// Whether the receive failed.
@@ -53,13 +54,14 @@ fn serve_received<R: Wait, G: Gate>(
     received: Result<Option<(usize, Peer)>, Failed>,
     out: &[u8],
     moment: u64,
+    mode: Mode,
 ) -> Heard
     requires table { pass.old.table ≡ board_id board.now }
     requires fills { waiting_fills acq.old ≡ [] }
     requires requests { waiting_requests acq.old ≡ [] }
     requires backs { Backs pass.old (buffers acq.old) }
     requires count { IfOk received (λ came. IfSome came (λ datagram. datagram.0 ≤ length out.now)) }
-    ensures serves { ServesTurn (config_of acq.old) (Stands acq.old) (Stands acq.new) (bytes_in (answer_of received out.now)) moment result
+    ensures serves { ServesTurn mode (config_of acq.old) (Stands acq.old) (Stands acq.new) (bytes_in (answer_of received out.now)) moment result
         (waiting_requests acq.new) pass.old pass.new }
     ensures table { pass.new.table ≡ pass.old.table }
     ensures config { config_of acq.new ≡ config_of acq.old }
@@ -69,10 +71,21 @@ fn serve_received<R: Wait, G: Gate>(
 {
     match received {
         Ok(came) => match came {
-            Some((count, _)) => serve_turn(rt, board, pass, acq, gate, Some(&out[..count]), moment),
-            None => serve_turn(rt, board, pass, acq, gate, None, moment),
+            Some((count, _)) => {
+                serve_turn(
+                    rt,
+                    board,
+                    pass,
+                    acq,
+                    gate,
+                    Some(&out[..count]),
+                    moment,
+                    mode,
+                )
+            }
+            None => serve_turn(rt, board, pass, acq, gate, None, moment, mode),
         },
-        Err(_) => serve_turn(rt, board, pass, acq, gate, None, moment),
+        Err(_) => serve_turn(rt, board, pass, acq, gate, None, moment, mode),
     }
 }
 
@@ -89,12 +102,13 @@ pub(crate) fn turn_once<R: Wait, L: Link, M: Link, C: Clock, G: Gate>(
     gate: &G,
     camera: Peer,
     out: &mut [u8],
+    mode: Mode,
 ) -> (Turn, TurnEnd)
     requires table { pass.old.table ≡ board_id board.now }
     requires fills { waiting_fills acq.old ≡ [] }
     requires requests { waiting_requests acq.old ≡ [] }
     requires backs { Backs pass.old (buffers acq.old) }
-    ensures takes { TakesOne (config_of acq.old) camera (Stands acq.old) (Stands acq.new)
+    ensures takes { TakesOne mode (config_of acq.old) camera (Stands acq.old) (Stands acq.new)
         (record { received = L.received stream.old; heard = M.received control.old; sent = M.sent control.old; told = C.told clock.old; client = client.old })
         (record { received = L.received stream.new; heard = M.received control.new; sent = M.sent control.new; told = C.told clock.new; client = client.new })
         result.0 result.1 pass.old pass.new }
@@ -110,7 +124,7 @@ pub(crate) fn turn_once<R: Wait, L: Link, M: Link, C: Clock, G: Gate>(
     let moment = clock.now();
     let lost = has_failed(&received);
     let datagram = has_come(&received);
-    let heard = serve_received(rt, board, pass, acq, gate, received, out, moment);
+    let heard = serve_received(rt, board, pass, acq, gate, received, out, moment, mode);
     let failed = send_requests(acq, control, camera, lost);
     let end = client_turn(client, control, camera, moment, failed, out);
     let turn = Turn {

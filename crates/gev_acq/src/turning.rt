@@ -11,10 +11,11 @@ use crate::hearing::hear;
 use acq_core::Acq;
 use buffer_words::{Board, Pass};
 use gev_links::Gate;
+use mode_calls::Mode;
 use std::sync::Wait;
 
 /// What a turn does to the receiver: it's given the datagram that came, if one did, and then the moment, in
-/// milliseconds. What retires is filled, and a buffer that is asked for is claimed. The requests that the
+/// milliseconds. What retires is filled, and a buffer that is asked for is claimed, each by the mode. The requests that the
 /// moment brought wait in the receiver.
 pub fn serve_turn<R: Wait, G: Gate>(
     rt: &R,
@@ -24,12 +25,13 @@ pub fn serve_turn<R: Wait, G: Gate>(
     gate: &G,
     came: Option<&[u8]>,
     moment: u64,
+    mode: Mode,
 ) -> Heard
     requires table { pass.old.table ≡ board_id board.now }
     requires fills { waiting_fills acq.old ≡ [] }
     requires requests { waiting_requests acq.old ≡ [] }
     requires backs { Backs pass.old (buffers acq.old) }
-    ensures serves { ServesTurn (config_of acq.old) (Stands acq.old) (Stands acq.new) (option_map (λ bytes. bytes.now) came.entry) moment result
+    ensures serves { ServesTurn mode (config_of acq.old) (Stands acq.old) (Stands acq.new) (option_map (λ bytes. bytes.now) came.entry) moment result
         (waiting_requests acq.new) pass.old pass.new }
     ensures table { pass.new.table ≡ pass.old.table }
     ensures config { config_of acq.new ≡ config_of acq.old }
@@ -37,8 +39,8 @@ pub fn serve_turn<R: Wait, G: Gate>(
     ensures backs { Backs pass.new (buffers acq.new) }
     ensures alone { HoldsAlone pass.old (buffers acq.old) → HoldsAlone pass.new (buffers acq.new) }
 {
-    let heard = hear_if(rt, board, pass, acq, gate, came);
-    tick_acquisition(rt, board, pass, acq, gate, moment);
+    let heard = hear_if(rt, board, pass, acq, gate, came, mode);
+    tick_acquisition(rt, board, pass, acq, gate, moment, mode);
     heard
 }
 
@@ -50,12 +52,13 @@ fn hear_if<R: Wait, G: Gate>(
     acq: &mut Acq,
     gate: &G,
     came: Option<&[u8]>,
+    mode: Mode,
 ) -> Heard
     requires table { pass.old.table ≡ board_id board.now }
     requires fills { waiting_fills acq.old ≡ [] }
     requires requests { waiting_requests acq.old ≡ [] }
     requires backs { Backs pass.old (buffers acq.old) }
-    ensures hears { HearsIf (config_of acq.old) (Stands acq.old) (Stands acq.new) (option_map (λ bytes. bytes.now) came.entry) result pass.old pass.new }
+    ensures hears { HearsIf mode (config_of acq.old) (Stands acq.old) (Stands acq.new) (option_map (λ bytes. bytes.now) came.entry) result pass.old pass.new }
     ensures table { pass.new.table ≡ pass.old.table }
     ensures config { config_of acq.new ≡ config_of acq.old }
     ensures fills { waiting_fills acq.new ≡ [] }
@@ -64,7 +67,7 @@ fn hear_if<R: Wait, G: Gate>(
     ensures alone { HoldsAlone pass.old (buffers acq.old) → HoldsAlone pass.new (buffers acq.new) }
 {
     match came {
-        Some(bytes) => hear(rt, board, pass, acq, gate, bytes),
+        Some(bytes) => hear(rt, board, pass, acq, gate, bytes, mode),
         None => Heard {
             kept: false,
             opened: 0,
@@ -81,12 +84,13 @@ fn tick_acquisition<R: Wait, G: Gate>(
     acq: &mut Acq,
     gate: &G,
     moment: u64,
+    mode: Mode,
 )
     requires table { pass.old.table ≡ board_id board.now }
     requires fills { waiting_fills acq.old ≡ [] }
     requires requests { waiting_requests acq.old ≡ [] }
     requires backs { Backs pass.old (buffers acq.old) }
-    ensures ticks { TicksOnce (config_of acq.old) (Stands acq.old) (Stands acq.new) moment (waiting_requests acq.new) pass.old pass.new }
+    ensures ticks { TicksOnce mode (config_of acq.old) (Stands acq.old) (Stands acq.new) moment (waiting_requests acq.new) pass.old pass.new }
     ensures table { pass.new.table ≡ pass.old.table }
     ensures config { config_of acq.new ≡ config_of acq.old }
     ensures fills { waiting_fills acq.new ≡ [] }
@@ -94,5 +98,5 @@ fn tick_acquisition<R: Wait, G: Gate>(
     ensures alone { HoldsAlone pass.old (buffers acq.old) → HoldsAlone pass.new (buffers acq.new) }
 {
     acq.tick(moment);
-    fill_all(rt, board, pass, acq, gate);
+    fill_all(rt, board, pass, acq, gate, mode);
 }

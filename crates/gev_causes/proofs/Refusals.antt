@@ -155,7 +155,7 @@ by_setup_end (how.NoAnswer req) end turns made after = none_made (how.NoAnswer r
 by_setup_end (how.Refused status) end turns made after = none_made (how.Refused status) end made after.0 after.1
 
 pub refused_read : RefusedIsRead
-refused_read c camera stream o n journal journal_after turns end made turned last on =
+refused_read mode c camera stream o n journal journal_after turns end made turned last on =
     ap (λ l. l ++ reader_refusals on.client made) (set_refused stream o.client on.client on.setup on.setup_end on.set_up_by)
     ∙ (ap (λ l. refusal_of on.setup_end ++ l) (reader_refused c [] on.client n.client made on.controlled)
     ∙ by_setup_end on.setup_end end turns made on.ends)

@@ -139,7 +139,7 @@ by_setup_end c stream s u v setup made turns req (how.NoAnswer found) kept set a
 by_setup_end c stream s u v setup made turns req (how.Refused status) kept set after each = let bad : ⊥ = cc in absurd bad
 
 pub no_answer : NoAnswerIsUnanswered
-no_answer c camera stream o n journal journal_after turns req made turned last on new =
+no_answer mode c camera stream o n journal journal_after turns req made turned last on new =
     let shown : Shown c stream o.client on.client n.client on.setup made req =
     by_setup_end c stream o.client on.client n.client on.setup made turns req on.setup_end (subst (λ (k : Client). Kept k.asked []) (sym new) tt)
     on.set_up_by on.ends on.controlled

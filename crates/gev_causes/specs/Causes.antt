@@ -7,6 +7,7 @@ use Rattle.client_machine.specs.declared.outcome.Outcome.TheVariants.{Waiting, I
 use Rattle.client_machine.specs.Machine.{Client, HasSubmittedNone}
 use Rattle.client_machine.specs.Events.{Request}
 use Rattle.acquisition_machine.specs.declared.config.AcqConfig.{AcqConfig}
+use Rattle.mode_calls.specs.declared.mode.Mode.{Mode}
 use Rattle.gev_links.specs.Links.{Address}
 use Rattle.gev_control.specs.declared.acq_end.AcqEnd.{AcqEnd}
 use Rattle.gev_control.specs.declared.acq_end.AcqEnd.TheVariants as how
@@ -34,27 +35,27 @@ pub record IsUnanswered (req : ℕ) (ms : List Move) : Type 0 where
   pub sent : HasSent request SENDS ms
 
 -- the moves of the setup's turns and of the reader's
-abbrev pub run_moves : (c : AcqConfig) (camera stream : Address) (o n : Outside) (journal journal_after : List Turn) (turns : ℕ) (end : AcqEnd)
-    (made : List Turned) (turned last : List Event) → ReadsOn c camera stream o n journal journal_after turns end made turned last → List Move
-run_moves c camera stream o n journal journal_after turns end made turned last on =
+abbrev pub run_moves : (mode : Mode) (c : AcqConfig) (camera stream : Address) (o n : Outside) (journal journal_after : List Turn) (turns : ℕ) (end : AcqEnd)
+    (made : List Turned) (turned last : List Event) → ReadsOn mode c camera stream o n journal journal_after turns end made turned last → List Move
+run_moves mode c camera stream o n journal journal_after turns end made turned last on =
     setup_moves stream (set_up o.client 0) on.setup ++ reader_moves c [] on.client made
 
 -- Where the reader of a new client ends with NoAnswer, a request with that number was sent three times over the
 -- control link, and no matching acknowledge came after the first of these. The moves are what that link sent and
 -- heard.
-pub record GivesUpUnanswered (c : AcqConfig) (camera stream : Address) (o n : Outside) (journal journal_after : List Turn) (turns req : ℕ)
-    (made : List Turned) (turned last : List Event) (on : ReadsOn c camera stream o n journal journal_after turns (how.NoAnswer req) made turned last) : Type 0 where
-  pub unanswered : IsUnanswered req (later_moves [] (run_moves c camera stream o n journal journal_after turns (how.NoAnswer req) made turned last on))
-  pub sent : moves_sent (run_moves c camera stream o n journal journal_after turns (how.NoAnswer req) made turned last on)
+pub record GivesUpUnanswered (mode : Mode) (c : AcqConfig) (camera stream : Address) (o n : Outside) (journal journal_after : List Turn) (turns req : ℕ)
+    (made : List Turned) (turned last : List Event) (on : ReadsOn mode c camera stream o n journal journal_after turns (how.NoAnswer req) made turned last) : Type 0 where
+  pub unanswered : IsUnanswered req (later_moves [] (run_moves mode c camera stream o n journal journal_after turns (how.NoAnswer req) made turned last on))
+  pub sent : moves_sent (run_moves mode c camera stream o n journal journal_after turns (how.NoAnswer req) made turned last on)
       ≡ setup_sent stream (set_up o.client 0) on.setup ++ sends_in made
-  pub heard : moves_heard (run_moves c camera stream o n journal journal_after turns (how.NoAnswer req) made turned last on)
+  pub heard : moves_heard (run_moves mode c camera stream o n journal journal_after turns (how.NoAnswer req) made turned last on)
       ≡ datagrams (setup_heards on.setup ++ heards_in made)
 
 abbrev pub NoAnswerIsUnanswered : Type 0
 NoAnswerIsUnanswered =
-    (c : AcqConfig) (camera stream : Address) (o n : Outside) (journal journal_after : List Turn) (turns req : ℕ) (made : List Turned) (turned last : List Event)
-    (on : ReadsOn c camera stream o n journal journal_after turns (how.NoAnswer req) made turned last) → HasSubmittedNone o.client
-    → GivesUpUnanswered c camera stream o n journal journal_after turns req made turned last on
+    (mode : Mode) (c : AcqConfig) (camera stream : Address) (o n : Outside) (journal journal_after : List Turn) (turns req : ℕ) (made : List Turned) (turned last : List Event)
+    (on : ReadsOn mode c camera stream o n journal journal_after turns (how.NoAnswer req) made turned last) → HasSubmittedNone o.client
+    → GivesUpUnanswered mode c camera stream o n journal journal_after turns req made turned last on
 
 -- ---- refusals
 
@@ -90,6 +91,6 @@ refusal_of (how.Refused status) = status ∷ []
 -- The reader ends with Refused exactly where a refusal came, with its status, and no other refusal came.
 abbrev pub RefusedIsRead : Type 0
 RefusedIsRead =
-    (c : AcqConfig) (camera stream : Address) (o n : Outside) (journal journal_after : List Turn) (turns : ℕ) (end : AcqEnd) (made : List Turned) (turned last : List Event)
-    (on : ReadsOn c camera stream o n journal journal_after turns end made turned last)
+    (mode : Mode) (c : AcqConfig) (camera stream : Address) (o n : Outside) (journal journal_after : List Turn) (turns : ℕ) (end : AcqEnd) (made : List Turned) (turned last : List Event)
+    (on : ReadsOn mode c camera stream o n journal journal_after turns end made turned last)
     → setup_refusals stream (set_up o.client 0) on.setup ++ reader_refusals on.client made ≡ refusal_of end

@@ -4,9 +4,11 @@ use Rattle.board_machine.specs.declared.events.Entry.{Entry}
 use Rattle.board_machine.specs.declared.events.Event.{Event}
 use Rattle.board_machine.specs.declared.events.Event.TheVariants.{LookOut, LookRun, Grab, Lay, Pool, Claim, Fill, Take, Unpost, Stop, Split, Join}
 use Rattle.buffer_words.specs.Workers.{AreApart, AreOf, OnlyBy, IsChildless}
+use Rattle.mode_calls.specs.declared.mode.Mode.{Mode}
+use Rattle.mode_calls.specs.declared.mode.Mode.TheVariants.{OldestFirst}
 use Rattle.gev_crew.specs.Kinds.{is_cameras, is_applications, is_hosts}
 use Rattle.gev_reader.specs.Kinds.{is_readers, is_strict_readers}
-use Rattle.gev_live.specs.Kinds.{is_live, is_filling, is_handing}
+use Rattle.gev_live.specs.Kinds.{is_live, is_filling, is_taking, is_handing}
 
 -- what isn't of a live run
 abbrev pub is_other : Event → Bool
@@ -34,13 +36,15 @@ cameras_live (LookRun run) is = refl
 cameras_live (Stop kill answer) is = refl
 cameras_live _ is = absurd (cc)
 
-pub readers_live : AreApart is_readers is_other
-readers_live (LookRun run) is = refl
-readers_live (Claim place) is = refl
-readers_live (Fill place filling filled) is = refl
-readers_live (Lay place) is = refl
-readers_live (Stop kill answer) is = refl
-readers_live _ is = absurd (cc)
+pub readers_live : (mode : Mode) → AreApart (is_readers mode) is_other
+readers_live mode (LookRun run) is = refl
+readers_live mode (Claim place) is = refl
+readers_live mode (Take end) is = refl
+readers_live mode (Pool place) is = refl
+readers_live mode (Fill place filling filled) is = refl
+readers_live mode (Lay place) is = refl
+readers_live mode (Stop kill answer) is = refl
+readers_live mode _ is = absurd (cc)
 
 pub applications_live : AreApart is_applications is_other
 applications_live (LookRun run) is = refl
@@ -84,21 +88,41 @@ cameras_hand (LookRun run) is = refl
 cameras_hand (Stop kill answer) is = refl
 cameras_hand _ is = absurd (cc)
 
-pub strict_hand : AreApart is_strict_readers is_handing
-strict_hand (LookRun run) is = refl
-strict_hand (Claim place) is = refl
-strict_hand (Fill place filling filled) is = refl
-strict_hand (Stop kill answer) is = refl
-strict_hand _ is = absurd (cc)
+pub strict_hand : (mode : Mode) → AreApart (is_strict_readers mode) is_handing
+strict_hand mode (LookRun run) is = refl
+strict_hand mode (Claim place) is = refl
+strict_hand mode (Take end) is = refl
+strict_hand mode (Pool place) is = refl
+strict_hand mode (Fill place filling filled) is = refl
+strict_hand mode (Stop kill answer) is = refl
+strict_hand mode _ is = absurd (cc)
+
+pub hosts_take : AreApart is_hosts is_taking
+hosts_take (Split n) is = refl
+hosts_take (Join n) is = refl
+hosts_take _ is = absurd (cc)
+
+pub cameras_take : AreApart is_cameras is_taking
+cameras_take (LookRun run) is = refl
+cameras_take (Stop kill answer) is = refl
+cameras_take _ is = absurd (cc)
+
+-- with OldestFirst the reader takes nothing
+pub strict_take : AreApart (is_strict_readers OldestFirst) is_taking
+strict_take (LookRun run) is = refl
+strict_take (Claim place) is = refl
+strict_take (Fill place filling filled) is = refl
+strict_take (Stop kill answer) is = refl
+strict_take _ is = absurd (cc)
 
 pub childless_cameras : IsChildless is_cameras
 childless_cameras n = refl
 
-pub childless_readers : IsChildless is_readers
-childless_readers n = refl
+pub childless_readers : (mode : Mode) → IsChildless (is_readers mode)
+childless_readers mode n = refl
 
-pub childless_strict : IsChildless is_strict_readers
-childless_strict n = refl
+pub childless_strict : (mode : Mode) → IsChildless (is_strict_readers mode)
+childless_strict mode n = refl
 
 pub childless_applications : IsChildless is_applications
 childless_applications n = refl
@@ -127,9 +151,11 @@ pub all_live : (es : List Entry) → OnlyBy is_other [] es → AreOf is_live es
 all_live [] only = tt
 all_live (e ∷ es) only = (not_other e.event (bool_false (is_other e.event) only.0), all_live es only.1)
 
-pub strict_live : AreApart is_strict_readers is_other
-strict_live (LookRun run) is = refl
-strict_live (Claim place) is = refl
-strict_live (Fill place filling filled) is = refl
-strict_live (Stop kill answer) is = refl
-strict_live _ is = absurd (cc)
+pub strict_live : (mode : Mode) → AreApart (is_strict_readers mode) is_other
+strict_live mode (LookRun run) is = refl
+strict_live mode (Claim place) is = refl
+strict_live mode (Take end) is = refl
+strict_live mode (Pool place) is = refl
+strict_live mode (Fill place filling filled) is = refl
+strict_live mode (Stop kill answer) is = refl
+strict_live mode _ is = absurd (cc)

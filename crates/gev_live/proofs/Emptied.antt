@@ -18,6 +18,7 @@ use Rattle.buffer_words.proofs.Working.{are_of_entries}
 use Rattle.acquisition_machine.specs.declared.config.AcqConfig.{AcqConfig}
 use Rattle.acquisition_machine.specs.Machine.{stop}
 use Rattle.acquisition_machine.specs.Runs.{first_state, After as AfterInputs}
+use Rattle.mode_calls.specs.declared.mode.Mode.{Mode}
 use Rattle.gev_control.specs.declared.acq_end.AcqEnd.{AcqEnd}
 use Rattle.gev_acq.specs.Turns.{Turned}
 use Rattle.gev_acq.specs.Acquired.{inputs_in}
@@ -103,15 +104,15 @@ own_front kind k g l h is none =
 -- ---- the reader's own entries
 
 -- before its last entry the reader stops nothing
-reader_front : (c : AcqConfig) (n : ℕ) (end : AcqEnd) (made : List Turned) (h g l : List Entry) → LiveReading c n end made h → h ≡ g ++ l → own_of n l ≢ []
+reader_front : (mode : Mode) (c : AcqConfig) (n : ℕ) (end : AcqEnd) (made : List Turned) (h g l : List Entry) → LiveReading mode c n end made h → h ≡ g ++ l → own_of n l ≢ []
     → HasNone is_stop (own_of n g)
-reader_front c n end made h g l reading is some =
+reader_front mode c n end made h g l reading is some =
     front_none is_stop (own_of n g) (own_of n l) (entries_of n (reading.turned ++ (reading.last ++ reading.drained))) (entry n (Stop false reading.answer))
     (sym (own_of-append n g l) ∙ (sym (ap (λ x. own_of n x) is) ∙ (reading.own ∙ whole))) some
     (entries_unstopped n (reading.turned ++ (reading.last ++ reading.drained))
-    (both_unstopped reading.turned (reading.last ++ reading.drained) (turns_unstopped c first_state made reading.turned reading.turns)
+    (both_unstopped reading.turned (reading.last ++ reading.drained) (turns_unstopped mode c first_state made reading.turned reading.turns)
     (both_unstopped reading.last reading.drained (last_unstopped end reading.last reading.looks)
-    (served_unstopped c (AfterInputs c (inputs_in made)) (stop ∷ []) reading.drained reading.drains))))
+    (served_unstopped mode c (AfterInputs c (inputs_in made)) (stop ∷ []) reading.drained reading.drains))))
   where
     whole : entries_of n (reading.turned ++ (reading.last ++ (reading.drained ++ Stop false reading.answer ∷ [])))
         ≡ entries_of n (reading.turned ++ (reading.last ++ reading.drained)) ++ entry n (Stop false reading.answer) ∷ []
@@ -123,10 +124,10 @@ reader_front c n end made h g l reading is some =
 
 -- ---- the end
 
-pub emptied : (c : AcqConfig) (buffers : ℕ) (k : Crew) (end : AcqEnd) (made : List Turned) (looked : List Looked) (h : List Entry) → LiveHistory buffers k h
-    → LiveReading c k.reader end made h → LiveTakes k.application looked h → EndsStopped looked → HasNone is_stop (own_of k.camera h)
+pub emptied : (mode : Mode) (c : AcqConfig) (buffers : ℕ) (k : Crew) (end : AcqEnd) (made : List Turned) (looked : List Looked) (h : List Entry) → LiveHistory mode buffers k h
+    → LiveReading mode c k.reader end made h → LiveTakes k.application looked h → EndsStopped looked → HasNone is_stop (own_of k.camera h)
     → HasNone is_stop (own_of 0 h) → (After h).out ≡ []
-emptied c buffers k end made looked h history reading takes stopped camera host = by_reader (own_of k.reader two.later) refl
+emptied mode c buffers k end made looked h history reading takes stopped camera host = by_reader (own_of k.reader two.later) refl
   where
     n : ℕ
     n = k.application
@@ -207,7 +208,7 @@ emptied c buffers k end made looked h history reading takes stopped camera host 
     reader_before some =
         own_front is_stop k.reader one.front (look ∷ (two.front ++ found ∷ [])) (front ++ found ∷ [])
         (append_assoc one.front (look ∷ two.front) (found ∷ []))
-        (reader_front c k.reader end made h (front ++ found ∷ []) two.later reading (whole ∙ sym (append_assoc front (found ∷ []) two.later)) some)
+        (reader_front mode c k.reader end made h (front ++ found ∷ []) two.later reading (whole ∙ sym (append_assoc front (found ∷ []) two.later)) some)
 
     by_worker : (i : ℕ) → own_of k.reader two.later ≢ [] → 1 ≤ times i (0 ∷ workers_of k) → HasNone is_stop (own_of i one.front)
     by_worker i some member = first (member_or i 0 (workers_of k) member)

@@ -1,10 +1,9 @@
 -- Where fewer frames were handed out than asked, and nothing failed, the output is empty.
-use Rattle.std.proofs.Common.{◌≡◌, ◌⊎◌, inl, inr, ℕ, ◌==◌, Bool, true, false, cond, List, [], ◌∷◌, ◌++◌, length, Option, Result, Ok, Err, refl, sym, ap, subst, ◌∙◌}
-use Rattle.std.proofs.lemmas.Bool.{cond_both, eqb-true}
+use Rattle.std.proofs.Common.{◌≡◌, ◌⊎◌, inl, inr, ℕ, Bool, true, false, List, [], ◌∷◌, Option, Result, Ok, Err, refl, sym, ap, subst, ◌∙◌}
 use Rattle.gev_types.specs.declared.memory.NoMemory as memory
 use Rattle.board_machine.specs.declared.events.Entry.{Entry}
 use Rattle.board_machine.specs.declared.events.Event.{Event}
-use Rattle.board_machine.specs.declared.events.Event.TheVariants.{LookRun, LookOut, Enrol, Lay, Grab, Pool, Start, Split, Join, Stop}
+use Rattle.board_machine.specs.declared.events.Event.TheVariants.{LookRun, LookOut, Enrol, Lay, Grab, Pool, Start, Split, Join}
 use Rattle.board_machine.specs.Histories.{After, own_of}
 use Rattle.board_machine.specs.Kinds.{HasNone, is_stop}
 use Rattle.board_machine.specs.Adding.{entries_of}
@@ -15,12 +14,12 @@ use Rattle.buffer_words.specs.Workers.{AreOf, AreEvents, Works, Worker, Hosts}
 use Rattle.buffer_words.proofs.Working.{works_enters, works_each, works_then, works_own}
 use Rattle.camera_machine.specs.Camera.{Camera}
 use Rattle.gev_status.specs.declared.status.Status.{Status}
-use Rattle.gev_status.specs.declared.status.Status.TheVariants as status
 use Rattle.gev_serve.specs.declared.ends.ServeEnd.{ServeEnd}
 use Rattle.gev_serve.specs.declared.ends.ServeEnd.TheVariants as serves
 use Rattle.gev_serve.specs.Wires.{Wire}
 use Rattle.gev_serve.specs.Turns.{Served, looks_in}
 use Rattle.gev_serve.specs.Serving.{ServesOn, ServesTo}
+use Rattle.mode_calls.specs.declared.mode.Mode.{Mode}
 use Rattle.gev_control.specs.declared.acq_end.AcqEnd.{AcqEnd}
 use Rattle.gev_control.specs.declared.acq_end.AcqEnd.TheVariants as reads
 use Rattle.gev_acq.specs.Turns.{Turned}
@@ -29,8 +28,8 @@ use Rattle.gev_reader.specs.History.{LiveReading}
 use Rattle.gev_crew.specs.Prepared.{Prepares, SawOnly}
 use Rattle.gev_crew.specs.Kinds.{is_hosts}
 use Rattle.gev_crew.specs.Work.{StopsIf, has_failed, most_turns, ServesAndStops}
-use Rattle.gev_live.specs.History.{Crew, live_size, LiveHistory}
-use Rattle.gev_live.specs.Endings.{taken_of, read_status, application_status, camera_status, status_by, is_told, FailsLast}
+use Rattle.gev_live.specs.History.{Crew, LiveHistory}
+use Rattle.gev_live.specs.Endings.{taken_of, camera_status, status_by, is_told, FailsLast}
 use Rattle.gev_live.specs.Parts.{LiveApplication}
 use Rattle.gev_live.proofs.Quiet.{is_beginning, beginning_are, none_both, own_none}
 use Rattle.gev_live.proofs.Emptied.{emptied}
@@ -129,18 +128,18 @@ first_told : (first answer : Status) → (answer ≡ first) ⊎ ((is_told first 
 first_told first answer (inl e) told = ap is_told (sym e) ∙ told
 first_told first answer (inr fails) told = fails.0
 
-pub all_or_empty : (c : AcqConfig) (buffers : ℕ) (k : Crew) (served : ServeEnd) (end : AcqEnd) (made : List Turned) (told now : Option (List ℕ)) (frames turns : ℕ) (lines : List ℕ) (applied : Result ℕ memory.NoMemory) (answer : Status) (h : List Entry)
-    → LiveHistory buffers k h → LiveReading c k.reader end made h → LiveApplication told now frames k.application lines applied h
+pub all_or_empty : (mode : Mode) (c : AcqConfig) (buffers : ℕ) (k : Crew) (served : ServeEnd) (end : AcqEnd) (made : List Turned) (told now : Option (List ℕ)) (frames turns : ℕ) (lines : List ℕ) (applied : Result ℕ memory.NoMemory) (answer : Status) (h : List Entry)
+    → LiveHistory mode buffers k h → LiveReading mode c k.reader end made h → LiveApplication mode told now frames k.application lines applied h
     → (has_failed served ≡ false → HasNone is_stop (own_of k.camera h)) → HasNone is_stop (own_of 0 h)
     → (answer ≡ status_by served end frames turns applied) ⊎ ((is_told (status_by served end frames turns applied) ≡ true) × FailsLast answer) → is_told answer ≡ true
     → (taken_of applied ≡ frames) ⊎ ((After h).out ≡ [])
-all_or_empty c buffers k served end made told now frames turns lines (Ok taken) answer h history reading application camera host cause is = go application.told_lines.2
+all_or_empty mode c buffers k served end made told now frames turns lines (Ok taken) answer h history reading application camera host cause is = go application.told_lines.2
   where
     well : has_failed served ≡ false
     well = told_well served end frames turns (Ok taken) (first_told (status_by served end frames turns (Ok taken)) answer cause is)
 
     go : IsEnough frames taken application.made → (taken ≡ frames) ⊎ ((After h).out ≡ [])
     go (inl all) = inl all.0
-    go (inr stopped) = inr (emptied c buffers k end made application.made h history reading application.takes stopped (camera well) host)
-all_or_empty c buffers k served end made told now frames turns lines (Err error) answer h history reading application camera host cause is =
+    go (inr stopped) = inr (emptied mode c buffers k end made application.made h history reading application.takes stopped (camera well) host)
+all_or_empty mode c buffers k served end made told now frames turns lines (Err error) answer h history reading application camera host cause is =
     absurd (told_well served end frames turns (Err error) (first_told (status_by served end frames turns (Err error)) answer cause is))

@@ -13,3 +13,5 @@ pub mod Splitting
 pub mod Looking
 pub mod Emptied
 pub mod Handing
+pub mod Untaken
+pub mod Acquiring

@@ -16,7 +16,7 @@ use Rattle.board_calls.specs.Rounds.{refused_from}
 use Rattle.board_calls.specs.Calls.{OpensWith}
 use Rattle.buffer_words.specs.Workers.{AreOf, AreEvents, OnlyBy}
 use Rattle.gev_crew.specs.Prepared.{PreparesOne, PreparesEach, Prepares}
-use Rattle.gev_live.specs.Kinds.{is_live, is_handing}
+use Rattle.gev_live.specs.Kinds.{is_live, is_taking}
 
 -- ---- the beginning
 
@@ -183,7 +183,7 @@ one_size size buffers prepared since h prepares begins live =
 
 -- ---- all takes are one actor's
 
-begins_untaken : (event : Event) → is_beginning event ≡ true → is_taken event ≡ false
+pub begins_untaken : (event : Event) → is_beginning event ≡ true → is_taken event ≡ false
 begins_untaken (LookOut output closed) is = refl
 begins_untaken (Enrol place size answer) is = refl
 begins_untaken (Lay place) is = refl
@@ -196,19 +196,19 @@ events_untaken : (k n : ℕ) (es : List Event) → AreEvents is_beginning es →
 events_untaken k n [] are = tt
 events_untaken k n (e ∷ es) are = ((λ is. let no : is_taken e ≡ false = begins_untaken e are.0 in absurd (cc)), events_untaken k n es are.1)
 
-taken_hands : (event : Event) → is_taken event ≡ true → is_handing event ≡ true
-taken_hands (Take (Taken place)) is = refl
-taken_hands _ is = absurd (cc)
+pub taken_takes : (event : Event) → is_taken event ≡ true → is_taking event ≡ true
+taken_takes (Take (Taken place)) is = refl
+taken_takes _ is = absurd (cc)
 
-since_taken : (k : ℕ) (es : List Entry) → OnlyBy is_handing (k ∷ []) es → TakesAreBy k es
+since_taken : (k : ℕ) (es : List Entry) → OnlyBy is_taking (k ∷ []) es → TakesAreBy k es
 since_taken k [] only = tt
-since_taken k (e ∷ es) only = ((λ is. same_is e.by k (omega (arith, only.0 (taken_hands e.event is)))), since_taken k es only.1)
+since_taken k (e ∷ es) only = ((λ is. same_is e.by k (omega (arith, only.0 (taken_takes e.event is)))), since_taken k es only.1)
 
 takes_both : (k : ℕ) (g h : List Entry) → TakesAreBy k g → TakesAreBy k h → TakesAreBy k (g ++ h)
 takes_both k [] h first second = second
 takes_both k (e ∷ g) h first second = (first.0, takes_both k g h first.1 second)
 
-pub takes_by : (k size buffers : ℕ) (prepared : List Event) (since h : List Entry) → Prepares size buffers prepared → h ≡ entries_of 0 prepared ++ since → OnlyBy is_handing (k ∷ []) since → TakesAreBy k h
+pub takes_by : (k size buffers : ℕ) (prepared : List Event) (since h : List Entry) → Prepares size buffers prepared → h ≡ entries_of 0 prepared ++ since → OnlyBy is_taking (k ∷ []) since → TakesAreBy k h
 takes_by k size buffers prepared since h prepares begins only =
     subst (λ l. TakesAreBy k l) (sym begins)
     (takes_both k (entries_of 0 prepared) since (events_untaken k 0 prepared (beginning_are size buffers prepared prepares)) (since_taken k since only))

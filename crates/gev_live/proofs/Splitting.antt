@@ -83,12 +83,12 @@ front_none kind (x ∷ xs) zs (y ∷ ys) z is some none_there = (
 
 -- ---- kinds
 
-none_later : (kind : Event → Bool) (k : ℕ) (e : Entry) (h : List Entry) → HasNone kind (own_of k (e ∷ h)) → HasNone kind (own_of k h)
+pub none_later : (kind : Event → Bool) (k : ℕ) (e : Entry) (h : List Entry) → HasNone kind (own_of k (e ∷ h)) → HasNone kind (own_of k h)
 none_later kind k e h none_there =
     cond_both (e.by == k) (e ∷ own_of k h) (own_of k h) (λ l. HasNone kind l → HasNone kind (own_of k h)) (λ mine none_own. none_own.1)
     (λ other none_own. none_own) none_there
 
-none_here : (kind : Event → Bool) (e : Entry) (h : List Entry) → HasNone kind (own_of e.by (e ∷ h)) → kind e.event ≡ false
+pub none_here : (kind : Event → Bool) (e : Entry) (h : List Entry) → HasNone kind (own_of e.by (e ∷ h)) → kind e.event ≡ false
 none_here kind e h none_there =
     (subst (λ l. HasNone kind l) (cond-true (e.by == e.by) (e ∷ own_of e.by h) (own_of e.by h) (eq-eqb e.by e.by refl)) none_there).0
 

@@ -20,9 +20,12 @@ use Rattle.gev_crew.specs.Kinds.{is_cameras, is_applications, is_hosts}
 use Rattle.gev_crew.specs.Homes.{CameHome, CrewHome}
 use Rattle.gev_crew.proofs.Crews.{home_worker, crew_hosted, crew_apart}
 use Rattle.gev_reader.specs.Kinds.{is_readers, is_strict_readers}
-use Rattle.gev_live.specs.Kinds.{is_live, is_filling, is_handing}
+use Rattle.mode_calls.specs.declared.mode.Mode.{Mode}
+use Rattle.mode_calls.specs.declared.mode.Mode.TheVariants.{OldestFirst, OldestFirstOverwrite, NewestOnly}
+use Rattle.gev_live.specs.Kinds.{is_live, is_filling, is_taking, is_handing}
+use Rattle.gev_live.specs.Acquirers.{takers}
 use Rattle.gev_live.specs.History.{Crew, live_size, LiveHistory}
-use Rattle.gev_live.proofs.Apart.{is_other, hosts_live, cameras_live, readers_live, applications_live, hosts_fill, cameras_fill, applications_fill, hosts_hand, cameras_hand, strict_hand, childless_cameras, childless_readers, childless_strict, childless_applications, all_live, strict_live}
+use Rattle.gev_live.proofs.Apart.{is_other, hosts_live, cameras_live, readers_live, applications_live, hosts_fill, cameras_fill, applications_fill, hosts_hand, cameras_hand, strict_hand, hosts_take, cameras_take, strict_take, childless_cameras, childless_readers, childless_strict, childless_applications, all_live, strict_live}
 use Rattle.gev_live.proofs.Quiet.{never_closed, own_none}
 
 -- ---- a worker's entries in the whole history
@@ -47,14 +50,14 @@ home_prefix s t given worked u v h came front = prefix_then worked.seen v.seen h
 -- ---- the history
 
 -- What the preparation, the splits, the workers and the joins ensured, from the empty board on.
-pub record Story (buffers : ℕ) (s one two three home back u a worked_a b worked_b d worked_d : Token) : Type 0 where
+pub record Story (mode : Mode) (buffers : ℕ) (s one two three home back u a worked_a b worked_b d worked_d : Token) : Type 0 where
   pub prepared : SawOnly (Prepares live_size buffers) s
   pub crew : CrewHome s one two three home back u a worked_a b worked_b d worked_d
   pub camera : Works is_cameras a worked_a
-  pub reader : Works is_readers b worked_b
+  pub reader : Works (is_readers mode) b worked_b
   pub application : Works is_applications d worked_d
   -- where no fill was refused the reader laid nothing
-  pub strict : HasNone is_fill_refused (own worked_b) → AreOf is_strict_readers (own worked_b)
+  pub strict : HasNone is_fill_refused (own worked_b) → AreOf (is_strict_readers mode) (own worked_b)
   pub owned : IsOwned (After u.seen)
   pub legal : IsLegal u.seen
 
@@ -67,9 +70,20 @@ none_refused h run none = open_takes_fills [] h run refl none
 apart_again : (i a b d : ℕ) → times i (a ∷ b ∷ d ∷ []) ≤ 1 → times i (d ∷ b ∷ a ∷ []) ≤ 1
 apart_again i a b d once = omega (arith, once)
 
-pub live_history : (buffers : ℕ) (s one two three home back u a worked_a b worked_b d worked_d : Token) → Story buffers s one two three home back u a worked_a b worked_b d worked_d
-    → LiveHistory buffers (crew_of a b d) u.seen
-live_history buffers s one two three home back u a worked_a b worked_b d worked_d w = record {
+-- Who takes and pools by the mode.
+takes_alone : (mode : Mode) (front seen : List Entry) (a b d : Token) (worked_a worked_b worked_d : Token)
+    → (hosted : HostedAll front is_hosts seen (home_worker is_applications d worked_d ∷ home_worker (is_strict_readers mode) b worked_b ∷ home_worker is_cameras a worked_a ∷ []))
+    → OnlyBy is_taking (takers mode d.number (b.number ∷ [])) hosted.since
+takes_alone OldestFirst front seen a b d worked_a worked_b worked_d hosted =
+    hosted.only is_taking (d.number ∷ []) (inr hosts_take) (inl (omega (arith, same_self d.number)), (inr strict_take, (inr cameras_take, tt)))
+takes_alone OldestFirstOverwrite front seen a b d worked_a worked_b worked_d hosted =
+    hosted.only is_taking (d.number ∷ b.number ∷ []) (inr hosts_take) (inl (omega (arith, same_self d.number)), (inl (omega (arith, same_self b.number)), (inr cameras_take, tt)))
+takes_alone NewestOnly front seen a b d worked_a worked_b worked_d hosted =
+    hosted.only is_taking (d.number ∷ b.number ∷ []) (inr hosts_take) (inl (omega (arith, same_self d.number)), (inl (omega (arith, same_self b.number)), (inr cameras_take, tt)))
+
+pub live_history : (mode : Mode) (buffers : ℕ) (s one two three home back u a worked_a b worked_b d worked_d : Token) → Story mode buffers s one two three home back u a worked_a b worked_b d worked_d
+    → LiveHistory mode buffers (crew_of a b d) u.seen
+live_history mode buffers s one two three home back u a worked_a b worked_b d worked_d w = record {
   run = w.crew.ended_run;
   owned = w.owned;
   legal = w.legal;
@@ -80,9 +94,10 @@ live_history buffers s one two three home back u a worked_a b worked_b d worked_
   prepares = w.prepared.kind;
   since = tight.since;
   begins = begins_tight;
-  kinds = live tight.since (tight.only is_other [] (inr hosts_live) (inr applications_live, (inr strict_live, (inr cameras_live, tt))));
+  kinds = live tight.since (tight.only is_other [] (inr hosts_live) (inr applications_live, (inr (strict_live mode), (inr cameras_live, tt))));
   fills = tight.only is_filling (b.number ∷ []) (inr hosts_fill) (inr applications_fill, (inl (omega (arith, same_self b.number)), (inr cameras_fill, tt)));
-  hands = tight.only is_handing (d.number ∷ []) (inr hosts_hand) (inl (omega (arith, same_self d.number)), (inr strict_hand, (inr cameras_hand, tt)));
+  takes = takes_alone mode s.seen u.seen a b d worked_a worked_b worked_d tight;
+  hands = tight.only is_handing (d.number ∷ []) (inr hosts_hand) (inl (omega (arith, same_self d.number)), (inr (strict_hand mode), (inr cameras_hand, tt)));
 }
   where
     live : (es : List Entry) → OnlyBy is_other [] es → AreOf is_live es
@@ -91,25 +106,25 @@ live_history buffers s one two three home back u a worked_a b worked_b d worked_
     of_a : AreOf is_cameras (own worked_a)
     of_a = works_own is_cameras a worked_a w.crew.first.new w.camera
 
-    of_b : AreOf is_readers (own worked_b)
-    of_b = works_own is_readers b worked_b w.crew.second.new w.reader
+    of_b : AreOf (is_readers mode) (own worked_b)
+    of_b = works_own (is_readers mode) b worked_b w.crew.second.new w.reader
 
     of_d : AreOf is_applications (own worked_d)
     of_d = works_own is_applications d worked_d w.crew.third.new w.application
 
-    loose : HostedAll s.seen is_hosts u.seen (home_worker is_applications d worked_d ∷ home_worker is_readers b worked_b ∷ home_worker is_cameras a worked_a ∷ [])
-    loose = crew_hosted s one two three home back u a worked_a b worked_b d worked_d is_cameras is_readers is_applications w.crew of_a of_b of_d childless_cameras childless_readers childless_applications
+    loose : HostedAll s.seen is_hosts u.seen (home_worker is_applications d worked_d ∷ home_worker (is_readers mode) b worked_b ∷ home_worker is_cameras a worked_a ∷ [])
+    loose = crew_hosted s one two three home back u a worked_a b worked_b d worked_d is_cameras (is_readers mode) is_applications w.crew of_a of_b of_d childless_cameras (childless_readers mode) childless_applications
 
     unclosed : HasNone is_close u.seen
     unclosed = never_closed live_size buffers w.prepared.events loose.since u.seen w.prepared.kind (loose.seen_since ∙ ap (λ l. l ++ loose.since) w.prepared.seen)
-        (live loose.since (loose.only is_other [] (inr hosts_live) (inr applications_live, (inr readers_live, (inr cameras_live, tt)))))
+        (live loose.since (loose.only is_other [] (inr hosts_live) (inr applications_live, (inr (readers_live mode), (inr cameras_live, tt)))))
 
     unrefused : HasNone is_fill_refused (own worked_b)
     unrefused = subst (λ l. HasNone is_fill_refused l) (home_own one two b worked_b home back u.seen w.crew.second (seen_more back u (Join worked_d.number) w.crew.third.joins) w.crew.ended_run)
         (own_none is_fill_refused b.number u.seen (none_refused u.seen w.crew.ended_run unclosed))
 
-    tight : HostedAll s.seen is_hosts u.seen (home_worker is_applications d worked_d ∷ home_worker is_strict_readers b worked_b ∷ home_worker is_cameras a worked_a ∷ [])
-    tight = crew_hosted s one two three home back u a worked_a b worked_b d worked_d is_cameras is_strict_readers is_applications w.crew of_a (w.strict unrefused) of_d childless_cameras childless_strict childless_applications
+    tight : HostedAll s.seen is_hosts u.seen (home_worker is_applications d worked_d ∷ home_worker (is_strict_readers mode) b worked_b ∷ home_worker is_cameras a worked_a ∷ [])
+    tight = crew_hosted s one two three home back u a worked_a b worked_b d worked_d is_cameras (is_strict_readers mode) is_applications w.crew of_a (w.strict unrefused) of_d childless_cameras (childless_strict mode) childless_applications
 
     begins_tight : u.seen ≡ entries_of 0 w.prepared.events ++ tight.since
     begins_tight = tight.seen_since ∙ ap (λ l. l ++ tight.since) w.prepared.seen

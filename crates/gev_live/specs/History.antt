@@ -11,7 +11,9 @@ use Rattle.board_machine.specs.Actors.{AllBy}
 use Rattle.board_machine.specs.Adding.{entries_of}
 use Rattle.buffer_words.specs.Workers.{AreOf, OnlyBy}
 use Rattle.gev_crew.specs.Prepared.{Prepares}
-use Rattle.gev_live.specs.Kinds.{is_live, is_filling, is_handing}
+use Rattle.mode_calls.specs.declared.mode.Mode.{Mode}
+use Rattle.gev_live.specs.Kinds.{is_live, is_filling, is_taking, is_handing}
+use Rattle.gev_live.specs.Acquirers.{takers}
 
 -- the numbers of the workers' actors
 pub record Crew : Type 0 where
@@ -28,9 +30,10 @@ live_size = 307200
 
 -- A history from the empty board on, in which each place has one owner, at every step, and buffers are handed out
 -- in the order of their fills. It begins with so many buffers, which the first actor announces and queues, and with
--- the start. After that claims and fills are the reader's alone, and takes, lays, grabs, poolings and unposts the
--- application's; all else is looks, splits, joins and stops. At the end the first actor is alone again.
-pub record LiveHistory (buffers : ℕ) (k : Crew) (h : List Entry) : Type 0 where
+-- the start. After that claims and fills are the reader's alone, and lays, grabs and unposts the application's. Takes and
+-- poolings are the application's too, and with the other modes than OldestFirst those of the reader's claims and fills;
+-- all else is looks, splits, joins and stops. At the end the first actor is alone again.
+pub record LiveHistory (mode : Mode) (buffers : ℕ) (k : Crew) (h : List Entry) : Type 0 where
   pub run : Run h
   pub owned : IsOwned (After h)
   pub legal : IsLegal h
@@ -43,4 +46,5 @@ pub record LiveHistory (buffers : ℕ) (k : Crew) (h : List Entry) : Type 0 wher
   pub begins : h ≡ entries_of 0 prepared ++ since
   pub kinds : AreOf is_live since
   pub fills : OnlyBy is_filling (k.reader ∷ []) since
+  pub takes : OnlyBy is_taking (takers mode k.application (k.reader ∷ [])) since
   pub hands : OnlyBy is_handing (k.application ∷ []) since

@@ -25,11 +25,15 @@ is_filling (Claim place) = true
 is_filling (Fill place filling filled) = true
 is_filling _ = false
 
--- a buffer is taken, laid, grabbed or pooled, or the kill mark is cleared
+-- a buffer is taken or pooled
+abbrev pub is_taking : Event → Bool
+is_taking (Take end) = true
+is_taking (Pool place) = true
+is_taking _ = false
+
+-- a buffer is laid or grabbed, or the kill mark is cleared
 abbrev pub is_handing : Event → Bool
-is_handing (Take end) = true
 is_handing (Lay place) = true
 is_handing (Grab place generation answer) = true
-is_handing (Pool place) = true
 is_handing (Unpost stood) = true
 is_handing _ = false

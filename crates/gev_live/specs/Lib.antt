@@ -1,4 +1,5 @@
 pub mod Kinds
+pub mod Acquirers
 pub mod History
 pub mod Told
 pub mod Endings

@@ -4,6 +4,7 @@ use Rattle.gev_types.specs.declared.memory.NoMemory.{NoMemory}
 use Rattle.board_machine.specs.declared.events.Entry.{Entry}
 use Rattle.board_machine.specs.Histories.{After}
 use Rattle.board_machine.specs.Laws.{IsAlone}
+use Rattle.mode_calls.specs.declared.mode.Mode.{Mode}
 use Rattle.gev_links.specs.Links.{Address}
 use Rattle.gev_report.specs.LiveLine.{live_line}
 use Rattle.gev_serve.specs.declared.ends.ServeEnd.{ServeEnd}
@@ -29,6 +30,8 @@ pub record Numbers : Type 0 where
   pub buffers : ℕ
   -- the most turns of the reader
   pub turns : ℕ
+  -- what a new block does with buffers that wait for the application
+  pub mode : Mode
 
 -- no call of a link failed
 pub record LinksStay (o e : Told) : Type 0 where
@@ -52,14 +55,14 @@ Means _ frames turns taken made read = ⊤
 -- The three workers ran, and ended so. `camera` is the address of the camera's link, `stream` that of the stream's.
 pub record LiveRun (n : Numbers) (camera stream : Address) (answer : Status) (o e : Told) (written written_after : Option (List ℕ)) (faults faults_after : ℕ) (h : List Entry) : Type 0 where
   pub crew : Crew
-  pub history : LiveHistory n.buffers crew h
+  pub history : LiveHistory n.mode n.buffers crew h
   pub served : ServeEnd
   pub camera_part : LiveCamera (live_camera n.seed) o.camera e.camera o.camera_clock e.camera_clock served
   pub read : AcqEnd
-  pub reader_part : LiveReader live_config camera stream o e n.turns crew.reader read h
+  pub reader_part : LiveReader n.mode live_config camera stream o e n.turns crew.reader read h
   pub applied : Result ℕ NoMemory
   pub lines : List ℕ
-  pub application_part : LiveApplication o.app_clock e.app_clock n.frames crew.application lines applied h
+  pub application_part : LiveApplication n.mode o.app_clock e.app_clock n.frames crew.application lines applied h
   pub ended : EndsSo (status_by served read n.frames n.turns applied) answer (lines ++ live_line n.frames (taken_of applied)) written written_after faults faults_after
   pub steady : answer ≢ status.LinkFault → LinksStay o e
   pub failed : answer ≡ status.LinkFault → LinkFailed o e

@@ -20,7 +20,9 @@ use Rattle.gev_acq.specs.Turns.{Turned}
 use Rattle.gev_acq.specs.Acquired.{inputs_in}
 use Rattle.gev_reader.specs.Reads.{ReadsOn}
 use Rattle.gev_reader.specs.History.{LiveReading, AreSized}
-use Rattle.board_machine.specs.Handout.{handed_items, taken_items}
+use Rattle.board_machine.specs.Handout.{taken_items}
+use Rattle.mode_calls.specs.declared.mode.Mode.{Mode}
+use Rattle.gev_live.specs.Acquirers.{handed_out, DropsNothing}
 use Rattle.gev_links.specs.Faults.{Rose}
 use Rattle.gev_links.specs.Moments.{TellsEach}
 use Rattle.gev_serve.specs.declared.ends.ServeEnd.TheVariants as serves
@@ -35,17 +37,17 @@ use Rattle.gev_crew.specs.Work.{most_turns}
 use Rattle.gev_live.specs.Told.{Told, reader_side}
 use Rattle.gev_live.specs.History.{live_size}
 
--- The reader, actor k: it set the camera up, made these turns, served the receiver's inputs, stopped the receiver
--- and then the run. What it put into the output is what its turns' inputs and the stop retire, in order; each
+-- The reader, actor k: it set the camera up, made these turns, served the receiver's inputs by the mode, stopped the
+-- receiver and then the run. What it put into the output is what its turns' inputs and the stop retire, in order; each
 -- buffer that it claimed has the run's size.
-pub record LiveReader (c : AcqConfig) (camera stream : Address) (o e : Told) (turns k : ℕ) (end : AcqEnd) (h : List Entry) : Type 0 where
+pub record LiveReader (mode : Mode) (c : AcqConfig) (camera stream : Address) (o e : Told) (turns k : ℕ) (end : AcqEnd) (h : List Entry) : Type 0 where
   pub client : Client
   pub journal : List Turn
   pub made : List Turned
   pub turned : List Event
   pub last : List Event
-  pub on : ReadsOn c camera stream (reader_side o new_client) (reader_side e client) [] journal turns end made turned last
-  pub reading : LiveReading c k end made h
+  pub on : ReadsOn mode c camera stream (reader_side o new_client) (reader_side e client) [] journal turns end made turned last
+  pub reading : LiveReading mode c k end made h
   pub fills : tried (own_of k h) ≡ retired_items c (inputs_in made ++ stop ∷ [])
   pub sized : AreSized live_size (claims_in (inputs_in made))
   pub faults : FaultsOf (is_fault_end end) o.stream.faults e.stream.faults o.control.faults e.control.faults
@@ -85,10 +87,12 @@ TellsTaken frames made lines (Err error) =
     (before : List Looked) × (last : Looked) × (made ≡ before ++ last ∷ []) × (length (lent_in before) < frames) × (lines ≡ lines_of (lent_in before))
 
 -- The application, actor k: its entries are those of these turns and of at most one stop. What it took, with the bytes
--- and the records of the fills, is all that was handed out; its lines are those of these buffers, in order.
-pub record LiveApplication (told now_told : Option (List ℕ)) (frames k : ℕ) (lines : List ℕ) (answer : Result ℕ NoMemory) (h : List Entry) : Type 0 where
+-- and the records of the fills, is all that was handed out, and with OldestFirst all that was ever taken; its lines are
+-- those of these buffers, in order.
+pub record LiveApplication (mode : Mode) (told now_told : Option (List ℕ)) (frames k : ℕ) (lines : List ℕ) (answer : Result ℕ NoMemory) (h : List Entry) : Type 0 where
   pub made : List Looked
   pub takes : LiveTakes k made h
-  pub handed : handed_items h ≡ taken_items k h
+  pub handed : handed_out h ≡ taken_items k h
+  pub undropped : DropsNothing mode k h
   pub tells : TellsEach told now_told (application.moments_in made)
   pub told_lines : TellsTaken frames made lines answer

@@ -9,6 +9,7 @@ use Rattle.buffer_words.specs.Passes.{Token}
 use Rattle.buffer_words.specs.Workers.{Works}
 use Rattle.client_machine.specs.Machine.{Client, new_client}
 use Rattle.camera_machine.specs.Camera.{Camera}
+use Rattle.mode_calls.specs.declared.mode.Mode.{Mode}
 use Rattle.gev_links.specs.Links.{Address}
 use Rattle.gev_serve.specs.declared.ends.ServeEnd.{ServeEnd}
 use Rattle.gev_control.specs.declared.acq_end.AcqEnd.{AcqEnd}
@@ -24,7 +25,7 @@ use Rattle.gev_live.specs.Told.{Told, reader_side}
 
 -- The workers' passes a, b and d were split off from the token s on and joined up to the token u, and each worker
 -- kept its promise.
-pub record RanCrew (c : AcqConfig) (new : Camera) (camera stream : Address) (o e : Told) (frames turns : ℕ) (served : ServeEnd) (read : AcqEnd) (answer : Result ℕ NoMemory) (lines : List ℕ) (s u : Token) : Type 0 where
+pub record RanCrew (mode : Mode) (c : AcqConfig) (new : Camera) (camera stream : Address) (o e : Told) (frames turns : ℕ) (served : ServeEnd) (read : AcqEnd) (answer : Result ℕ NoMemory) (lines : List ℕ) (s u : Token) : Type 0 where
   pub one : Token
   pub two : Token
   pub three : Token
@@ -41,8 +42,8 @@ pub record RanCrew (c : AcqConfig) (new : Camera) (camera stream : Address) (o e
   pub serves : ServesAndStops served new o.camera e.camera o.camera_clock e.camera_clock a worked_a
   pub client : Client
   pub journal : List Turn
-  pub reader_works : Works is_readers b worked_b
-  pub reads : Reads c camera stream (reader_side o new_client) (reader_side e client) [] journal turns read b worked_b
+  pub reader_works : Works (is_readers mode) b worked_b
+  pub reads : Reads mode c camera stream (reader_side o new_client) (reader_side e client) [] journal turns read b worked_b
   pub faults : FaultsOf (is_fault_end read) o.stream.faults e.stream.faults o.control.faults e.control.faults
   pub application_works : Works is_applications d worked_d
   pub applies : AppliesAndStops frames o.app_clock e.app_clock [] lines answer d worked_d

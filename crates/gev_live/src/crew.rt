@@ -26,6 +26,7 @@ use gev_crew::{ApplicationWork, CameraWork, work_application, work_camera};
 use gev_links::{Clock, Gate, Link};
 use gev_reader::{ReadDone, read};
 use gev_types::Peer;
+use mode_calls::Mode;
 use std::alloc::Global;
 use std::sync::Wait;
 use std::thread;
@@ -57,17 +58,18 @@ fn read_and_apply<
     turns: u64,
     frames: u32,
     lines: Vec<u8>,
+    mode: Mode,
 ) -> (ReadDone<S, L, C>, ApplicationWork<C>)
     requires tables { (reader.table ≡ board_id board.now) × (taker.table ≡ board_id board.now) }
     requires hands { IsEmptyHanded reader }
     requires receiver { Stands acq [] × ((waiting_fills acq ≡ []) × (waiting_requests acq ≡ []) × (buffers acq ≡ [])) }
     requires client { HasSubmittedNone client }
     requires room { vec_len journal + turns ≤ vec_capacity journal }
-    ensures reads { Reads (config_of acq) camera own
+    ensures reads { Reads mode (config_of acq) camera own
         (record { received = S.received stream; heard = L.received control; sent = L.sent control; told = C.told host_clock; client = client })
         (record { received = S.received result.0.stream; heard = L.received result.0.control; sent = L.sent result.0.control; told = C.told result.0.clock; client = result.0.client })
         journal.items result.0.journal.items turns result.0.end reader result.0.pass }
-    ensures reader { Works is_readers reader result.0.pass × IsEmptyHanded result.0.pass }
+    ensures reader { Works (is_readers mode) reader result.0.pass × IsEmptyHanded result.0.pass }
     ensures faults { FaultsOf (is_fault_end result.0.end) (S.faults stream) (S.faults result.0.stream) (L.faults control) (L.faults result.0.control) }
     ensures applies { AppliesAndStops frames (C.told app_clock) (C.told result.1.clock) lines.items result.1.lines.items result.1.answer taker result.1.pass }
     ensures application { Works is_applications taker result.1.pass × SameHands taker result.1.pass }
@@ -84,16 +86,16 @@ fn read_and_apply<
         move || -> ReadDone<S, L, C>
             requires { (reader.table ≡ board_id board.now) × IsEmptyHanded reader × Stands acq [] × HasSubmittedNone client × (waiting_fills acq ≡ []) × (waiting_requests acq ≡ []) × (buffers acq ≡ [])
                 × (vec_len journal + turns ≤ vec_capacity journal) }
-            ensures { Reads (config_of acq) camera own
+            ensures { Reads mode (config_of acq) camera own
                 (record { received = S.received stream; heard = L.received control; sent = L.sent control; told = C.told host_clock; client = client })
                 (record { received = S.received result.stream; heard = L.received result.control; sent = L.sent result.control; told = C.told result.clock; client = result.client })
                 journal.items result.journal.items turns result.end reader result.pass
-                × Works is_readers reader result.pass × IsEmptyHanded result.pass
+                × Works (is_readers mode) reader result.pass × IsEmptyHanded result.pass
                 × FaultsOf (is_fault_end result.end) (S.faults stream) (S.faults result.stream) (L.faults control) (L.faults result.control) }
         {
             read(
                 rt, board, reader, acq, client, stream, control, host_clock, gate, camera, own,
-                journal, turns,
+                journal, turns, mode,
             )
         },
     );
@@ -119,6 +121,7 @@ pub(crate) fn work_crew<
     gate: &G,
     turns: u64,
     frames: u32,
+    mode: Mode,
 ) -> (CameraWork<L, C>, (ReadDone<S, L, C>, ApplicationWork<C>))
     requires tables { (watcher.table ≡ board_id board.now) × (reader.table ≡ board_id board.now) × (taker.table ≡ board_id board.now) }
     requires hands { IsEmptyHanded reader }
@@ -129,11 +132,11 @@ pub(crate) fn work_crew<
     ensures serves { ServesAndStops result.0.end tools.camera (wire (L.received ends.camera) (L.sent ends.camera) (L.faults ends.camera))
         (wire (L.received result.0.link) (L.sent result.0.link) (L.faults result.0.link)) (C.told ends.camera_clock) (C.told result.0.clock) watcher result.0.pass }
     ensures camera { Works is_cameras watcher result.0.pass × KeepsHands watcher result.0.pass }
-    ensures reads { Reads (config_of tools.acq) (L.address ends.camera) (S.address ends.stream)
+    ensures reads { Reads mode (config_of tools.acq) (L.address ends.camera) (S.address ends.stream)
         (record { received = S.received ends.stream; heard = L.received ends.control; sent = L.sent ends.control; told = C.told ends.host_clock; client = tools.client })
         (record { received = S.received result.1.0.stream; heard = L.received result.1.0.control; sent = L.sent result.1.0.control; told = C.told result.1.0.clock; client = result.1.0.client })
         tools.journal.items result.1.0.journal.items turns result.1.0.end reader result.1.0.pass }
-    ensures reader { Works is_readers reader result.1.0.pass × IsEmptyHanded result.1.0.pass }
+    ensures reader { Works (is_readers mode) reader result.1.0.pass × IsEmptyHanded result.1.0.pass }
     ensures faults { FaultsOf (is_fault_end result.1.0.end) (S.faults ends.stream) (S.faults result.1.0.stream) (L.faults ends.control) (L.faults result.1.0.control) }
     ensures applies { AppliesAndStops frames (C.told ends.app_clock) (C.told result.1.1.clock) tools.lines.items result.1.1.lines.items result.1.1.answer taker result.1.1.pass }
     ensures application { Works is_applications taker result.1.1.pass × SameHands taker result.1.1.pass }
@@ -166,18 +169,18 @@ pub(crate) fn work_crew<
         move || -> (ReadDone<S, L, C>, ApplicationWork<C>)
             requires { (reader.table ≡ board_id board.now) × (taker.table ≡ board_id board.now) × IsEmptyHanded reader × Stands acq [] × HasSubmittedNone client × (waiting_fills acq ≡ [])
                 × (waiting_requests acq ≡ []) × (buffers acq ≡ []) × (vec_len journal + turns ≤ vec_capacity journal) }
-            ensures { Reads (config_of acq) peer own
+            ensures { Reads mode (config_of acq) peer own
                 (record { received = S.received stream; heard = L.received control; sent = L.sent control; told = C.told host_clock; client = client })
                 (record { received = S.received result.0.stream; heard = L.received result.0.control; sent = L.sent result.0.control; told = C.told result.0.clock; client = result.0.client })
                 journal.items result.0.journal.items turns result.0.end reader result.0.pass
-                × Works is_readers reader result.0.pass × IsEmptyHanded result.0.pass
+                × Works (is_readers mode) reader result.0.pass × IsEmptyHanded result.0.pass
                 × FaultsOf (is_fault_end result.0.end) (S.faults stream) (S.faults result.0.stream) (L.faults control) (L.faults result.0.control)
                 × AppliesAndStops frames (C.told app_clock) (C.told result.1.clock) lines.items result.1.lines.items result.1.answer taker result.1.pass
                 × Works is_applications taker result.1.pass × SameHands taker result.1.pass }
         {
             read_and_apply(
                 rt, alloc, board, reader, taker, acq, client, stream, control, host_clock,
-                app_clock, gate, peer, own, journal, turns, frames, lines,
+                app_clock, gate, peer, own, journal, turns, frames, lines, mode,
             )
         },
     )

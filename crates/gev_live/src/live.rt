@@ -25,6 +25,7 @@ use gev_acq::Turn;
 use gev_crew::prepare;
 use gev_links::{Clock, Gate, Link, Sink};
 use gev_status::Status;
+use mode_calls::Mode;
 use std::alloc::Global;
 use std::sync::Wait;
 use std::thread::Threads;
@@ -52,6 +53,7 @@ fn run_prepared<
     ends: Ends<L, S, C>,
     gate: &G,
     sink: &mut K,
+    mode: Mode,
 ) -> (Status, Ends<L, S, C>, Vec<Turn>)
     requires table { pass.old.table ≡ board_id board.now }
     requires first { pass.old.number ≡ 0 }
@@ -60,7 +62,7 @@ fn run_prepared<
     ensures table { pass.new.table ≡ pass.old.table }
     ensures hands { SameHands pass.old pass.new }
     ensures live { (buffers : ℕ) → SawOnly (Prepares live_size buffers) pass.old
-        → JournaledRun (record { seed = seed; frames = frames; buffers = buffers; turns = turns }) (L.address ends.camera) (S.address ends.stream) result.0
+        → JournaledRun (record { seed = seed; frames = frames; buffers = buffers; turns = turns; mode = mode }) (L.address ends.camera) (S.address ends.stream) result.0
         (record {
           camera = wire (L.received ends.camera) (L.sent ends.camera) (L.faults ends.camera);
           stream = wire (S.received ends.stream) (S.sent ends.stream) (S.faults ends.stream);
@@ -87,7 +89,7 @@ fn run_prepared<
         lines,
         journal,
     } = run_crew(
-        rt, alloc, board, pass, seed, tools, ends, gate, turns, frames,
+        rt, alloc, board, pass, seed, tools, ends, gate, turns, frames, mode,
     );
     let first = status_by(served, read, frames, turns, &taken);
     let count = taken_of(&taken);
@@ -116,6 +118,7 @@ pub fn live_with_journal<
     ends: Ends<L, S, C>,
     gate: &G,
     sink: &mut K,
+    mode: Mode,
 ) -> (Status, Ends<L, S, C>, Vec<Turn>)
     requires table { pass.old.table ≡ board_id board.now }
     requires first { pass.old.number ≡ 0 }
@@ -125,7 +128,7 @@ pub fn live_with_journal<
     requires lanes { _lanes ≡ 1 }
     ensures table { pass.new.table ≡ pass.old.table }
     ensures hands { SameHands pass.old pass.new }
-    ensures live { RunsWithJournal (record { seed = seed; frames = frames; buffers = buffers; turns = turns }) (L.address ends.camera) (S.address ends.stream) result.0
+    ensures live { RunsWithJournal (record { seed = seed; frames = frames; buffers = buffers; turns = turns; mode = mode }) (L.address ends.camera) (S.address ends.stream) result.0
         (record {
           camera = wire (L.received ends.camera) (L.sent ends.camera) (L.faults ends.camera);
           stream = wire (S.received ends.stream) (S.sent ends.stream) (S.faults ends.stream);
@@ -147,7 +150,7 @@ pub fn live_with_journal<
     match make_tools(alloc, seed, turns) {
         Ok(tools) => match prepare(alloc, board, pass, BUFFER_SIZE, buffers) {
             Ok(()) => run_prepared(
-                rt, alloc, board, pass, seed, frames, turns, tools, ends, gate, sink,
+                rt, alloc, board, pass, seed, frames, turns, tools, ends, gate, sink, mode,
             ),
             Err(_) => (Status::NoMemory, ends, Vec::new(alloc)),
         },
@@ -158,7 +161,9 @@ pub fn live_with_journal<
 /// A live run with one lane: camera, reader and application as threads that share `board`, over these links and
 /// clocks. The camera makes its frames from `seed`; `frames` of them are to be handed out, 1 to 1000, through
 /// `buffers` buffers, 1 to 15; the reader makes at most `turns` turns. The lines of the buffers that were handed
-/// out are written in order, and a last line. Where no thread can be made the workers run one after another.
+/// out are written in order, and a last line. `mode` says what a new block does with buffers that wait for the
+/// application; one that is dropped for it is never handed out. Where no thread can be made the workers run one after
+/// another.
 ///
 /// `Done` where all frames were handed out; `TurnsSpent` where the reader made all its turns before. `NoAnswer`
 /// and `Refused` as the control channel's client says; `LinkFault` where a link failed, `WriteFault` where the
@@ -183,6 +188,7 @@ pub fn live_over<
     ends: Ends<L, S, C>,
     gate: &G,
     sink: &mut K,
+    mode: Mode,
 ) -> (Status, Ends<L, S, C>)
     requires table { pass.old.table ≡ board_id board.now }
     requires first { pass.old.number ≡ 0 }
@@ -193,7 +199,7 @@ pub fn live_over<
     ensures table { pass.new.table ≡ pass.old.table }
     ensures hands { SameHands pass.old pass.new }
     ensures alone { IsAlone (After pass.new.seen) 0 }
-    ensures live { RunsLive (record { seed = seed; frames = frames; buffers = buffers; turns = turns }) (L.address ends.camera) (S.address ends.stream) result.0
+    ensures live { RunsLive (record { seed = seed; frames = frames; buffers = buffers; turns = turns; mode = mode }) (L.address ends.camera) (S.address ends.stream) result.0
         (record {
           camera = wire (L.received ends.camera) (L.sent ends.camera) (L.faults ends.camera);
           stream = wire (S.received ends.stream) (S.sent ends.stream) (S.faults ends.stream);
@@ -218,7 +224,7 @@ pub fn live_over<
     ensures writes_steady { result.0 ≢ Status.WriteFault → K.faults sink.new ≡ K.faults sink.old }
 {
     let (status, ends, _journal) = live_with_journal(
-        rt, alloc, board, pass, seed, frames, buffers, _lanes, turns, ends, gate, sink,
+        rt, alloc, board, pass, seed, frames, buffers, _lanes, turns, ends, gate, sink, mode,
     );
     (status, ends)
 }

@@ -19,6 +19,7 @@ use gev_links::{Clock, Gate, Link};
 use gev_reader::ReadDone;
 use gev_serve::ServeEnd;
 use gev_types::NoMemory;
+use mode_calls::Mode;
 use std::alloc::Global;
 use std::sync::Wait;
 use std::thread::Threads;
@@ -57,6 +58,7 @@ pub(crate) fn run_crew<
     gate: &G,
     turns: u64,
     frames: u32,
+    mode: Mode,
 ) -> CrewDone<L, S, C>
     requires table { pass.old.table ≡ board_id board.now }
     requires first { pass.old.number ≡ 0 }
@@ -64,7 +66,7 @@ pub(crate) fn run_crew<
     requires tools { AreNew seed turns tools.camera tools.acq tools.client tools.journal.items (vec_capacity tools.journal) tools.lines.items }
     ensures table { pass.new.table ≡ pass.old.table }
     ensures hands { SameHands pass.old pass.new }
-    ensures ran { (ran : RanCrew live_config (live_camera seed) (L.address ends.camera) (S.address ends.stream)
+    ensures ran { (ran : RanCrew mode live_config (live_camera seed) (L.address ends.camera) (S.address ends.stream)
         (record {
           camera = wire (L.received ends.camera) (L.sent ends.camera) (L.faults ends.camera);
           stream = wire (S.received ends.stream) (S.sent ends.stream) (S.faults ends.stream);
@@ -88,7 +90,7 @@ pub(crate) fn run_crew<
     let reader = board.split(pass);
     let taker = board.split(pass);
     let (watched, done) = work_crew(
-        rt, alloc, board, watcher, reader, taker, tools, ends, gate, turns, frames,
+        rt, alloc, board, watcher, reader, taker, tools, ends, gate, turns, frames, mode,
     );
     let (told, applied) = done;
     let CameraWork {

@@ -18,6 +18,7 @@ use Rattle.gev_control.specs.Sends.{addressed}
 use Rattle.gev_control.specs.SetupTurns.{set_up, SetupTurned}
 use Rattle.gev_control.specs.SetsUp.{SetupSide, SetsUp, setup_sent, setup_heards, setup_moments}
 use Rattle.gev_control.proofs.Fronts.{added_then}
+use Rattle.mode_calls.specs.declared.mode.Mode.{Mode}
 use Rattle.gev_acq.specs.declared.turn.Turn.{Turn}
 use Rattle.gev_acq.specs.Buffers.{HoldsAlone}
 use Rattle.gev_acq.specs.Claims.{Claims, ServesOn}
@@ -40,11 +41,11 @@ setup_is camera stream o n end up = record {
 }
 
 -- the setup ended before the turns
-pub ends_early : (c : AcqConfig) (camera stream : Address) (New : List Input → Type 0) (r h k : Option (List Answer)) (w v : Option (List (Address × List ℕ))) (d b : Option (List ℕ)) (s u : Client)
+pub ends_early : (mode : Mode) (c : AcqConfig) (camera stream : Address) (New : List Input → Type 0) (r h k : Option (List Answer)) (w v : Option (List (Address × List ℕ))) (d b : Option (List ℕ)) (s u : Client)
     (journal : List Turn) (turns : ℕ) (end : AcqEnd) (t : Token) → EndsAfter end end turns [] → LastLook end [] → New []
     → SetsUp camera stream (record { heard = h; sent = w; told = d; client = s }) (record { heard = k; sent = v; told = b; client = u }) end
-    → ReadsTurns c camera stream New (record { received = r; heard = h; sent = w; told = d; client = s }) (record { received = r; heard = k; sent = v; told = b; client = u }) journal journal turns end t t
-ends_early c camera stream New r h k w v d b s u journal turns end t ends looks new up = record {
+    → ReadsTurns mode c camera stream New (record { received = r; heard = h; sent = w; told = d; client = s }) (record { received = r; heard = k; sent = v; told = b; client = u }) journal journal turns end t t
+ends_early mode c camera stream New r h k w v d b s u journal turns end t ends looks new up = record {
   made = [];
   turned = [];
   last = [];
@@ -66,7 +67,7 @@ ends_early c camera stream New r h k w v d b s u journal turns end t ends looks 
     told = subst (TellsEach d b) (sym (append-nil (setup_moments made))) up.told;
   };
   enters = each_none t;
-  claims = claims_none [] t t [] refl tt (each_none t);
+  claims = claims_none mode [] t t [] refl tt (each_none t);
   stands = new;
 }
   where
@@ -88,7 +89,7 @@ last_look how.Stopped s t look = record {
   last = LookRun look.run ∷ [];
   is = (look.run, look.stopped, refl);
   enters = look.enters;
-  quiet = (λ b. refl, tt);
+  quiet = (λ m b ms. refl, tt);
 }
 last_look how.Spent s t look = no_look how.Spent s t look refl
 last_look how.Fault s t look = no_look how.Fault s t look refl
@@ -96,16 +97,16 @@ last_look (how.NoAnswer req) s t look = no_look (how.NoAnswer req) s t look refl
 last_look (how.Refused status) s t look = no_look (how.Refused status) s t look refl
 
 -- calls that claim nothing, after these inputs
-claims_on : (is : List Input) (s t u : Token) → t.number ≡ s.number → Claims is s t → Claims [] t u → Claims is s u
-claims_on is s t u number first second = subst (λ l. Claims l s u) (append-nil is) (claims_then is [] s t u number first second)
+claims_on : (mode : Mode) (is : List Input) (s t u : Token) → t.number ≡ s.number → Claims mode is s t → Claims mode [] t u → Claims mode is s u
+claims_on mode is s t u number first second = subst (λ l. Claims mode l s u) (append-nil is) (claims_then mode is [] s t u number first second)
 
 -- the camera was set up, and then the turns were made
-pub then_turns : (c : AcqConfig) (camera stream : Address) (Old New : List Input → Type 0) (r m h k l : Option (List Answer)) (w v x : Option (List (Address × List ℕ))) (d b e : Option (List ℕ)) (s u z : Client)
+pub then_turns : (mode : Mode) (c : AcqConfig) (camera stream : Address) (Old New : List Input → Type 0) (r m h k l : Option (List Answer)) (w v x : Option (List (Address × List ℕ))) (d b e : Option (List ℕ)) (s u z : Client)
     (journal journal_after : List Turn) (turns : ℕ) (end : AcqEnd) (p q : Token) → Old []
     → SetsUp camera stream (record { heard = h; sent = w; told = d; client = s }) (record { heard = k; sent = v; told = b; client = u }) how.Stopped
-    → Acquires c camera Old New (record { received = r; heard = k; sent = v; told = b; client = u }) (record { received = m; heard = l; sent = x; told = e; client = z }) journal journal_after turns end p q
-    → ReadsTurns c camera stream New (record { received = r; heard = h; sent = w; told = d; client = s }) (record { received = m; heard = l; sent = x; told = e; client = z }) journal journal_after turns end p q
-then_turns c camera stream Old New r m h k l w v x d b e s u z journal journal_after turns end p q new up acquires = record {
+    → Acquires mode c camera Old New (record { received = r; heard = k; sent = v; told = b; client = u }) (record { received = m; heard = l; sent = x; told = e; client = z }) journal journal_after turns end p q
+    → ReadsTurns mode c camera stream New (record { received = r; heard = h; sent = w; told = d; client = s }) (record { received = m; heard = l; sent = x; told = e; client = z }) journal journal_after turns end p q
+then_turns mode c camera stream Old New r m h k l w v x d b e s u z journal journal_after turns end p q new up acquires = record {
   made = acquires.made;
   turned = acquires.on.events;
   last = look.last;
@@ -127,8 +128,8 @@ then_turns c camera stream Old New r m h k l w v x d b e s u z journal journal_a
     told = tells_then d b e (setup_moments made) (moments_in acquires.made) up.told acquires.on.told;
   };
   enters = each_then p acquires.middle q acquires.on.events look.last acquires.on.enters look.enters;
-  claims = claims_on (inputs_in acquires.made) p acquires.middle q acquires.on.enters.number acquires.on.claims
-      (claims_none [] acquires.middle q look.last refl look.quiet look.enters);
+  claims = claims_on mode (inputs_in acquires.made) p acquires.middle q acquires.on.enters.number acquires.on.claims
+      (claims_none mode [] acquires.middle q look.last refl look.quiet look.enters);
   stands = acquires.on.stands [] new;
 }
   where
@@ -139,14 +140,14 @@ then_turns c camera stream Old New r m h k l w v x d b e s u z journal journal_a
     look = last_look end acquires.middle q acquires.last
 
 -- what the stop of a receiver claims: nothing
-no_claims : (s t : Token) → Claims (stop ∷ []) s t → Claims [] s t
-no_claims s t claims = record { between = claims.between; seen = claims.seen; are = claims.are }
+no_claims : (mode : Mode) (s t : Token) → Claims mode (stop ∷ []) s t → Claims mode [] s t
+no_claims mode s t claims = record { between = claims.between; seen = claims.seen; are = claims.are }
 
 -- then the receiver was stopped, and the acquisition
-pub reads_all : (c d : AcqConfig) (camera stream : Address) (Old New : List Input → Type 0) (o n : Outside) (journal journal_after : List Turn) (turns : ℕ) (end : AcqEnd) (answer : Result (Unit {0}) ℕ) (s t u v : Token)
-    → ReadsTurns c camera stream Old o n journal journal_after turns end s t → d ≡ c → ServesOn d Old New (stop ∷ []) t u → Enters u (Stop false answer) v
-    → Reads c camera stream o n journal journal_after turns end s v
-reads_all c d camera stream Old New o n journal journal_after turns end answer s t u v so config drain stops = record {
+pub reads_all : (mode : Mode) (c d : AcqConfig) (camera stream : Address) (Old New : List Input → Type 0) (o n : Outside) (journal journal_after : List Turn) (turns : ℕ) (end : AcqEnd) (answer : Result (Unit {0}) ℕ) (s t u v : Token)
+    → ReadsTurns mode c camera stream Old o n journal journal_after turns end s t → d ≡ c → ServesOn mode d Old New (stop ∷ []) t u → Enters u (Stop false answer) v
+    → Reads mode c camera stream o n journal journal_after turns end s v
+reads_all mode c d camera stream Old New o n journal journal_after turns end answer s t u v so config drain stops = record {
   made = so.made;
   turned = so.turned;
   last = so.last;
@@ -157,13 +158,13 @@ reads_all c d camera stream Old New o n journal journal_after turns end answer s
   enters = subst (λ l. EntersEach s l v) (append_assoc so.turned so.last (drained.events ++ Stop false answer ∷ []))
       (each_then s t v (so.turned ++ so.last) (drained.events ++ Stop false answer ∷ []) so.enters
       (each_then t u v drained.events (Stop false answer ∷ []) drained.enters (each_one u v (Stop false answer) stops refl)));
-  claims = claims_on (inputs_in so.made) s u v (drained.enters.number ∙ so.enters.number)
-      (claims_on (inputs_in so.made) s t u so.enters.number so.claims (no_claims t u drained.claims))
-      (claims_none [] u v (Stop false answer ∷ []) refl (λ b. refl, tt) (each_one u v (Stop false answer) stops refl));
+  claims = claims_on mode (inputs_in so.made) s u v (drained.enters.number ∙ so.enters.number)
+      (claims_on mode (inputs_in so.made) s t u so.enters.number so.claims (no_claims mode t u drained.claims))
+      (claims_none mode [] u v (Stop false answer ∷ []) refl (λ m b ms. refl, tt) (each_one u v (Stop false answer) stops refl));
 }
   where
-    drained : ServesOn c Old New (stop ∷ []) t u
-    drained = subst (λ (x : AcqConfig). ServesOn x Old New (stop ∷ []) t u) config drain
+    drained : ServesOn mode c Old New (stop ∷ []) t u
+    drained = subst (λ (x : AcqConfig). ServesOn mode x Old New (stop ∷ []) t u) config drain
 
 -- ---- the hands
 

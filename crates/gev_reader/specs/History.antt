@@ -19,6 +19,7 @@ use Rattle.buffer_words.specs.Passes.{Token, own}
 use Rattle.buffer_words.specs.Workers.{AreOf}
 use Rattle.gev_control.specs.declared.acq_end.AcqEnd.{AcqEnd}
 use Rattle.gev_acq.specs.declared.turn.Turn.{Turn}
+use Rattle.mode_calls.specs.declared.mode.Mode.{Mode}
 use Rattle.gev_acq.specs.Serving.{Serves}
 use Rattle.gev_acq.specs.Claims.{claims_in, claims_by}
 use Rattle.gev_acq.specs.Turns.{Turned, Outside}
@@ -28,35 +29,35 @@ use Rattle.gev_reader.specs.Reads.{LastLook, Reads}
 
 -- All entries of actor n are those of these turns of a new receiver, of the last look, of the receiver's stop and
 -- of the acquisition's. The outcomes of claims among the turns' inputs are what its claims gave in this history.
-pub record LiveReading (c : AcqConfig) (n : ℕ) (end : AcqEnd) (made : List Turned) (h : List Entry) : Type 0 where
+pub record LiveReading (mode : Mode) (c : AcqConfig) (n : ℕ) (end : AcqEnd) (made : List Turned) (h : List Entry) : Type 0 where
   pub turned : List Event
-  pub turns : ServesTurns c first_state made turned
+  pub turns : ServesTurns mode c first_state made turned
   pub last : List Event
   pub looks : LastLook end last
   pub drained : List Event
-  pub drains : Serves c (After c (inputs_in made)) (stop ∷ []) drained
+  pub drains : Serves mode c (After c (inputs_in made)) (stop ∷ []) drained
   pub answer : Result (Unit {0}) ℕ
   pub own : own_of n h ≡ entries_of n (turned ++ (last ++ (drained ++ Stop false answer ∷ [])))
-  pub claims : claims_in (inputs_in made) ≡ claims_by n empty_board h
+  pub claims : claims_in (inputs_in made) ≡ claims_by mode n empty_board h
 
 -- A reader's part is so in each history that begins with what it has seen and has no further entry of it.
 abbrev pub ReadersPartStays : Type 0
 ReadersPartStays =
-    (c : AcqConfig) (camera stream : Address) (o n : Outside) (journal journal_after : List Turn) (turns : ℕ) (end : AcqEnd) (s t : Token)
-    (reads : Reads c camera stream o n journal journal_after turns end s t) (h : List Entry) → own s ≡ [] → IsPrefix t.seen h → own_of s.number h ≡ own t
-    → LiveReading c s.number end reads.made h
+    (mode : Mode) (c : AcqConfig) (camera stream : Address) (o n : Outside) (journal journal_after : List Turn) (turns : ℕ) (end : AcqEnd) (s t : Token)
+    (reads : Reads mode c camera stream o n journal journal_after turns end s t) (h : List Entry) → own s ≡ [] → IsPrefix t.seen h → own_of s.number h ≡ own t
+    → LiveReading mode c s.number end reads.made h
 
 -- What the reader put into the output, or tried to, is all that its turns' inputs and the stop retire, in order.
 abbrev pub ReadersFillsAreRetired : Type 0
 ReadersFillsAreRetired =
-    (c : AcqConfig) (n : ℕ) (end : AcqEnd) (made : List Turned) (h : List Entry) → LiveReading c n end made h
+    (mode : Mode) (c : AcqConfig) (n : ℕ) (end : AcqEnd) (made : List Turned) (h : List Entry) → LiveReading mode c n end made h
     → tried (own_of n h) ≡ retired_items c (inputs_in made ++ stop ∷ [])
 
 -- Where no fill of it was refused it laid nothing.
 abbrev pub ReadersLayNothing : Type 0
 ReadersLayNothing =
-    (c : AcqConfig) (n : ℕ) (end : AcqEnd) (made : List Turned) (h : List Entry) → LiveReading c n end made h
-    → HasNone is_fill_refused (own_of n h) → AreOf is_strict_readers (own_of n h)
+    (mode : Mode) (c : AcqConfig) (n : ℕ) (end : AcqEnd) (made : List Turned) (h : List Entry) → LiveReading mode c n end made h
+    → HasNone is_fill_refused (own_of n h) → AreOf (is_strict_readers mode) (own_of n h)
 
 -- each buffer that was given has this size, in bytes
 abbrev pub AreSized : ℕ → List (Option Given) → Type 0
@@ -67,5 +68,5 @@ AreSized size (Some g ∷ gs) = (g.size ≡ size) × AreSized size gs
 -- Where all buffers have one size, each claimed buffer has it.
 abbrev pub ReadersClaimOneSize : Type 0
 ReadersClaimOneSize =
-    (c : AcqConfig) (n : ℕ) (end : AcqEnd) (made : List Turned) (h : List Entry) (size : ℕ) → LiveReading c n end made h → Run h → BringOneSize size h
+    (mode : Mode) (c : AcqConfig) (n : ℕ) (end : AcqEnd) (made : List Turned) (h : List Entry) (size : ℕ) → LiveReading mode c n end made h → Run h → BringOneSize size h
     → AreSized size (claims_in (inputs_in made))

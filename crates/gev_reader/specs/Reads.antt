@@ -17,6 +17,7 @@ use Rattle.gev_control.specs.Sends.{addressed}
 use Rattle.gev_control.specs.SetupTurns.{set_up, SetupTurned, setup_turn, IsHeard}
 use Rattle.gev_control.specs.SetsUp.{setup_after, SetupGoesOn, setup_sent, setup_heards, setup_moments}
 use Rattle.gev_acq.specs.declared.turn.Turn.{Turn}
+use Rattle.mode_calls.specs.declared.mode.Mode.{Mode}
 use Rattle.gev_acq.specs.Serving.{Serves}
 use Rattle.gev_acq.specs.Claims.{Claims}
 use Rattle.gev_acq.specs.Turns.{Turned, Outside}
@@ -51,14 +52,14 @@ LastLook (how.Refused status) es = es ≡ []
 
 -- The camera was set up by its turns, and then these turns of a new receiver were made, at most the asked number;
 -- their entries were added to the journal. The links and the clock told just what came, was sent and was read.
-pub record ReadsOn (c : AcqConfig) (camera stream : Address) (o n : Outside) (journal journal_after : List Turn) (turns : ℕ) (end : AcqEnd)
+pub record ReadsOn (mode : Mode) (c : AcqConfig) (camera stream : Address) (o n : Outside) (journal journal_after : List Turn) (turns : ℕ) (end : AcqEnd)
     (made : List Turned) (turned last : List Event) : Type 0 where
   pub setup : List SetupTurned
   pub setup_end : AcqEnd
   pub client : Client
   pub set_up_by : IsSetUp stream o.client setup setup_end client
   pub ends : EndsAfter setup_end end turns made
-  pub serves : ServesTurns c first_state made turned
+  pub serves : ServesTurns mode c first_state made turned
   pub looks : LastLook end last
   pub controlled : ControlEach c [] client made n.client
   pub entries : List Turn
@@ -70,24 +71,24 @@ pub record ReadsOn (c : AcqConfig) (camera stream : Address) (o n : Outside) (jo
   pub told : TellsEach o.told n.told (setup_moments setup ++ moments_in made)
 
 -- The setup and the turns. The receiver stands for the turns' inputs then.
-pub record ReadsTurns (c : AcqConfig) (camera stream : Address) (New : List Input → Type 0) (o n : Outside) (journal journal_after : List Turn) (turns : ℕ) (end : AcqEnd) (s t : Token) : Type 0 where
+pub record ReadsTurns (mode : Mode) (c : AcqConfig) (camera stream : Address) (New : List Input → Type 0) (o n : Outside) (journal journal_after : List Turn) (turns : ℕ) (end : AcqEnd) (s t : Token) : Type 0 where
   pub made : List Turned
   pub turned : List Event
   pub last : List Event
-  pub on : ReadsOn c camera stream o n journal journal_after turns end made turned last
+  pub on : ReadsOn mode c camera stream o n journal journal_after turns end made turned last
   pub enters : EntersEach s (turned ++ last) t
-  pub claims : Claims (inputs_in made) s t
+  pub claims : Claims mode (inputs_in made) s t
   pub stands : New (inputs_in made)
 
 -- The setup, the turns, and in every case the stop of the receiver, whose blocks retire, and the stop of the
 -- acquisition. The pass's own entries are these.
-pub record Reads (c : AcqConfig) (camera stream : Address) (o n : Outside) (journal journal_after : List Turn) (turns : ℕ) (end : AcqEnd) (s t : Token) : Type 0 where
+pub record Reads (mode : Mode) (c : AcqConfig) (camera stream : Address) (o n : Outside) (journal journal_after : List Turn) (turns : ℕ) (end : AcqEnd) (s t : Token) : Type 0 where
   pub made : List Turned
   pub turned : List Event
   pub last : List Event
-  pub on : ReadsOn c camera stream o n journal journal_after turns end made turned last
+  pub on : ReadsOn mode c camera stream o n journal journal_after turns end made turned last
   pub drained : List Event
-  pub drains : Serves c (After c (inputs_in made)) (stop ∷ []) drained
+  pub drains : Serves mode c (After c (inputs_in made)) (stop ∷ []) drained
   pub answer : Result (Unit {0}) ℕ
   pub enters : EntersEach s (turned ++ (last ++ (drained ++ Stop false answer ∷ []))) t
-  pub claims : Claims (inputs_in made) s t
+  pub claims : Claims mode (inputs_in made) s t

@@ -21,6 +21,7 @@ use gev_acq::{AcqEnd, Turn, acquire, drain};
 use gev_control::setup;
 use gev_links::{Clock, Gate, Link};
 use gev_types::Peer;
+use mode_calls::Mode;
 use std::sync::Wait;
 
 /// Sets the camera up, and makes the reader's turns where that was done.
@@ -38,6 +39,7 @@ fn read_turns<R: Wait, S: Link, M: Link, C: Clock, G: Gate>(
     own: Peer,
     journal: &mut Vec<Turn>,
     turns: u64,
+    mode: Mode,
 ) -> AcqEnd
     requires table { pass.old.table ≡ board_id board.now }
     requires new { Stands acq.old [] }
@@ -46,7 +48,7 @@ fn read_turns<R: Wait, S: Link, M: Link, C: Clock, G: Gate>(
     requires requests { waiting_requests acq.old ≡ [] }
     requires backs { Backs pass.old (buffers acq.old) }
     requires room { vec_len journal.old + turns ≤ vec_capacity journal.old }
-    ensures reads { ReadsTurns (config_of acq.old) camera own (Stands acq.new)
+    ensures reads { ReadsTurns mode (config_of acq.old) camera own (Stands acq.new)
         (record { received = S.received stream.old; heard = M.received control.old; sent = M.sent control.old; told = C.told clock.old; client = client.old })
         (record { received = S.received stream.new; heard = M.received control.new; sent = M.sent control.new; told = C.told clock.new; client = client.new })
         journal.old.items journal.new.items turns result pass.old pass.new }
@@ -61,6 +63,7 @@ fn read_turns<R: Wait, S: Link, M: Link, C: Clock, G: Gate>(
     match setup(rt, client, control, clock, camera, own) {
         AcqEnd::Stopped => acquire(
             rt, board, pass, acq, client, stream, control, clock, gate, camera, journal, turns,
+            mode,
         ),
         AcqEnd::Spent => AcqEnd::Spent,
         AcqEnd::Fault => AcqEnd::Fault,
@@ -86,6 +89,7 @@ pub fn read<R: Wait, S: Link, M: Link, C: Clock, G: Gate>(
     own: Peer,
     mut journal: Vec<Turn>,
     turns: u64,
+    mode: Mode,
 ) -> ReadDone<S, M, C>
     requires table { pass.table ≡ board_id board.now }
     requires hands { IsEmptyHanded pass }
@@ -95,11 +99,11 @@ pub fn read<R: Wait, S: Link, M: Link, C: Clock, G: Gate>(
     requires requests { waiting_requests acq ≡ [] }
     requires buffers { buffers acq ≡ [] }
     requires room { vec_len journal + turns ≤ vec_capacity journal }
-    ensures reads { Reads (config_of acq) camera own
+    ensures reads { Reads mode (config_of acq) camera own
         (record { received = S.received stream; heard = M.received control; sent = M.sent control; told = C.told clock; client = client })
         (record { received = S.received result.stream; heard = M.received result.control; sent = M.sent result.control; told = C.told result.clock; client = result.client })
         journal.items result.journal.items turns result.end pass result.pass }
-    ensures works { Works is_readers pass result.pass }
+    ensures works { Works (is_readers mode) pass result.pass }
     ensures empty { IsEmptyHanded result.pass }
     ensures faults { FaultsOf (is_fault_end result.end) (S.faults stream) (S.faults result.stream) (M.faults control) (M.faults result.control) }
 {
@@ -117,8 +121,9 @@ pub fn read<R: Wait, S: Link, M: Link, C: Clock, G: Gate>(
         own,
         &mut journal,
         turns,
+        mode,
     );
-    drain(rt, board, &mut pass, &mut acq);
+    drain(rt, board, &mut pass, &mut acq, mode);
     let _stopped = board.stop(&mut pass, false);
     ReadDone {
         pass,

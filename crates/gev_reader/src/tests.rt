@@ -12,6 +12,7 @@ use control_client::Client;
 use gev_acq::{AcqEnd, Turn};
 use gev_links::{MemoryClock, MemoryLink, OpenGate};
 use gev_types::{Buf, Peer};
+use mode_calls::Mode;
 use output_queue::take;
 use std::alloc::Global;
 use std::process::Abort;
@@ -132,6 +133,7 @@ fn check_read<R: Abort + Wait>(
         STREAM,
         journal,
         3,
+        Mode::OldestFirst,
     );
     assert_eq!(rt; ended, end);
     assert_eq!(rt; found.len(), turns);

@@ -15,6 +15,7 @@ use Rattle.acquisition_machine.proofs.Order.{all_append, all_front, all_back}
 use Rattle.block_fills.specs.Fills.{tried_by, tried}
 use Rattle.buffer_words.specs.Workers.{AreEvents, OnlyBy}
 use Rattle.gev_crew.specs.Prepared.{PreparesEach, LooksLast, FallsShort}
+use Rattle.mode_calls.specs.declared.mode.Mode.{Mode}
 use Rattle.gev_live.specs.Kinds.{is_filling}
 use Rattle.gev_live.specs.History.{Crew, live_size, LiveHistory}
 use Rattle.gev_live.proofs.Quiet.{is_beginning, beginning_are}
@@ -47,8 +48,8 @@ since_alone : (k : ℕ) (es : List Entry) → OnlyBy is_filling (k ∷ []) es �
 since_alone k [] only = tt
 since_alone k (e ∷ es) only = (one_alone k e.by e.event (λ is. same_is e.by k (omega (arith, only.0 is))), since_alone k es only.1)
 
-pub reader_alone : (buffers : ℕ) (k : Crew) (h : List Entry) → LiveHistory buffers k h → FillsAlone k.reader h
-reader_alone buffers k h history =
+pub reader_alone : (mode : Mode) (buffers : ℕ) (k : Crew) (h : List Entry) → LiveHistory mode buffers k h → FillsAlone k.reader h
+reader_alone mode buffers k h history =
     subst (FillsAlone k.reader) (sym history.begins)
     (all_append (λ (e : Entry). FillsAs k.reader e.by e.event) (entries_of 0 history.prepared) history.since
     (beginning_not k.reader 0 history.prepared (beginning_are live_size buffers history.prepared history.prepares)) (since_alone k.reader history.since history.fills))

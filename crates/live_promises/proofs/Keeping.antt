@@ -23,12 +23,12 @@ use Rattle.live_promises.proofs.Sending.{inputs_sent, inputs_clean}
 use Rattle.live_promises.proofs.Filling.{reader_alone, alone_acquires, filled_own, short_fills_nothing}
 use Rattle.live_promises.proofs.Causing.{has_causes}
 
--- what is handed out are the reader's blocks
+-- what is taken are the reader's blocks
 run_handed : (n : Numbers) (camera stream : Address) (answer : Status) (o e : Told) (written written_after : Option (List ℕ)) (faults faults_after : ℕ) (h : List Entry)
     (run : LiveRun n camera stream answer o e written written_after faults faults_after h) → AllByRecursion (IsRetired live_config (reader_of run).inputs) (handed_items h)
 run_handed n camera stream answer o e written written_after faults faults_after h run =
     taken_all (IsRetired live_config q) every_actor h
-    (filled_own (IsRetired live_config q) run.crew.reader h (reader_alone n.buffers run.crew h run.history)
+    (filled_own (IsRetired live_config q) run.crew.reader h (reader_alone n.mode n.buffers run.crew h run.history)
     (subst (λ l. AllByRecursion (IsRetired live_config q) l) (sym run.reader_part.fills) (retired_blocks live_config q (omega arith) (inputs_clean live_config first_state run.reader_part.made))))
   where
     q : List Input
@@ -39,12 +39,12 @@ run_keeps : (n : Numbers) (camera stream : Address) (answer : Status) (o e : Tol
 run_keeps n camera stream answer o e written written_after faults faults_after h run = record {
   headline = runs_headline live_config (reader_of run ∷ []) h (omega arith) run.history.run
       (record { clean = inputs_clean live_config first_state run.reader_part.made; retired = run.reader_part.fills }, tt)
-      (alone_acquires (reader_of run) h (reader_alone n.buffers run.crew h run.history));
+      (alone_acquires (reader_of run) h (reader_alone n.mode n.buffers run.crew h run.history));
   handed = handed;
   framed = λ frames sent.
       all_weaker (IsRetired live_config (reader_of run).inputs) (HoldsUnder frames live_config (reader_of run).inputs)
       (λ x r. blocks_frames frames live_config (reader_of run).inputs x r (inputs_sent frames live_config.p run.reader_part.made sent)) (handed_items h) handed;
-  causes = has_causes live_config camera stream (reader_side o new_client) (reader_side e run.reader_part.client) [] run.reader_part.journal n.turns run.read
+  causes = has_causes n.mode live_config camera stream (reader_side o new_client) (reader_side e run.reader_part.client) [] run.reader_part.journal n.turns run.read
       run.reader_part.made run.reader_part.turned run.reader_part.last run.reader_part.on refl;
 }
   where

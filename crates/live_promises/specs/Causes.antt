@@ -2,6 +2,7 @@
 use Rattle.std.specs.Prelude.{◌≡◌, ℕ, List, [], ◌++◌}
 use Rattle.board_machine.specs.declared.events.Event.{Event}
 use Rattle.acquisition_machine.specs.declared.config.AcqConfig.{AcqConfig}
+use Rattle.mode_calls.specs.declared.mode.Mode.{Mode}
 use Rattle.gev_links.specs.Links.{Address}
 use Rattle.gev_control.specs.declared.acq_end.AcqEnd.{AcqEnd}
 use Rattle.gev_control.specs.declared.acq_end.AcqEnd.TheVariants as how
@@ -23,9 +24,9 @@ pub record HadNoAnswer (req : ℕ) (moves : List Move) (sent heard : List (List 
 
 -- The reader gave up a command only where three sends of it had no answer. And it ended with a refusal exactly where
 -- one came, with its status, and no other came.
-pub record HasCauses (c : AcqConfig) (camera stream : Address) (o n : Outside) (journal journal_after : List Turn) (turns : ℕ) (end : AcqEnd)
-    (made : List Turned) (turned last : List Event) (on : ReadsOn c camera stream o n journal journal_after turns end made turned last) : Type 0 where
+pub record HasCauses (mode : Mode) (c : AcqConfig) (camera stream : Address) (o n : Outside) (journal journal_after : List Turn) (turns : ℕ) (end : AcqEnd)
+    (made : List Turned) (turned last : List Event) (on : ReadsOn mode c camera stream o n journal journal_after turns end made turned last) : Type 0 where
   pub unanswered : (req : ℕ) → end ≡ how.NoAnswer req
-      → HadNoAnswer req (run_moves c camera stream o n journal journal_after turns end made turned last on)
+      → HadNoAnswer req (run_moves mode c camera stream o n journal journal_after turns end made turned last on)
       (setup_sent stream (set_up o.client 0) on.setup ++ sends_in made) (datagrams (setup_heards on.setup ++ heards_in made))
   pub refused : setup_refusals stream (set_up o.client 0) on.setup ++ reader_refusals on.client made ≡ refusal_of end

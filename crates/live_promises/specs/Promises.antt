@@ -32,18 +32,18 @@ packets_among (nothing ∷ rest) = packets_among rest
 packets_among (failed ∷ rest) = packets_among rest
 packets_among (came bytes peer ∷ rest) = with_packet (packet_of bytes) (packets_among rest)
 
--- The headline holds of the history, with the reader as its only acquirer, and each buffer that was handed out holds
--- one of its blocks: no record is empty. Under each map of frames from which all packets were sent that came on the
--- stream's link, each of them is its block's frame where it's marked complete, has each received byte in place and 0
--- elsewhere, and is marked complete where the buffer is large enough and all packets came before it was filled. And
--- the reader ended as it did for a cause.
+-- The headline holds of the history, with the reader as its only acquirer, and each buffer that was taken, handed out
+-- or dropped, holds one of its blocks: no record is empty. Under each map of frames from which all packets were sent
+-- that came on the stream's link, each of them is its block's frame where it's marked complete, has each received byte
+-- in place and 0 elsewhere, and is marked complete where the buffer is large enough and all packets came before it was
+-- filled. And the reader ended as it did for a cause.
 pub record KeepsRun {n : Numbers} {camera stream : Address} {answer : Status} {o e : Told} {written written_after : Option (List ℕ)} {faults faults_after : ℕ} {h : List Entry}
     (run : LiveRun n camera stream answer o e written written_after faults faults_after h) : Type 0 where
   pub headline : KeepsHeadline live_config (reader_of run ∷ []) h
   pub handed : AllByRecursion (IsRetired live_config (reader_of run).inputs) (handed_items h)
   pub framed : (frames : ℕ → Option Frame) → AreSent frames live_config.p (packets_among (answers_in run.reader_part.made))
       → AllByRecursion (HoldsUnder frames live_config (reader_of run).inputs) (handed_items h)
-  pub causes : HasCauses live_config camera stream (reader_side o new_client) (reader_side e run.reader_part.client) [] run.reader_part.journal n.turns run.read
+  pub causes : HasCauses n.mode live_config camera stream (reader_side o new_client) (reader_side e run.reader_part.client) [] run.reader_part.journal n.turns run.read
       run.reader_part.made run.reader_part.turned run.reader_part.last run.reader_part.on
 
 -- So it is of a live run. Where its workers never began nobody filled a buffer, and none was handed out.

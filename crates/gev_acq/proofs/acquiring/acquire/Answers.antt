@@ -7,7 +7,7 @@ use Rattle.gev_acq.proofs.acquiring.acquire.Goals as goal
 
 pub loop-turn-init : goal.loop-turn-init
 loop-turn-init g c = record {
-  on = begins _ _ _ _ _ _;
+  on = begins _ _ _ _ _ _ _;
   stream_count = refl;
   control_count = refl;
   table = refl;
@@ -21,7 +21,7 @@ loop-turn-init g c = record {
 
 pub returns-then-run-ne1-clause-acquires : goal.returns-then-run-ne1-clause-acquires
 returns-then-run-ne1-clause-acquires g c =
-    ends_stopped _ _ _ _ _ _ _ _ c.loop-turn._turn c.args.turns c.look_run-run.result c.args.pass.now c.loop-turn.pass c.look_run-run.new.pass
+    ends_stopped _ _ _ _ _ _ _ _ _ c.loop-turn._turn c.args.turns c.look_run-run.result c.args.pass.now c.loop-turn.pass c.look_run-run.new.pass
     c.loop-turn.invariant.on c.look_run-run.ensures.entry c.if-run-ne1.true c.loop-turn-test.true
 
 pub returns-then-run-ne1-clause-backs : goal.returns-then-run-ne1-clause-backs
@@ -39,7 +39,7 @@ turn_once-end-requires-clause-backs g c =
 pub returns-in-Fault-clause-acquires : goal.returns-in-Fault-clause-acquires
 returns-in-Fault-clause-acquires g c =
     let one : c.look_run-run.result ≡ 1 = first_of (search rules, grind arith) in
-    ends_fault (config_of c.args.acq.now) (config_of c.loop-turn.acq) _ (Stands c.args.acq.now) (Stands c.loop-turn.acq) (Stands c.turn_once-end.new.acq) _ _ _ _ _ _
+    ends_fault c.args.mode (config_of c.args.acq.now) (config_of c.loop-turn.acq) _ (Stands c.args.acq.now) (Stands c.loop-turn.acq) (Stands c.turn_once-end.new.acq) _ _ _ _ _ _
     c.loop-turn._turn c.args.turns c.look_run-run.result c.turn_once-end.result.0 c.turn_once-end.result.1 c.args.pass.now c.loop-turn.pass c.look_run-run.new.pass
     c.turn_once-end.new.pass c.loop-turn.invariant.on c.loop-turn.invariant.config c.look_run-run.ensures.entry one c.turn_once-end.ensures.takes
     c.push_reserved.ensures.items c.loop-turn-test.true c.in-Fault.is
@@ -47,7 +47,7 @@ returns-in-Fault-clause-acquires g c =
 pub returns-in-NoAnswer-clause-acquires : goal.returns-in-NoAnswer-clause-acquires
 returns-in-NoAnswer-clause-acquires g c =
     let one : c.look_run-run.result ≡ 1 = first_of (search rules, grind arith) in
-    ends_unanswered (config_of c.args.acq.now) (config_of c.loop-turn.acq) _ (Stands c.args.acq.now) (Stands c.loop-turn.acq) (Stands c.turn_once-end.new.acq) _ _ _ _ _ _
+    ends_unanswered c.args.mode (config_of c.args.acq.now) (config_of c.loop-turn.acq) _ (Stands c.args.acq.now) (Stands c.loop-turn.acq) (Stands c.turn_once-end.new.acq) _ _ _ _ _ _
     c.loop-turn._turn c.args.turns c.look_run-run.result c.in-NoAnswer.req c.turn_once-end.result.0 c.turn_once-end.result.1 c.args.pass.now c.loop-turn.pass c.look_run-run.new.pass
     c.turn_once-end.new.pass c.loop-turn.invariant.on c.loop-turn.invariant.config c.look_run-run.ensures.entry one c.turn_once-end.ensures.takes
     c.push_reserved.ensures.items c.loop-turn-test.true c.in-NoAnswer.is
@@ -55,14 +55,14 @@ returns-in-NoAnswer-clause-acquires g c =
 pub returns-in-Refused-clause-acquires : goal.returns-in-Refused-clause-acquires
 returns-in-Refused-clause-acquires g c =
     let one : c.look_run-run.result ≡ 1 = first_of (search rules, grind arith) in
-    ends_refused (config_of c.args.acq.now) (config_of c.loop-turn.acq) _ (Stands c.args.acq.now) (Stands c.loop-turn.acq) (Stands c.turn_once-end.new.acq) _ _ _ _ _ _
+    ends_refused c.args.mode (config_of c.args.acq.now) (config_of c.loop-turn.acq) _ (Stands c.args.acq.now) (Stands c.loop-turn.acq) (Stands c.turn_once-end.new.acq) _ _ _ _ _ _
     c.loop-turn._turn c.args.turns c.look_run-run.result c.in-Refused.status c.turn_once-end.result.0 c.turn_once-end.result.1 c.args.pass.now c.loop-turn.pass c.look_run-run.new.pass
     c.turn_once-end.new.pass c.loop-turn.invariant.on c.loop-turn.invariant.config c.look_run-run.ensures.entry one c.turn_once-end.ensures.takes
     c.push_reserved.ensures.items c.loop-turn-test.true c.in-Refused.is
 
 pub returns-clause-acquires : goal.returns-clause-acquires
 returns-clause-acquires g c =
-    ends_spent _ _ _ _ _ _ _ _ c.loop-turn._turn c.args.turns c.args.pass.now c.loop-turn.pass c.loop-turn.invariant.on
+    ends_spent _ _ _ _ _ _ _ _ _ c.loop-turn._turn c.args.turns c.args.pass.now c.loop-turn.pass c.loop-turn.invariant.on
     (omega (arith, c.loop-turn-test.false, c.loop-turn.auto._turn-end))
 
 pub returns-in-Fault-clause-alone : goal.returns-in-Fault-clause-alone
@@ -85,7 +85,7 @@ loop-turn-preserved g c =
     let one : c.look_run-run.result ≡ 1 = first_of (search rules, grind arith) in
     let stay = counts_stay _ _ _ _ _ c.turn_once-end.ensures.faults c.in-GoesOn.is in
     record {
-      on = goes_on (config_of c.args.acq.now) (config_of c.loop-turn.acq) _ (Stands c.args.acq.now) (Stands c.loop-turn.acq) (Stands c.turn_once-end.new.acq) _ _ _ _ _ _
+      on = goes_on c.args.mode (config_of c.args.acq.now) (config_of c.loop-turn.acq) _ (Stands c.args.acq.now) (Stands c.loop-turn.acq) (Stands c.turn_once-end.new.acq) _ _ _ _ _ _
           c.loop-turn._turn c.look_run-run.result c.turn_once-end.result.0 c.turn_once-end.result.1 c.args.pass.now c.loop-turn.pass c.look_run-run.new.pass
           c.turn_once-end.new.pass c.loop-turn.invariant.on c.loop-turn.invariant.config c.look_run-run.ensures.entry one c.turn_once-end.ensures.takes
           c.push_reserved.ensures.items c.in-GoesOn.is;

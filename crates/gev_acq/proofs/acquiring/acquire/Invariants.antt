@@ -7,7 +7,7 @@ use Rattle.gev_acq.proofs.acquiring.acquire.Given as goal
 
 abbrev pub invariant-loop-turn : goal.invariant-loop-turn
 invariant-loop-turn g l = record {
-  on : GoesOn (config_of l.fn.acq) l.camera (Stands l.fn.acq) (Stands l.acq)
+  on : GoesOn l.mode (config_of l.fn.acq) l.camera (Stands l.fn.acq) (Stands l.acq)
       (record { received = g.L.Link.received l.fn.stream; heard = g.M.Link.received l.fn.control; sent = g.M.Link.sent l.fn.control; told = g.C.Clock.told l.fn.clock; client = l.fn.client })
       (record { received = g.L.Link.received l.stream; heard = g.M.Link.received l.control; sent = g.M.Link.sent l.control; told = g.C.Clock.told l.clock; client = l.client })
       l.fn.journal.items l.journal.items l._turn l.fn.pass l.pass;

@@ -7,6 +7,6 @@ use Rattle.gev_acq.proofs.hearing.tell.Goals as goal
 pub returns-clause-tells : goal.returns-clause-tells
 returns-clause-tells g c = record {
   need_is = c.datagram-need.ensures.need;
-  serves = serves_filled c.args.acq.now c.datagram-need.new.self c.fill_all.new.acq (datagram c.args.bytes.now) c.args.pass.now c.fill_all.new.pass refl refl
+  serves = serves_filled c.args.mode c.args.acq.now c.datagram-need.new.self c.fill_all.new.acq (datagram c.args.bytes.now) c.args.pass.now c.fill_all.new.pass refl refl
       c.requires.fills c.datagram-need.ensures.takes c.fill_all.ensures.rest c.fill_all.ensures.enters;
 }

@@ -7,7 +7,7 @@ use Rattle.gev_acq.proofs.turn_once.turn_once.Goals as goal
 
 pub returns-clause-takes : goal.returns-clause-takes
 returns-clause-takes g c =
-    takes_one (config_of c.args.acq.now) c.args.camera (Stands c.args.acq.now) (Stands c.serve_received-heard.new.acq) (Stands c.send_requests-failed.new.acq)
+    takes_one c.args.mode (config_of c.args.acq.now) c.args.camera (Stands c.args.acq.now) (Stands c.serve_received-heard.new.acq) (Stands c.send_requests-failed.new.acq)
     (g.L.Link.received c.args.stream.now) (g.L.Link.received c.recv-received.new.self) (g.M.Link.received c.args.control.now)
     (g.M.Link.received c.send_requests-failed.new.control) (g.M.Link.received c.client_turn-end.new.control) (g.M.Link.sent c.args.control.now)
     (g.M.Link.sent c.send_requests-failed.new.control) (g.M.Link.sent c.client_turn-end.new.control) (g.C.Clock.told c.args.clock.now)

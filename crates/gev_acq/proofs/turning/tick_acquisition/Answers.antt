@@ -4,5 +4,5 @@ use Rattle.gev_acq.proofs.turning.tick_acquisition.Goals as goal
 
 pub returns-clause-ticks : goal.returns-clause-ticks
 returns-clause-ticks g c =
-    ticks_once c.args.acq.now c.tick.new.self c.fill_all.new.acq c.args.moment c.args.pass.now c.fill_all.new.pass c.requires.fills c.requires.requests
+    ticks_once c.args.mode c.args.acq.now c.tick.new.self c.fill_all.new.acq c.args.moment c.args.pass.now c.fill_all.new.pass c.requires.fills c.requires.requests
     c.tick.ensures.takes c.fill_all.ensures.requests c.fill_all.ensures.rest c.fill_all.ensures.enters

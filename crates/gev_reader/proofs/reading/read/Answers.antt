@@ -7,14 +7,14 @@ use Rattle.gev_reader.proofs.reading.read.Goals as goal
 
 pub returns-clause-reads : goal.returns-clause-reads
 returns-clause-reads g c =
-    reads_all (config_of c.args.acq) (config_of c.read_turns-end.new.acq) c.args.camera c.args.own (Stands c.read_turns-end.new.acq) (Stands c.drain.new.acq)
+    reads_all c.args.mode (config_of c.args.acq) (config_of c.read_turns-end.new.acq) c.args.camera c.args.own (Stands c.read_turns-end.new.acq) (Stands c.drain.new.acq)
     _ _ c.args.journal.items c.read_turns-end.new.journal.items c.args.turns c.read_turns-end.result c.stop-stopped.result c.args.pass
     c.read_turns-end.new.pass c.drain.new.pass c.stop-stopped.new.pass c.read_turns-end.ensures.reads c.read_turns-end.ensures.config
     c.drain.ensures.serves c.stop-stopped.ensures.entry
 
 pub returns-clause-works : goal.returns-clause-works
 returns-clause-works g c =
-    reads_work (config_of c.args.acq) c.args.camera c.args.own _ _ c.args.journal.items c.read_turns-end.new.journal.items c.args.turns
+    reads_work c.args.mode (config_of c.args.acq) c.args.camera c.args.own _ _ c.args.journal.items c.read_turns-end.new.journal.items c.args.turns
     c.read_turns-end.result c.args.pass c.stop-stopped.new.pass (returns-clause-reads g c)
 
 pub returns-clause-empty : goal.returns-clause-empty
