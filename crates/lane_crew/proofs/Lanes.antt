@@ -10,6 +10,7 @@ use Rattle.gev_lanes.specs.declared.parts.ReaderLane.{ReaderLane}
 use Rattle.gev_lanes.specs.Sides.{IsNew, AreNew, Met, MetAt}
 use Rattle.gev_lanes.specs.Messages.{message_of, messages, GoOn}
 use Rattle.gev_lanes.specs.Acts.{Ends}
+use Rattle.mode_calls.specs.declared.mode.Mode.{Mode}
 use Rattle.lane_turns.specs.Turns.{ReaderTurn, Each}
 use Rattle.lane_laws.specs.Brought.{IsSublist, datagrams_in, parts_of, news_of, Brought}
 use Rattle.lane_laws.proofs.Bringing.{take_turns, turns_bring, take_all}
@@ -66,11 +67,11 @@ record AllTaken (brought : List Cell) (e : Cell) (side : ReaderLane) (cells : Li
   given : side.cells.given ≡ brought ++ e ∷ []
   same : SameEnds cells brought last e
 
-all_taken : (s b side : ReaderLane) (x y : LaneTools) (parts : List (List ℕ)) (news : List _) (q : LaneQueues) (k : ℕ) (New : List _ → Type 0)
+all_taken : (mode : Mode) (s b side : ReaderLane) (x y : LaneTools) (parts : List (List ℕ)) (news : List _) (q : LaneQueues) (k : ℕ) (New : List _ → Type 0)
     → IsNew q s x.ends k → (brings : Brought parts news s b) → (ends : Ends 0 b side) → Met side y.ends.hands
-    → (so : ServesCells (config_of x.acq) (Stands x.acq) New x.ends y.ends x.pass y.pass)
+    → (so : ServesCells mode (config_of x.acq) (Stands x.acq) New x.ends y.ends x.pass y.pass)
     → AllTaken brings.cells ends.cell side so.cells so.last
-all_taken s b side x y parts news q k New new brings ends met so = record {
+all_taken mode s b side x y parts news q k New new brings ends met so = record {
   given = given;
   same = same_ends so.cells brings.cells so.last ends.cell
       (take_all so.cells brings.cells so.last ends.cell so.go_on so.ends brings.go_on
@@ -90,17 +91,17 @@ all_taken s b side x y parts news q k New new brings ends met so = record {
 side_is : (us : List ReaderLane) (k number : ℕ) (u side : ReaderLane) → number ≡ k → slice_get us k ≡ Some u → slice_get us number ≡ Some side → side ≡ u
 side_is us k number u side is at met = some_same side u (sym met ∙ (ap (λ j. slice_get us j) is ∙ at))
 
-lane_did : (n k : ℕ) (made : List ReaderTurn) (ss us : List ReaderLane) (board : TableId) (qs : List LaneQueues) (q : LaneQueues) (s : ReaderLane) (x y : LaneTools) (h : List Entry)
-    → IsNew q s x.ends k → slice_get ss k ≡ Some s → BringsAll n made ss us → IsReady board qs x → IsServed qs x y → IsJoined h y → MetAt us y.ends
-    → LaneDid n k made us x h
-lane_did n k made ss us board qs q s x y h new at lanes ready served joined met =
+lane_did : (mode : Mode) (n k : ℕ) (made : List ReaderTurn) (ss us : List ReaderLane) (board : TableId) (qs : List LaneQueues) (q : LaneQueues) (s : ReaderLane) (x y : LaneTools) (h : List Entry)
+    → IsNew q s x.ends k → slice_get ss k ≡ Some s → BringsAll n made ss us → IsReady board qs x → IsServed mode qs x y → IsJoined h y → MetAt us y.ends
+    → LaneDid mode n k made us x h
+lane_did mode n k made ss us board qs q s x y h new at lanes ready served joined met =
     let turned = take_turns n k made ss lanes.before s lanes.turns at in
     let brings : Brought (parts_of n k made) (news_of n k made) s turned.0 = turns_bring n k made s turned.0 turned.2 in
     let end = ends_at k 0 lanes.before us turned.0 lanes.ends turned.1 in
     let side : met.side ≡ end.0 = side_is us k y.ends.number end.0 met.side (served.serves.number ∙ new.numbered) end.1 met.at in
     let so : Met end.0 y.ends.hands = subst (λ r. Met r y.ends.hands) side met.met in
     let all : AllTaken brings.cells end.2.cell end.0 served.serves.cells served.serves.last =
-    all_taken s turned.0 end.0 x y (parts_of n k made) (news_of n k made) q k (Stands y.acq) new brings end.2 so served.serves in
+    all_taken mode s turned.0 end.0 x y (parts_of n k made) (news_of n k made) q k (Stands y.acq) new brings end.2 so served.serves in
     let are : messages_in served.serves.served ≡ messages brings.cells = served.serves.are ∙ ap messages all.same.before in
     record {
       served = served.serves.served;
@@ -123,22 +124,22 @@ lane_did n k made ss us board qs q s x y h new at lanes ready served joined met 
         puts = served.serves.puts [] ready.new;
         met = so;
       };
-      part = part_of_lane x y h ready.unborn ready.new served.serves joined;
+      part = part_of_lane mode x y h ready.unborn ready.new served.serves joined;
     }
 
 -- ---- all lanes
 
-pub lanes_did : (n k : ℕ) (made : List ReaderTurn) (ss us rest : List ReaderLane) (board : TableId) (qs later : List LaneQueues) (xs ys : List LaneTools) (h : List Entry)
-    → AreNew k later rest (ends_in xs) → ((j : ℕ) → slice_get rest j ≡ slice_get ss (k + j)) → BringsAll n made ss us → AreReady board qs xs → AreServed qs xs ys
-    → AreJoined h ys → AreMet us ys → LanesDid n k made us xs h
-lanes_did n k made ss us rest board qs later [] ys h new at lanes ready served joined met = tt
-lanes_did n k made ss us rest board qs later (x ∷ xs) [] h new at lanes ready served joined met = absurd served
-lanes_did n k made ss us [] board qs [] (x ∷ xs) (y ∷ ys) h new at lanes ready served joined met = absurd new
-lanes_did n k made ss us (s ∷ rest) board qs [] (x ∷ xs) (y ∷ ys) h new at lanes ready served joined met = absurd new
-lanes_did n k made ss us [] board qs (q ∷ later) (x ∷ xs) (y ∷ ys) h new at lanes ready served joined met = absurd new
-lanes_did n k made ss us (s ∷ rest) board qs (q ∷ later) (x ∷ xs) (y ∷ ys) h new at lanes ready served joined met = (
-  lane_did n k made ss us board qs q s x y h new.0 (sym (at 0 ∙ ap (λ j. slice_get ss j) (here k))) lanes ready.0 served.0 joined.0 met.0,
-  lanes_did n (suc k) made ss us rest board qs later xs ys h new.1 (λ j. at (suc j) ∙ ap (λ i. slice_get ss i) (next k j)) lanes ready.1 served.1 joined.1 met.1,
+pub lanes_did : (mode : Mode) (n k : ℕ) (made : List ReaderTurn) (ss us rest : List ReaderLane) (board : TableId) (qs later : List LaneQueues) (xs ys : List LaneTools) (h : List Entry)
+    → AreNew k later rest (ends_in xs) → ((j : ℕ) → slice_get rest j ≡ slice_get ss (k + j)) → BringsAll n made ss us → AreReady board qs xs → AreServed mode qs xs ys
+    → AreJoined h ys → AreMet us ys → LanesDid mode n k made us xs h
+lanes_did mode n k made ss us rest board qs later [] ys h new at lanes ready served joined met = tt
+lanes_did mode n k made ss us rest board qs later (x ∷ xs) [] h new at lanes ready served joined met = absurd served
+lanes_did mode n k made ss us [] board qs [] (x ∷ xs) (y ∷ ys) h new at lanes ready served joined met = absurd new
+lanes_did mode n k made ss us (s ∷ rest) board qs [] (x ∷ xs) (y ∷ ys) h new at lanes ready served joined met = absurd new
+lanes_did mode n k made ss us [] board qs (q ∷ later) (x ∷ xs) (y ∷ ys) h new at lanes ready served joined met = absurd new
+lanes_did mode n k made ss us (s ∷ rest) board qs (q ∷ later) (x ∷ xs) (y ∷ ys) h new at lanes ready served joined met = (
+  lane_did mode n k made ss us board qs q s x y h new.0 (sym (at 0 ∙ ap (λ j. slice_get ss j) (here k))) lanes ready.0 served.0 joined.0 met.0,
+  lanes_did mode n (suc k) made ss us rest board qs later xs ys h new.1 (λ j. at (suc j) ∙ ap (λ i. slice_get ss i) (next k j)) lanes ready.1 served.1 joined.1 met.1,
 )
   where
     here : (a : ℕ) → a + 0 ≡ a

@@ -1,18 +1,19 @@
 -- All of a lane's own acts, and of the reader's, are of their kinds.
 use Rattle.std.proofs.Common.{◌≡◌, Bool, true, false, List, [], ◌∷◌, ◌++◌, refl, sym, subst}
 use Rattle.board_machine.specs.declared.events.Event.{Event}
-use Rattle.board_machine.specs.declared.events.Event.TheVariants.{LookRun, Join}
-use Rattle.board_calls.specs.Rounds.{filled_or_laid}
+use Rattle.board_machine.specs.declared.events.Event.TheVariants.{LookRun, Fill, Join}
 use Rattle.acquisition_machine.specs.declared.config.AcqConfig.{AcqConfig}
 use Rattle.acquisition_machine.specs.declared.retired.Retired.{Retired}
-use Rattle.acquisition_machine.specs.Blocks.{fills}
-use Rattle.acquisition_machine.specs.Machine.{Input, datagram, claimed, tick, stop, restart, State, step}
-use Rattle.block_fills.specs.Fills.{FillsRetired}
+use Rattle.acquisition_machine.specs.Machine.{Input, State}
 use Rattle.buffer_words.specs.Workers.{AreEvents}
 use Rattle.gev_control.specs.declared.acq_end.AcqEnd.{AcqEnd}
 use Rattle.gev_control.specs.declared.acq_end.AcqEnd.TheVariants as how
-use Rattle.gev_acq.specs.Serving.{claim_events, Serves}
+use Rattle.mode_calls.specs.declared.mode.Mode.{Mode}
+use Rattle.gev_acq.specs.Filling.{laid_unless}
+use Rattle.gev_acq.specs.Serving.{Serves}
+use Rattle.gev_acq.proofs.Parts.{Holds, served_hold}
 use Rattle.gev_reader.specs.Reads.{LastLook}
+use Rattle.gev_reader.proofs.OfKind.{drops_so}
 use Rattle.lane_turns.specs.Turns.{ReaderTurn}
 use Rattle.lane_reader.specs.Reads.{looks_in}
 use Rattle.lane_crew.specs.declared.lane_tools.LaneTools.{LaneTools}
@@ -28,29 +29,20 @@ both_are kind (e ∷ es) fs first second = (first.0, both_are kind es fs first.1
 
 -- ---- a lane
 
-fill_is : (r : Retired) (filled : Bool) → AreEvents is_lanes (filled_or_laid r.place r.buf filled)
-fill_is r true = (refl, tt)
-fill_is r false = (refl, (refl, tt))
+are_hold : (mode : Mode) → Holds mode (AreEvents (is_lanes mode))
+are_hold mode = record {
+  none = tt;
+  both = both_are (is_lanes mode);
+  take = λ may end. (drops_so mode may, tt);
+  pool = λ may i. (drops_so mode may, tt);
+}
 
-fills_are : (rs : List Retired) (es : List Event) → FillsRetired rs es → AreEvents is_lanes es
-fills_are [] es none = same_are is_lanes es [] none tt
-fills_are (r ∷ rs) es each =
-    same_are is_lanes es (filled_or_laid r.place r.buf each.0 ++ each.1) each.2
-    (both_are is_lanes (filled_or_laid r.place r.buf each.0) each.1 (fill_is r each.0) (fills_are rs each.1 each.3))
+fill_is : (mode : Mode) (x : Retired) (filled : Bool) → AreEvents (is_lanes mode) (Fill x.place x.buf filled ∷ laid_unless filled x.place)
+fill_is mode x true = (refl, tt)
+fill_is mode x false = (refl, (refl, tt))
 
-claims_are : (i : Input) → AreEvents is_lanes (claim_events i)
-claims_are (datagram bytes) = tt
-claims_are (claimed given) = (refl, tt)
-claims_are (tick moment) = tt
-claims_are stop = tt
-claims_are restart = tt
-
-pub served_are : (c : AcqConfig) (s : State) (is : List Input) (es : List Event) → Serves c s is es → AreEvents is_lanes es
-served_are c s [] es none = same_are is_lanes es [] none tt
-served_are c s (i ∷ is) es each =
-    same_are is_lanes es (claim_events i ++ (each.0 ++ each.1)) each.4
-    (both_are is_lanes (claim_events i) (each.0 ++ each.1) (claims_are i)
-    (both_are is_lanes each.0 each.1 (fills_are (fills c.p (step c s i).retired) each.0 each.2) (served_are c (step c s i).after is each.1 each.3)))
+pub served_are : (mode : Mode) (c : AcqConfig) (s : State) (is : List Input) (es : List Event) → Serves mode c s is es → AreEvents (is_lanes mode) es
+served_are mode c s is es serves = served_hold mode (AreEvents (is_lanes mode)) c s is es (are_hold mode) (λ place. (refl, tt)) (fill_is mode) serves
 
 -- ---- the reader
 

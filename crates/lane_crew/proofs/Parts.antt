@@ -1,6 +1,5 @@
 -- A lane's part in the history in which its pass was joined.
 use Rattle.std.proofs.Common.{◌≡◌, List, [], ◌∷◌, ◌++◌, refl, ap, sym, ◌∙◌, subst}
-use Rattle.std.proofs.lemmas.List.{append-nil, append_cancel_left}
 use Rattle.board_machine.specs.declared.events.Entry.{Entry}
 use Rattle.board_machine.specs.declared.events.Event.{Event}
 use Rattle.board_machine.specs.Machine.{empty_board}
@@ -14,8 +13,9 @@ use Rattle.acq_core.specs.Receiver.{config_of, Stands}
 use Rattle.buffer_words.specs.Passes.{Token, own}
 use Rattle.buffer_words.specs.Several.{EntersEach}
 use Rattle.buffer_words.proofs.Working.{are_of_entries}
-use Rattle.gev_acq.specs.Claims.{claims_in, claims_by, Claims}
-use Rattle.gev_acq.proofs.Owning.{claims_by-append, claims_by-none}
+use Rattle.mode_calls.specs.declared.mode.Mode.{Mode}
+use Rattle.gev_acq.specs.Claims.{claims_in, claims_by}
+use Rattle.gev_reader.proofs.Whole.{claims_whole}
 use Rattle.lane_worker.specs.Cells.{inputs_in}
 use Rattle.lane_worker.specs.Lane.{ServesCells}
 use Rattle.lane_crew.specs.declared.lane_tools.LaneTools.{LaneTools}
@@ -31,32 +31,6 @@ own_entered s t events none e =
     ∙ (ap (λ l. own_of s.number l) e.seen
     ∙ (own_of-append s.number s.seen e.between ∙ (ap (λ l. l ++ own_of s.number e.between) none ∙ e.own)))
 
-nothing_more : {A : Type 0} (xs ys : List A) → xs ++ ys ≡ xs → ys ≡ []
-nothing_more xs ys is = append_cancel_left xs ys [] (is ∙ sym (append-nil xs))
-
--- what the claims of a new pass gave is what they gave in the whole history
-claims_whole : (is : List Input) (s t : Token) (rest : List Entry) → own s ≡ [] → t.number ≡ s.number → own_of s.number (t.seen ++ rest) ≡ own t → Claims is s t
-    → claims_in is ≡ claims_by s.number empty_board (t.seen ++ rest)
-claims_whole is s t rest none number whole claims =
-    claims.are
-    ∙ (sym (ap (λ l. l ++ claims_by s.number (After s.seen) claims.between) before)
-    ∙ (sym (claims_by-append s.number empty_board s.seen claims.between)
-    ∙ (ap (λ l. claims_by s.number empty_board l) (sym claims.seen)
-    ∙ (sym (append-nil (claims_by s.number empty_board t.seen))
-    ∙ (ap (λ l. claims_by s.number empty_board t.seen ++ l) (sym after_it)
-    ∙ sym (claims_by-append s.number empty_board t.seen rest))))))
-  where
-    before : claims_by s.number empty_board s.seen ≡ []
-    before = claims_by-none s.number empty_board s.seen [] none tt
-
-    own_rest : own_of s.number rest ≡ []
-    own_rest =
-        nothing_more (own_of s.number t.seen) (own_of s.number rest)
-        (sym (own_of-append s.number t.seen rest) ∙ (whole ∙ ap (λ n. own_of n t.seen) number))
-
-    after_it : claims_by s.number (After t.seen) rest ≡ []
-    after_it = claims_by-none s.number (After t.seen) rest [] own_rest tt
-
 -- a stop claims nothing
 claims_stop : (is : List Input) → claims_in (is ++ stop ∷ []) ≡ claims_in is
 claims_stop [] = refl
@@ -66,23 +40,23 @@ claims_stop (tick moment ∷ is) = claims_stop is
 claims_stop (stop ∷ is) = claims_stop is
 claims_stop (restart ∷ is) = claims_stop is
 
-pub part_of_lane : (x y : LaneTools) (h : List Entry) → own x.pass ≡ [] → Stands x.acq []
-    → (so : ServesCells (config_of x.acq) (Stands x.acq) (Stands y.acq) x.ends y.ends x.pass y.pass) → IsJoined h y
-    → LanePart (config_of x.acq) x.pass.number h so.served
-part_of_lane x y h none new so joined = record {
+pub part_of_lane : (mode : Mode) (x y : LaneTools) (h : List Entry) → own x.pass ≡ [] → Stands x.acq []
+    → (so : ServesCells mode (config_of x.acq) (Stands x.acq) (Stands y.acq) x.ends y.ends x.pass y.pass) → IsJoined h y
+    → LanePart mode (config_of x.acq) x.pass.number h so.served
+part_of_lane mode x y h none new so joined = record {
   events = so.serves.events;
   serves = so.serves.serves [] new;
   claimed = so.claims [] new;
   home = record {
     ended = subst (λ a. IsEnded (After h) a) number joined.ended;
     did = mine ∙ own_entered x.pass y.pass so.serves.events none so.serves.enters;
-    of_kind = are_of_entries is_lanes x.pass.number so.serves.events
-        (served_are (config_of x.acq) first_state (inputs_in so.served ++ stop ∷ []) so.serves.events (so.serves.serves [] new));
+    of_kind = are_of_entries (is_lanes mode) x.pass.number so.serves.events
+        (served_are mode (config_of x.acq) first_state (inputs_in so.served ++ stop ∷ []) so.serves.events (so.serves.serves [] new));
   };
   claims = sym (claims_stop (inputs_in so.served))
-      ∙ (claims_whole (inputs_in so.served ++ stop ∷ []) x.pass y.pass joined.front.rest none number (subst (λ l. own_of x.pass.number l ≡ own y.pass) joined.front.is mine)
+      ∙ (claims_whole mode (inputs_in so.served ++ stop ∷ []) x.pass y.pass joined.front.rest none number (subst (λ l. own_of x.pass.number l ≡ own y.pass) joined.front.is mine)
       so.serves.claims
-      ∙ ap (λ l. claims_by x.pass.number empty_board l) (sym joined.front.is));
+      ∙ ap (λ l. claims_by mode x.pass.number empty_board l) (sym joined.front.is));
 }
   where
     number : y.pass.number ≡ x.pass.number

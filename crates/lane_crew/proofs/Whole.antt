@@ -14,6 +14,7 @@ use Rattle.gev_acq.specs.Turns.{Outside}
 use Rattle.gev_lanes.specs.declared.parts.LaneQueues.{LaneQueues}
 use Rattle.gev_lanes.specs.declared.parts.ReaderLane.{ReaderLane}
 use Rattle.gev_lanes.specs.Sides.{AreNew}
+use Rattle.mode_calls.specs.declared.mode.Mode.{Mode}
 use Rattle.lane_reader.specs.Reads.{looks_in}
 use Rattle.lane_crew.specs.declared.lane_tools.LaneTools.{LaneTools}
 use Rattle.lane_crew.specs.Kinds.{is_lane_readers}
@@ -24,12 +25,12 @@ use Rattle.lane_crew.proofs.OfKind.{both_are, looks_are, last_is, joins_are}
 use Rattle.lane_crew.proofs.Lanes.{lanes_did}
 
 -- a lane's pass keeps its number
-same_joins : (qs : List LaneQueues) (xs ys : List LaneTools) → AreServed qs xs ys → joins_of ys ≡ joins_of xs
-same_joins qs [] [] served = refl
-same_joins qs [] (y ∷ ys) served = absurd served
-same_joins qs (x ∷ xs) [] served = absurd served
-same_joins qs (x ∷ xs) (y ∷ ys) served =
-    ap (λ l. l ++ Join y.pass.number ∷ []) (same_joins qs xs ys served.1) ∙ ap (λ a. joins_of xs ++ Join a ∷ []) served.0.serves.serves.enters.number
+same_joins : (mode : Mode) (qs : List LaneQueues) (xs ys : List LaneTools) → AreServed mode qs xs ys → joins_of ys ≡ joins_of xs
+same_joins mode qs [] [] served = refl
+same_joins mode qs [] (y ∷ ys) served = absurd served
+same_joins mode qs (x ∷ xs) [] served = absurd served
+same_joins mode qs (x ∷ xs) (y ∷ ys) served =
+    ap (λ l. l ++ Join y.pass.number ∷ []) (same_joins mode qs xs ys served.1) ∙ ap (λ a. joins_of xs ++ Join a ∷ []) served.0.serves.serves.enters.number
 
 new_count : (k : ℕ) (qs : List LaneQueues) (ss : List ReaderLane) (xs : List LaneTools) → AreNew k qs ss (ends_in xs) → length qs ≡ length xs
 new_count k [] [] [] new = refl
@@ -41,11 +42,11 @@ new_count k (q ∷ qs) [] (x ∷ xs) new = absurd new
 new_count k (q ∷ qs) (s ∷ ss) [] new = absurd new
 new_count k (q ∷ qs) (s ∷ ss) (x ∷ xs) new = ap suc (new_count (suc k) qs ss xs new.1)
 
-pub crew_reads : (camera stream : Address) (o m : Outside) (board : TableId) (qs : List LaneQueues) (ss us : List ReaderLane) (xs ys : List LaneTools) (turns : ℕ) (end : AcqEnd)
+pub crew_reads : (mode : Mode) (camera stream : Address) (o m : Outside) (board : TableId) (qs : List LaneQueues) (ss us : List ReaderLane) (xs ys : List LaneTools) (turns : ℕ) (end : AcqEnd)
     (answer : Result (Unit {0}) ℕ) (s t u v : Token) → AreNew 0 qs ss (ends_in xs) → AreReady board qs xs → ReadsAll (length qs) camera stream o m turns end ss us s t
-    → AreServed qs xs ys → EntersEach t (joins_of ys) u → AreJoined u.seen ys → AreMet us ys → Enters u (Stop false answer) v
-    → ReadsByLanes camera stream o m ss xs turns end s v
-crew_reads camera stream o m board qs ss us xs ys turns end answer s t u v new ready reads served joins joined met stops = record {
+    → AreServed mode qs xs ys → EntersEach t (joins_of ys) u → AreJoined u.seen ys → AreMet us ys → Enters u (Stop false answer) v
+    → ReadsByLanes mode camera stream o m ss xs turns end s v
+crew_reads mode camera stream o m board qs ss us xs ys turns end answer s t u v new ready reads served joins joined met stops = record {
   made = so.made;
   last = so.last;
   on = so.on;
@@ -54,8 +55,8 @@ crew_reads camera stream o m board qs ss us xs ys turns end answer s t u v new r
   answer = answer;
   joined = u;
   enters = subst (λ l. EntersEach s l u) (append_assoc (looks_in so.made) so.last (joins_of xs))
-      (each_then s t u (looks_in so.made ++ so.last) (joins_of xs) so.enters (subst (λ l. EntersEach t l u) (same_joins qs xs ys served) joins));
-  did = lanes_did (length xs) 0 so.made ss us ss board qs qs xs ys u.seen new (λ j. ap (λ i. slice_get ss i) (sym (at_zero j))) so.lanes ready served joined met;
+      (each_then s t u (looks_in so.made ++ so.last) (joins_of xs) so.enters (subst (λ l. EntersEach t l u) (same_joins mode qs xs ys served) joins));
+  did = lanes_did mode (length xs) 0 so.made ss us ss board qs qs xs ys u.seen new (λ j. ap (λ i. slice_get ss i) (sym (at_zero j))) so.lanes ready served joined met;
   stops = each_one u v (Stop false answer) stops refl;
   run = stops.run;
 }
@@ -66,9 +67,9 @@ crew_reads camera stream o m board qs ss us xs ys turns end answer s t u v new r
     so : ReadsAll (length xs) camera stream o m turns end ss us s t
     so = subst (λ n. ReadsAll n camera stream o m turns end ss us s t) (new_count 0 qs ss xs new) reads
 
-pub crew_works : (camera stream : Address) (o m : Outside) (ss : List ReaderLane) (xs : List LaneTools) (turns : ℕ) (end : AcqEnd) (s t : Token)
-    → ReadsByLanes camera stream o m ss xs turns end s t → Works is_lane_readers s t
-crew_works camera stream o m ss xs turns end s t reads =
+pub crew_works : (mode : Mode) (camera stream : Address) (o m : Outside) (ss : List ReaderLane) (xs : List LaneTools) (turns : ℕ) (end : AcqEnd) (s t : Token)
+    → ReadsByLanes mode camera stream o m ss xs turns end s t → Works is_lane_readers s t
+crew_works mode camera stream o m ss xs turns end s t reads =
     works_then is_lane_readers s reads.joined t
     (works_each is_lane_readers s reads.joined (looks_in reads.made ++ (reads.last ++ joins_of xs))
     (both_are is_lane_readers (looks_in reads.made) (reads.last ++ joins_of xs) (looks_are reads.made)

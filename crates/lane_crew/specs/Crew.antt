@@ -7,6 +7,7 @@ use Rattle.gev_links.specs.Links.{Address}
 use Rattle.buffer_words.specs.Passes.{Token}
 use Rattle.buffer_words.specs.Several.{EntersEach}
 use Rattle.gev_control.specs.declared.acq_end.AcqEnd.{AcqEnd}
+use Rattle.mode_calls.specs.declared.mode.Mode.{Mode}
 use Rattle.gev_acq.specs.Turns.{Outside}
 use Rattle.gev_lanes.specs.declared.parts.ReaderLane.{ReaderLane}
 use Rattle.lane_turns.specs.Turns.{ReaderTurn}
@@ -18,7 +19,7 @@ use Rattle.lane_crew.specs.Did.{LanesDid}
 
 -- The setup and the reader's turns, the end for each lane, the join of each lane's pass once the lane had ended, and in
 -- every case the stop of the acquisition behind these. The pass's own entries are these.
-pub record ReadsByLanes (camera stream : Address) (o m : Outside) (ss : List ReaderLane) (tools : List LaneTools) (turns : ℕ) (end : AcqEnd) (s t : Token) : Type 0 where
+pub record ReadsByLanes (mode : Mode) (camera stream : Address) (o m : Outside) (ss : List ReaderLane) (tools : List LaneTools) (turns : ℕ) (end : AcqEnd) (s t : Token) : Type 0 where
   pub made : List ReaderTurn
   pub last : List Event
   pub on : ReadsOn camera stream o m turns end made last
@@ -27,6 +28,6 @@ pub record ReadsByLanes (camera stream : Address) (o m : Outside) (ss : List Rea
   pub answer : Result (Unit {0}) ℕ
   pub joined : Token
   pub enters : EntersEach s (looks_in made ++ (last ++ joins_of tools)) joined
-  pub did : LanesDid (length tools) 0 made after tools joined.seen
+  pub did : LanesDid mode (length tools) 0 made after tools joined.seen
   pub stops : EntersEach joined (Stop false answer ∷ []) t
   pub run : Run t.seen

@@ -10,6 +10,7 @@ use Rattle.acquisition_machine.specs.Runs.{first_state}
 use Rattle.acq_core.specs.Receiver.{config_of}
 use Rattle.buffer_words.specs.Workers.{IsHome}
 use Rattle.lane_queues.specs.Ends.{gave, took}
+use Rattle.mode_calls.specs.declared.mode.Mode.{Mode}
 use Rattle.gev_acq.specs.Serving.{Serves}
 use Rattle.gev_acq.specs.Claims.{claims_in, claims_by}
 use Rattle.gev_lanes.specs.declared.cell.Cell.{Cell}
@@ -48,23 +49,24 @@ pub record IsQueued (c : AcqConfig) (k : ℕ) (us : List ReaderLane) (e : LaneEn
   pub puts : PutsEach c [] served e.hands.requests hands.requests
   pub met : Met side hands
 
--- The lane's part in this history: a new receiver served the messages, and then its stop; the actor of its pass has
--- ended, and its entries are just those. The outcomes of claims among the inputs are what its claims gave.
-pub record LanePart (c : AcqConfig) (a : ℕ) (h : List Entry) (served : List CellServed) : Type 0 where
+-- The lane's part in this history, in its buffer handling mode: a new receiver served the messages, and then its stop;
+-- the actor of its pass has ended, and its entries are just those. The outcomes of claims among the inputs are what its
+-- claims gave.
+pub record LanePart (mode : Mode) (c : AcqConfig) (a : ℕ) (h : List Entry) (served : List CellServed) : Type 0 where
   pub events : List Event
-  pub serves : Serves c first_state (inputs_in served ++ stop ∷ []) events
+  pub serves : Serves mode c first_state (inputs_in served ++ stop ∷ []) events
   pub claimed : ClaimEach c [] served
-  pub home : IsHome h (record { number = a; kind = is_lanes; did = entries_of a events })
-  pub claims : claims_in (inputs_in served) ≡ claims_by a empty_board h
+  pub home : IsHome h (record { number = a; kind = is_lanes mode; did = entries_of a events })
+  pub claims : claims_in (inputs_in served) ≡ claims_by mode a empty_board h
 
 -- What lane k of n did with these tools, where the reader made these turns and its ends became these, in this history.
-pub record LaneDid (n k : ℕ) (made : List ReaderTurn) (us : List ReaderLane) (x : LaneTools) (h : List Entry) : Type 0 where
+pub record LaneDid (mode : Mode) (n k : ℕ) (made : List ReaderTurn) (us : List ReaderLane) (x : LaneTools) (h : List Entry) : Type 0 where
   pub served : List CellServed
   pub heard : IsHeard n k made served
   pub queued : IsQueued (config_of x.acq) k us x.ends served
-  pub part : LanePart (config_of x.acq) x.pass.number h served
+  pub part : LanePart mode (config_of x.acq) x.pass.number h served
 
 -- The same of each lane, with numbers from k on.
-abbrev pub LanesDid : ℕ → ℕ → List ReaderTurn → List ReaderLane → List LaneTools → List Entry → Type 0
-LanesDid n k made us [] h = ⊤
-LanesDid n k made us (x ∷ xs) h = LaneDid n k made us x h × LanesDid n (suc k) made us xs h
+abbrev pub LanesDid : Mode → ℕ → ℕ → List ReaderTurn → List ReaderLane → List LaneTools → List Entry → Type 0
+LanesDid mode n k made us [] h = ⊤
+LanesDid mode n k made us (x ∷ xs) h = LaneDid mode n k made us x h × LanesDid mode n (suc k) made us xs h

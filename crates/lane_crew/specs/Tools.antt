@@ -13,6 +13,7 @@ use Rattle.buffer_words.specs.Passes.{own, IsEmptyHanded}
 use Rattle.gev_lanes.specs.declared.parts.LaneQueues.{LaneQueues}
 use Rattle.gev_lanes.specs.declared.parts.ReaderLane.{ReaderLane}
 use Rattle.gev_lanes.specs.Sides.{LaneEnd, IsLaneAt, MetAt}
+use Rattle.mode_calls.specs.declared.mode.Mode.{Mode}
 use Rattle.lane_worker.specs.Lane.{ServesCells}
 use Rattle.lane_crew.specs.declared.lane_tools.LaneTools.{LaneTools}
 
@@ -33,17 +34,17 @@ AreReady board qs [] = ⊤
 AreReady board qs (x ∷ xs) = IsReady board qs x × AreReady board qs xs
 
 -- The lane served its cells up to the end, and gives its tools back, with nothing in its hands.
-pub record IsServed (qs : List LaneQueues) (x y : LaneTools) : Type 0 where
+pub record IsServed (mode : Mode) (qs : List LaneQueues) (x y : LaneTools) : Type 0 where
   pub table : y.pass.table ≡ x.pass.table
   pub empty : IsEmptyHanded y.pass
   pub lane : IsLaneAt qs y.ends
-  pub serves : ServesCells (config_of x.acq) (Stands x.acq) (Stands y.acq) x.ends y.ends x.pass y.pass
+  pub serves : ServesCells mode (config_of x.acq) (Stands x.acq) (Stands y.acq) x.ends y.ends x.pass y.pass
 
-abbrev pub AreServed : List LaneQueues → List LaneTools → List LaneTools → Type 0
-AreServed qs [] [] = ⊤
-AreServed qs [] (y ∷ ys) = ⊥
-AreServed qs (x ∷ xs) [] = ⊥
-AreServed qs (x ∷ xs) (y ∷ ys) = IsServed qs x y × AreServed qs xs ys
+abbrev pub AreServed : Mode → List LaneQueues → List LaneTools → List LaneTools → Type 0
+AreServed mode qs [] [] = ⊤
+AreServed mode qs [] (y ∷ ys) = ⊥
+AreServed mode qs (x ∷ xs) [] = ⊥
+AreServed mode qs (x ∷ xs) (y ∷ ys) = IsServed mode qs x y × AreServed mode qs xs ys
 
 abbrev pub ends_in : List LaneTools → List LaneEnd
 ends_in [] = []

@@ -24,6 +24,7 @@ use gev_control::AcqEnd;
 use gev_lanes::{Lanes, ReaderEnds};
 use gev_links::{Clock, Gate, Link};
 use gev_types::Peer;
+use mode_calls::Mode;
 use std::sync::Wait;
 use std::thread;
 use std::thread::Threads;
@@ -112,13 +113,14 @@ fn read_and_serve<
     camera: Peer,
     own: Peer,
     turns: u64,
+    mode: Mode,
 ) -> (Vec<LaneTools>, (ReaderTools<S, M, C>, AcqEnd))
     requires table { mine.pass.table ≡ board_id board.now }
     requires reader { AreReadersOf lanes.now mine.reader }
     requires some { 0 < length lanes.now }
     requires client { HasSubmittedNone mine.client }
     requires ready { AreReady (board_id board.now) lanes.now tools.items }
-    ensures served { AreServed lanes.now tools.items result.0.items }
+    ensures served { AreServed mode lanes.now tools.items result.0.items }
     ensures reads { ReadsAll (length lanes.now) camera own
         (record { received = S.received mine.stream; heard = M.received mine.control; sent = M.sent mine.control; told = C.told mine.clock; client = mine.client })
         (record { received = S.received result.1.0.stream; heard = M.received result.1.0.control; sent = M.sent result.1.0.control; told = C.told result.1.0.clock; client = result.1.0.client })
@@ -133,8 +135,8 @@ fn read_and_serve<
         rt,
         move || -> Vec<LaneTools>
             requires { AreReady (board_id board.now) lanes.now tools.items }
-            ensures { AreServed lanes.entry.now tools.items result.items }
-        { serve_lanes(rt, board, lanes, gate, tools) },
+            ensures { AreServed mode lanes.entry.now tools.items result.items }
+        { serve_lanes(rt, board, lanes, gate, tools, mode) },
         move || -> (ReaderTools<S, M, C>, AcqEnd)
             requires { (mine.pass.table ≡ board_id board.now) × AreReadersOf lanes.now mine.reader × (0 < length lanes.now) × HasSubmittedNone mine.client }
             ensures { ReadsAll (length lanes.entry.now) camera own
@@ -150,8 +152,9 @@ fn read_and_serve<
 /// The acquisition's worker of a live run with lanes, with what it works on by value, and for each lane by rising number
 /// its tools: sets the camera at the peer `camera` up to send its stream to `own`, and makes at most `turns` turns of the
 /// reader where that was done, with each lane as a thread beside it. In every case each lane is told of the end,
-/// serves what it was given, and fills what retires; then the lanes' passes are joined, and only then the
-/// acquisition is stopped. Where no thread can be made the reader runs first, and then one lane after another.
+/// serves what it was given, and fills what retires, by the buffer handling mode; then the lanes' passes are joined, and
+/// only then the acquisition is stopped. Where no thread can be made the reader runs first, and then one lane after
+/// another.
 pub fn read_by_lanes<
     R: Threads + Wait + Sync,
     S: Link + Drop,
@@ -173,6 +176,7 @@ pub fn read_by_lanes<
     camera: Peer,
     own: Peer,
     turns: u64,
+    mode: Mode,
 ) -> LanesDone<S, M, C>
     requires table { pass.table ≡ board_id board.now }
     requires hands { IsEmptyHanded pass }
@@ -181,7 +185,7 @@ pub fn read_by_lanes<
     requires readers { AreReadersOf lanes.now reader }
     requires ready { AreReady (board_id board.now) lanes.now tools.items }
     requires some { 0 < length lanes.now }
-    ensures reads { ReadsByLanes camera own
+    ensures reads { ReadsByLanes mode camera own
         (record { received = S.received stream; heard = M.received control; sent = M.sent control; told = C.told clock; client = client })
         (record { received = S.received result.stream; heard = M.received result.control; sent = M.sent result.control; told = C.told result.clock; client = result.client })
         reader tools.items turns result.end pass result.pass }
@@ -198,7 +202,7 @@ pub fn read_by_lanes<
         clock,
     };
     let (served, (back, end)) = read_and_serve(
-        rt, board, lanes, gate, mine, tools, camera, own, turns,
+        rt, board, lanes, gate, mine, tools, camera, own, turns, mode,
     );
     let ReaderTools {
         mut pass,

@@ -9,6 +9,7 @@ use buffer_words::Board;
 use gev_lanes::Lanes;
 use gev_links::Gate;
 use lane_worker::lane;
+use mode_calls::Mode;
 use std::sync::Wait;
 use std::thread;
 use std::thread::Threads;
@@ -20,16 +21,17 @@ fn serve_one<R: Wait, G: Gate>(
     lanes: &Lanes,
     gate: &G,
     tools: LaneTools,
+    mode: Mode,
 ) -> LaneTools
     requires ready { IsReady (board_id board.now) lanes.now tools }
-    ensures served { IsServed lanes.now tools result }
+    ensures served { IsServed mode lanes.now tools result }
 {
     let LaneTools {
         mut pass,
         mut ends,
         mut acq,
     } = tools;
-    lane(rt, board, &mut pass, lanes, &mut ends, &mut acq, gate);
+    lane(rt, board, &mut pass, lanes, &mut ends, &mut acq, gate, mode);
     LaneTools { pass, ends, acq }
 }
 
@@ -40,9 +42,10 @@ pub(crate) fn serve_lanes<R: Threads + Wait + Sync, G: Gate + Sync>(
     lanes: &Lanes,
     gate: &G,
     mut tools: Vec<LaneTools>,
+    mode: Mode,
 ) -> Vec<LaneTools>
     requires ready { AreReady (board_id board.now) lanes.now tools.items }
-    ensures served { AreServed lanes.now tools.items result.items }
+    ensures served { AreServed mode lanes.now tools.items result.items }
     ensures count { vec_len result ≡ vec_len tools }
     ensures capacity { vec_capacity result ≡ vec_capacity tools }
 {
@@ -52,12 +55,12 @@ pub(crate) fn serve_lanes<R: Threads + Wait + Sync, G: Gate + Sync>(
                 rt,
                 move || -> LaneTools
                     requires { IsReady (board_id board.now) lanes.now last }
-                    ensures { IsServed lanes.entry.now last result }
-                { serve_one(rt, board, lanes, gate, last) },
+                    ensures { IsServed mode lanes.entry.now last result }
+                { serve_one(rt, board, lanes, gate, last, mode) },
                 move || -> Vec<LaneTools>
                     requires { AreReady (board_id board.now) lanes.now tools.items }
-                    ensures { AreServed lanes.entry.now tools.items result.items × (vec_len result ≡ vec_len tools) × (vec_capacity result ≡ vec_capacity tools) }
-                { serve_lanes(rt, board, lanes, gate, tools) },
+                    ensures { AreServed mode lanes.entry.now tools.items result.items × (vec_len result ≡ vec_len tools) × (vec_capacity result ≡ vec_capacity tools) }
+                { serve_lanes(rt, board, lanes, gate, tools, mode) },
             );
             all.push_reserved(served);
             all

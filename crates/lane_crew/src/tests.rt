@@ -14,6 +14,7 @@ use gev_control::AcqEnd;
 use gev_lanes::{LaneEnds, Lanes};
 use gev_links::{MemoryClock, MemoryLink, OpenGate};
 use gev_types::{Buf, Peer};
+use mode_calls::Mode;
 use output_queue::take;
 use std::alloc::Global;
 use std::process::Abort;
@@ -174,6 +175,7 @@ fn check_read<R: Abort + Threads + Wait + Sync>(
         CAMERA,
         STREAM,
         6,
+        Mode::OldestFirst,
     );
     board.join(host, pass);
     assert_eq!(rt; ended, end);

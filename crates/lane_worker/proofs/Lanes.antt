@@ -8,6 +8,7 @@ use Rattle.acq_core.specs.Receiver.{KeepsBlocks}
 use Rattle.acq_core.specs.Waiting.{waiting_fills, waiting_requests}
 use Rattle.buffer_words.specs.Passes.{Token}
 use Rattle.lane_queues.specs.Ends.{GiverEnd, TakerEnd, gave, took}
+use Rattle.mode_calls.specs.declared.mode.Mode.{Mode}
 use Rattle.gev_acq.specs.Claims.{ServesOn}
 use Rattle.gev_acq.proofs.Serves.{serves_then, serves_none}
 use Rattle.gev_acq.proofs.Emptying.{keeps_then, keeps_all}
@@ -100,7 +101,7 @@ gave_more : (e : GiverEnd Cell) (xs ys : List Cell) → gave (gave e xs) ys ≡ 
 gave_more e xs ys = ap (λ l. record { line = e.line; given = l }) (append_assoc e.given xs ys)
 
 -- Some cells were served, none of them the end.
-pub record Serving (c : AcqConfig) (Old New : List Input → Type 0) (e f : LaneEnd) (s t : Token) : Type 0 where
+pub record Serving (mode : Mode) (c : AcqConfig) (Old New : List Input → Type 0) (e f : LaneEnd) (s t : Token) : Type 0 where
   pub served : List CellServed
   pub cells : List Cell
   pub are : messages_in served ≡ messages cells
@@ -108,12 +109,12 @@ pub record Serving (c : AcqConfig) (Old New : List Input → Type 0) (e f : Lane
   pub number : f.number ≡ e.number
   pub taken : f.hands.cells ≡ took e.hands.cells cells
   pub given_back : f.hands.free ≡ gave e.hands.free cells
-  pub serves : ServesOn c Old New (inputs_in served) s t
+  pub serves : ServesOn mode c Old New (inputs_in served) s t
   pub claims : (q : List Input) → Old q → ClaimEach c q served
   pub puts : (q : List Input) → Old q → PutsEach c q served e.hands.requests f.hands.requests
 
-pub begins : (c : AcqConfig) (Old : List Input → Type 0) (e : LaneEnd) (s : Token) → Serving c Old Old e e s s
-begins c Old e s = record {
+pub begins : (mode : Mode) (c : AcqConfig) (Old : List Input → Type 0) (e : LaneEnd) (s : Token) → Serving mode c Old Old e e s s
+begins mode c Old e s = record {
   served = [];
   cells = [];
   are = refl;
@@ -121,7 +122,7 @@ begins c Old e s = record {
   number = refl;
   taken = took_none e.hands.cells;
   given_back = gave_none e.hands.free;
-  serves = serves_none c Old s;
+  serves = serves_none mode c Old s;
   claims = λ q old. tt;
   puts = λ q old. refl;
 }
@@ -129,10 +130,10 @@ begins c Old e s = record {
 not_end : (s : Says) → is_end s ≡ false → s ≢ ended
 not_end s goes is = let bad : true ≡ false = ap is_end (sym is) ∙ goes in cc
 
-pub goes_on : (c d : AcqConfig) (Old Mid New Then : List Input → Type 0) (e f g h i : LaneEnd) (cell : Cell) (requests : List (List ℕ)) (s t u : Token)
-    → Serving c Old Mid e f s t → d ≡ c → g ≡ with_taken f cell → is_end (message_of cell).says ≡ false → ServesCell d Mid New (message_of cell) requests t u
-    → h ≡ with_freed g cell → PutsRequests requests h i → ((q : List Input) → New q → Then q) → Serving c Old Then e i s u
-goes_on c d Old Mid New Then e f g h i cell requests s t u so config take goes one freed puts keeps = record {
+pub goes_on : (mode : Mode) (c d : AcqConfig) (Old Mid New Then : List Input → Type 0) (e f g h i : LaneEnd) (cell : Cell) (requests : List (List ℕ)) (s t u : Token)
+    → Serving mode c Old Mid e f s t → d ≡ c → g ≡ with_taken f cell → is_end (message_of cell).says ≡ false → ServesCell mode d Mid New (message_of cell) requests t u
+    → h ≡ with_freed g cell → PutsRequests requests h i → ((q : List Input) → New q → Then q) → Serving mode c Old Then e i s u
+goes_on mode c d Old Mid New Then e f g h i cell requests s t u so config take goes one freed puts keeps = record {
   served = so.served ++ here ∷ [];
   cells = so.cells ++ cell ∷ [];
   are =
@@ -146,7 +147,7 @@ goes_on c d Old Mid New Then e f g h i cell requests s t u so config take goes o
   given_back =
       ap (λ (x : LaneEnd). x.hands.free) same
       ∙ (ap (λ x. gave x (cell ∷ [])) so.given_back ∙ gave_more e.hands.free so.cells (cell ∷ []));
-  serves = subst (λ l. ServesOn c Old Then l s u) (sym (inputs-push so.served here)) (record {
+  serves = subst (λ l. ServesOn mode c Old Then l s u) (sym (inputs-push so.served here)) (record {
     events = both.events;
     enters = both.enters;
     serves = both.serves;
@@ -164,8 +165,8 @@ goes_on c d Old Mid New Then e f g h i cell requests s t u so config take goes o
     here : CellServed
     here = record { message = message_of cell; given = one.given }
 
-    both : ServesOn c Old New (inputs_in so.served ++ inputs_of here) s u
-    both = serves_then c Old Mid New (inputs_in so.served) (inputs_of here) s t u so.serves (subst (λ (x : AcqConfig). ServesOn x Mid New (inputs_of here) t u) config one.serves)
+    both : ServesOn mode c Old New (inputs_in so.served ++ inputs_of here) s u
+    both = serves_then mode c Old Mid New (inputs_in so.served) (inputs_of here) s t u so.serves (subst (λ (x : AcqConfig). ServesOn mode x Mid New (inputs_of here) t u) config one.serves)
 
     before : h ≡ with_freed (with_taken f cell) cell
     before = freed ∙ ap (λ (x : LaneEnd). with_freed x cell) take
@@ -177,10 +178,10 @@ goes_on c d Old Mid New Then e f g h i cell requests s t u so config take goes o
     given = subst (λ x. PutsAll requests f.hands.requests x) (sym (ap (λ (x : LaneEnd). x.hands.requests) same))
         (subst (λ (x : LaneEnd). PutsAll requests x.hands.requests puts.after) before puts.puts)
 
-pub ends_so : (c d : AcqConfig) (Old Mid New : List Input → Type 0) (e f g h : LaneEnd) (last : Cell) (s t u : Token)
-    → Serving c Old Mid e f s t → d ≡ c → g ≡ with_taken f last → is_end (message_of last).says ≡ true → h ≡ with_freed g last
-    → ServesOn d Mid New (stop ∷ []) t u → ServesCells c Old New e h s u
-ends_so c d Old Mid New e f g h last s t u so config take is freed stopped = record {
+pub ends_so : (mode : Mode) (c d : AcqConfig) (Old Mid New : List Input → Type 0) (e f g h : LaneEnd) (last : Cell) (s t u : Token)
+    → Serving mode c Old Mid e f s t → d ≡ c → g ≡ with_taken f last → is_end (message_of last).says ≡ true → h ≡ with_freed g last
+    → ServesOn mode d Mid New (stop ∷ []) t u → ServesCells mode c Old New e h s u
+ends_so mode c d Old Mid New e f g h last s t u so config take is freed stopped = record {
   served = so.served;
   cells = so.cells;
   last = last;
@@ -194,7 +195,7 @@ ends_so c d Old Mid New e f g h last s t u so config take is freed stopped = rec
   given_back =
       ap (λ (x : LaneEnd). x.hands.free) same
       ∙ (ap (λ x. gave x (last ∷ [])) so.given_back ∙ gave_more e.hands.free so.cells (last ∷ []));
-  serves = serves_then c Old Mid New (inputs_in so.served) (stop ∷ []) s t u so.serves (subst (λ (x : AcqConfig). ServesOn x Mid New (stop ∷ []) t u) config stopped);
+  serves = serves_then mode c Old Mid New (inputs_in so.served) (stop ∷ []) s t u so.serves (subst (λ (x : AcqConfig). ServesOn mode x Mid New (stop ∷ []) t u) config stopped);
   claims = so.claims;
   puts = λ q old. subst (λ x. PutsEach c q so.served e.hands.requests x) (sym (ap (λ (x : LaneEnd). x.hands.requests) same)) (so.puts q old);
 }

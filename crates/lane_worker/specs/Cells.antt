@@ -6,6 +6,7 @@ use Rattle.acquisition_machine.specs.Machine.{Input, datagram, tick, request_byt
 use Rattle.acquisition_machine.specs.Runs.{turn}
 use Rattle.acquisition_machine.specs.TurnLaws.{asked_by}
 use Rattle.buffer_words.specs.Passes.{Token}
+use Rattle.mode_calls.specs.declared.mode.Mode.{Mode}
 use Rattle.gev_acq.specs.Claims.{ServesOn}
 use Rattle.gev_acq.specs.Turning.{inputs_if}
 use Rattle.gev_lanes.specs.Messages.{Message, Says, heard, told, ended}
@@ -48,8 +49,8 @@ IsClaimed c q None given = given ≡ None
 IsClaimed c q (Some bytes) given = is_some given ≡ is_some (asked_by (turn c q (datagram bytes)).need)
 
 -- The message was served, and the requests that wait are those that its moment brought.
-pub record ServesCell (c : AcqConfig) (Old New : List Input → Type 0) (m : Message) (requests : List (List ℕ)) (s t : Token) : Type 0 where
+pub record ServesCell (mode : Mode) (c : AcqConfig) (Old New : List Input → Type 0) (m : Message) (requests : List (List ℕ)) (s t : Token) : Type 0 where
   pub given : Option (Option Given)
-  pub serves : ServesOn c Old New (inputs_of (record { message = m; given = given })) s t
+  pub serves : ServesOn mode c Old New (inputs_of (record { message = m; given = given })) s t
   pub claimed : (q : List Input) → Old q → IsClaimed c q (came_in m.says) given
   pub asks : (q : List Input) → Old q → requests ≡ asks_of c q (record { message = m; given = given })

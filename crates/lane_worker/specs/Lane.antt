@@ -4,6 +4,7 @@ use Rattle.acquisition_machine.specs.declared.config.AcqConfig.{AcqConfig}
 use Rattle.acquisition_machine.specs.Machine.{Input, stop}
 use Rattle.buffer_words.specs.Passes.{Token}
 use Rattle.lane_queues.specs.Ends.{GiverEnd, gave, took}
+use Rattle.mode_calls.specs.declared.mode.Mode.{Mode}
 use Rattle.gev_acq.specs.Claims.{ServesOn}
 use Rattle.gev_lanes.specs.declared.cell.Cell.{Cell}
 use Rattle.gev_lanes.specs.Sides.{LaneEnd}
@@ -37,7 +38,7 @@ pub record PutsRequests (requests : List (List ℕ)) (e f : LaneEnd) : Type 0 wh
 
 -- The lane took cells up to the end, and served each: the inputs of its machine are those of the cells, in order, and a
 -- stop at the end. It gave back the cells that it took, and gave the machine's requests.
-pub record ServesCells (c : AcqConfig) (Old New : List Input → Type 0) (e f : LaneEnd) (s t : Token) : Type 0 where
+pub record ServesCells (mode : Mode) (c : AcqConfig) (Old New : List Input → Type 0) (e f : LaneEnd) (s t : Token) : Type 0 where
   pub served : List CellServed
   pub cells : List Cell
   pub last : Cell
@@ -47,6 +48,6 @@ pub record ServesCells (c : AcqConfig) (Old New : List Input → Type 0) (e f : 
   pub number : f.number ≡ e.number
   pub taken : f.hands.cells ≡ took e.hands.cells (cells ++ last ∷ [])
   pub given_back : f.hands.free ≡ gave e.hands.free (cells ++ last ∷ [])
-  pub serves : ServesOn c Old New (inputs_in served ++ stop ∷ []) s t
+  pub serves : ServesOn mode c Old New (inputs_in served ++ stop ∷ []) s t
   pub claims : (q : List Input) → Old q → ClaimEach c q served
   pub puts : (q : List Input) → Old q → PutsEach c q served e.hands.requests f.hands.requests

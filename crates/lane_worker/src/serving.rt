@@ -13,6 +13,7 @@ use buffer_words::{Board, Pass};
 use gev_acq::serve_turn;
 use gev_lanes::{Cell, CellKind};
 use gev_links::Gate;
+use mode_calls::Mode;
 use std::sync::Wait;
 
 /// Whether the reader has ended.
@@ -49,12 +50,13 @@ pub(crate) fn serve_cell<R: Wait, G: Gate>(
     acq: &mut Acq,
     gate: &G,
     cell: &Cell,
+    mode: Mode,
 )
     requires table { pass.old.table ≡ board_id board.now }
     requires fills { waiting_fills acq.old ≡ [] }
     requires requests { waiting_requests acq.old ≡ [] }
     requires backs { Backs pass.old (buffers acq.old) }
-    ensures serves { ServesCell (config_of acq.old) (Stands acq.old) (Stands acq.new) (message_of cell.now) (waiting_requests acq.new) pass.old pass.new }
+    ensures serves { ServesCell mode (config_of acq.old) (Stands acq.old) (Stands acq.new) (message_of cell.now) (waiting_requests acq.new) pass.old pass.new }
     ensures table { pass.new.table ≡ pass.old.table }
     ensures config { config_of acq.new ≡ config_of acq.old }
     ensures fills { waiting_fills acq.new ≡ [] }
@@ -62,5 +64,5 @@ pub(crate) fn serve_cell<R: Wait, G: Gate>(
     ensures alone { HoldsAlone pass.old (buffers acq.old) → HoldsAlone pass.new (buffers acq.new) }
 {
     let came = datagram_of(cell);
-    serve_turn(rt, board, pass, acq, gate, came, cell.moment);
+    serve_turn(rt, board, pass, acq, gate, came, cell.moment, mode);
 }

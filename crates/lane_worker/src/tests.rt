@@ -14,6 +14,7 @@ use gev_lanes::{LaneEnds, Lanes, ReaderEnds};
 use gev_links::{MemoryClock, MemoryLink, OpenGate};
 use gev_types::{Buf, Peer};
 use lane_reader::read_lanes;
+use mode_calls::Mode;
 use output_queue::take;
 use std::alloc::Global;
 use std::process::Abort;
@@ -71,13 +72,24 @@ fn bring(alloc: Global, board: &Board, pass: &mut Pass, place: u8) -> Result<(),
     }
 }
 
-// A board whose acquisition runs, with two buffers in the pool.
-fn new_board(alloc: Global) -> Result<(Board, Pass), Fail>
+// The same at place 1, where two buffers are wanted.
+fn bring_second(alloc: Global, board: &Board, pass: &mut Pass, buffers: u8) -> Result<(), Fail>
+    requires table { pass.old.table ≡ board_id board.now }
+    ensures table { pass.new.table ≡ pass.old.table }
+{
+    if buffers < 2 {
+        return Ok(());
+    }
+    bring(alloc, board, pass, 1)
+}
+
+// A board whose acquisition runs, with one or two buffers in the pool.
+fn new_board(alloc: Global, buffers: u8) -> Result<(Board, Pass), Fail>
     ensures table { IfOk result (λ made. made.1.table ≡ board_id made.0) }
 {
     let (board, mut pass) = Board::new(alloc)?;
     bring(alloc, &board, &mut pass, 0)?;
-    bring(alloc, &board, &mut pass, 1)?;
+    bring_second(alloc, &board, &mut pass, buffers)?;
     let _ = board.start(&mut pass);
     Ok((board, pass))
 }
@@ -108,6 +120,7 @@ fn serve_one<R: Wait>(
     lanes: &Lanes,
     reader: &mut ReaderEnds,
     mut ends: LaneEnds,
+    mode: Mode,
 ) -> Result<(), Fail>
     requires table { pass.old.table ≡ board_id board.now }
     requires reader { AreReadersOf lanes.now reader.old }
@@ -116,13 +129,13 @@ fn serve_one<R: Wait>(
     ensures reader { reader.new ≡ reader.old }
 {
     let mut acq = Acq::new(alloc, ONE_BLOCK)?;
-    lane(rt, board, pass, lanes, &mut ends, &mut acq, &OpenGate);
+    lane(rt, board, pass, lanes, &mut ends, &mut acq, &OpenGate, mode);
     lanes.meet(reader, ends);
     Ok(())
 }
 
-// The lanes, the last one first: each has the whole block that is its.
-fn serve_all<R: Abort + Wait>(
+// The lanes, the last one first: lane 1 has block 2, and lane 0 block 1.
+fn serve_all<R: Wait>(
     rt: &R,
     alloc: Global,
     board: &Board,
@@ -130,33 +143,37 @@ fn serve_all<R: Abort + Wait>(
     lanes: &Lanes,
     reader: &mut ReaderEnds,
     mut all: Vec<LaneEnds>,
+    mode: Mode,
 ) -> Result<(), Fail>
     requires table { pass.old.table ≡ board_id board.now }
     requires reader { AreReadersOf lanes.now reader.old }
     requires lanes { AreLanesOf lanes.now all.items }
+    ensures table { pass.new.table ≡ pass.old.table }
 {
-    let mut block = 2;
     'lanes: while let Some(ends) = all.pop() {
-        serve_one(rt, alloc, board, pass, lanes, reader, ends)?;
-        let image: &[u8] = if block == 2 { b"xyz\0" } else { b"abc\0" };
-        check_taken(rt, board, pass, block, image);
-        block = 1;
+        serve_one(rt, alloc, board, pass, lanes, reader, ends, mode)?;
     }
     Ok(())
 }
 
-// Six datagrams of two blocks, and a clock that always tells 0: the reader makes its six turns, and each lane fills its
-// block.
-#[test]
-fn two_lanes_fill_a_block_each(rt: HostRuntime) -> Result<(), Fail> {
-    let (board, mut pass) = new_board(rt.alloc())?;
-    let (lanes, mut reader, all) = Lanes::new(rt.alloc(), 2)?;
+// Six datagrams of two blocks, and a clock that always tells 0: the reader makes its six turns, and the lanes serve what
+// they got, block 2 first.
+fn serve_blocks<R: Abort + Wait>(
+    rt: &R,
+    alloc: Global,
+    buffers: u8,
+    mode: Mode,
+) -> Result<(Board, Pass), Fail>
+    ensures table { IfOk result (λ made. made.1.table ≡ board_id made.0) }
+{
+    let (board, mut pass) = new_board(alloc, buffers)?;
+    let (lanes, mut reader, all) = Lanes::new(alloc, 2)?;
     let mut client = Client::new();
-    let mut stream = MemoryLink::new(rt.alloc(), CAMERA, PACKETS, &[], &[], 0)?;
-    let mut control = MemoryLink::new(rt.alloc(), CAMERA, &[], &[], &[], 9)?;
+    let mut stream = MemoryLink::new(alloc, CAMERA, PACKETS, &[], &[], 0)?;
+    let mut control = MemoryLink::new(alloc, CAMERA, &[], &[], &[], 9)?;
     let mut clock = MemoryClock::new(&[]);
     let end = read_lanes(
-        &rt,
+        rt,
         &board,
         &mut pass,
         &lanes,
@@ -170,5 +187,32 @@ fn two_lanes_fill_a_block_each(rt: HostRuntime) -> Result<(), Fail> {
     );
     assert_eq!(rt; end, AcqEnd::Spent);
     assert_eq!(rt; control.sent().len(), 0);
-    serve_all(&rt, rt.alloc(), &board, &mut pass, &lanes, &mut reader, all)
+    serve_all(rt, alloc, &board, &mut pass, &lanes, &mut reader, all, mode)?;
+    Ok((board, pass))
+}
+
+#[test]
+fn two_lanes_fill_a_block_each(rt: HostRuntime) -> Result<(), Fail> {
+    let (board, mut pass) = serve_blocks(&rt, rt.alloc(), 2, Mode::OldestFirst)?;
+    check_taken(&rt, &board, &mut pass, 2, b"xyz\0");
+    check_taken(&rt, &board, &mut pass, 1, b"abc\0");
+    Ok(())
+}
+
+// The only buffer waits with block 2 when lane 0 wants one.
+#[test]
+fn a_lane_overwrites_what_waits(rt: HostRuntime) -> Result<(), Fail> {
+    let (board, mut pass) = serve_blocks(&rt, rt.alloc(), 1, Mode::OldestFirstOverwrite)?;
+    check_taken(&rt, &board, &mut pass, 1, b"abc\0");
+    assert_eq!(rt; board.look_out(&mut pass).0.len(), 0);
+    Ok(())
+}
+
+// Block 2 waits when lane 0 fills, which has a buffer of its own.
+#[test]
+fn a_lane_drops_what_waits(rt: HostRuntime) -> Result<(), Fail> {
+    let (board, mut pass) = serve_blocks(&rt, rt.alloc(), 2, Mode::NewestOnly)?;
+    check_taken(&rt, &board, &mut pass, 1, b"abc\0");
+    assert_eq!(rt; board.look_out(&mut pass).0.len(), 0);
+    Ok(())
 }

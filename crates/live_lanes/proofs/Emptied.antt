@@ -15,6 +15,7 @@ use Rattle.board_machine.proofs.Places.{times-append}
 use Rattle.board_machine.proofs.Quiet.{none_front, none_rest, run_stays, output_stays}
 use Rattle.board_machine.proofs.Runs.{own_of-append, after-append, runs_rest}
 use Rattle.buffer_words.specs.Workers.{AreOf}
+use Rattle.mode_calls.specs.declared.mode.Mode.{Mode}
 use Rattle.buffer_words.proofs.Working.{are_of_entries}
 use Rattle.gev_apply.specs.Looks.{Looked}
 use Rattle.gev_apply.specs.Applied.{EndsStopped}
@@ -150,10 +151,10 @@ which i k member = first (member_or i 0 (workers_of k) member)
 
 -- ---- the end
 
-pub emptied : (buffers : ℕ) (k : LanesCrew) (looked : List Looked) (h : List Entry) → LanesHistory buffers k h
+pub emptied : (mode : Mode) (buffers : ℕ) (k : LanesCrew) (looked : List Looked) (h : List Entry) → LanesHistory mode buffers k h
     → StopsLast k.reader h → LiveTakes k.application looked h → EndsStopped looked → HasNone is_stop (own_of k.camera h)
     → HasNone is_stop (own_of 0 h) → ((i : ℕ) → 1 ≤ times i k.lanes → HasNone is_stop (own_of i h)) → (After h).out ≡ []
-emptied buffers k looked h history stops takes stopped camera host lanes = by_reader (own_of k.reader two.later) refl
+emptied mode buffers k looked h history stops takes stopped camera host lanes = by_reader (own_of k.reader two.later) refl
   where
     n : ℕ
     n = k.application

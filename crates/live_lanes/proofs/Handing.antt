@@ -1,15 +1,15 @@
 -- Where the lines are written, all asked buffers were handed out or none is left.
-use Rattle.std.proofs.Common.{◌≡◌, ◌≢◌, ◌⊎◌, ℕ, ◌≤◌, Bool, true, false, List, [], ◌∷◌, ◌++◌, Option, Result, Ok, Err, refl, sym, ap, subst, ◌∙◌, inl, inr, append_assoc, arith, length}
+use Rattle.std.proofs.Common.{◌≡◌, ◌≢◌, ◌⊎◌, ℕ, ◌≤◌, true, false, List, [], ◌∷◌, ◌++◌, Option, Result, Ok, Err, refl, sym, ap, subst, ◌∙◌, inl, inr, append_assoc, length}
 use Rattle.gev_types.specs.declared.memory.NoMemory as memory
 use Rattle.board_machine.specs.declared.events.Entry.{Entry}
-use Rattle.board_machine.specs.declared.events.Event.{Event}
-use Rattle.board_machine.specs.declared.events.Event.TheVariants.{LookRun, Join, Stop}
+use Rattle.board_machine.specs.declared.events.Event.TheVariants.{Join, Stop}
 use Rattle.board_machine.specs.Machine.{entry}
 use Rattle.board_machine.specs.Places.{times}
 use Rattle.board_machine.specs.Adding.{entries_of}
 use Rattle.board_machine.specs.Histories.{own_of, After}
 use Rattle.board_machine.specs.Kinds.{HasNone, is_stop}
 use Rattle.board_machine.proofs.Adding.{entries_of-append}
+use Rattle.mode_calls.specs.declared.mode.Mode.{Mode}
 use Rattle.gev_status.specs.declared.status.Status.{Status}
 use Rattle.gev_links.specs.Links.{Address}
 use Rattle.gev_serve.specs.declared.ends.ServeEnd.{ServeEnd}
@@ -21,7 +21,7 @@ use Rattle.lane_reader.specs.Reads.{looks_in}
 use Rattle.lane_crew.specs.Reader.{EndsAfter}
 use Rattle.gev_apply.specs.Applied.{IsEnough}
 use Rattle.gev_crew.specs.Work.{has_failed}
-use Rattle.gev_live.specs.Endings.{taken_of, application_status, camera_status, status_by, is_told, FailsLast}
+use Rattle.gev_live.specs.Endings.{taken_of, camera_status, status_by, is_told, FailsLast}
 use Rattle.gev_live.specs.Parts.{LiveApplication}
 use Rattle.gev_live.specs.Told.{Told}
 use Rattle.gev_live.proofs.Unstopped.{Unstopped, both_unstopped, entries_unstopped, last_unstopped}
@@ -82,20 +82,20 @@ first_told : (first answer : Status) → (answer ≡ first) ⊎ ((is_told first 
 first_told first answer (inl e) told = ap is_told (sym e) ∙ told
 first_told first answer (inr fails) told = fails.0
 
-pub all_or_empty : (buffers : ℕ) (k : LanesCrew) (served : ServeEnd) (end : AcqEnd) (told now : Option (List ℕ)) (frames turns : ℕ) (lines : List ℕ) (applied : Result ℕ memory.NoMemory) (answer : Status) (h : List Entry)
-    → LanesHistory buffers k h → StopsLast k.reader h → LiveApplication told now frames k.application lines applied h
+pub all_or_empty : (mode : Mode) (buffers : ℕ) (k : LanesCrew) (served : ServeEnd) (end : AcqEnd) (told now : Option (List ℕ)) (frames turns : ℕ) (lines : List ℕ) (applied : Result ℕ memory.NoMemory) (answer : Status) (h : List Entry)
+    → LanesHistory mode buffers k h → StopsLast k.reader h → LiveApplication mode told now frames k.application lines applied h
     → (has_failed served ≡ false → HasNone is_stop (own_of k.camera h)) → HasNone is_stop (own_of 0 h) → ((i : ℕ) → 1 ≤ times i k.lanes → HasNone is_stop (own_of i h))
     → (answer ≡ status_by served end frames turns applied) ⊎ ((is_told (status_by served end frames turns applied) ≡ true) × FailsLast answer) → is_told answer ≡ true
     → (taken_of applied ≡ frames) ⊎ ((After h).out ≡ [])
-all_or_empty buffers k served end told now frames turns lines (Ok taken) answer h history stops application camera host lanes cause is = go application.told_lines.2
+all_or_empty mode buffers k served end told now frames turns lines (Ok taken) answer h history stops application camera host lanes cause is = go application.told_lines.2
   where
     well : has_failed served ≡ false
     well = told_well served end frames turns (Ok taken) (first_told (status_by served end frames turns (Ok taken)) answer cause is)
 
     go : IsEnough frames taken application.made → (taken ≡ frames) ⊎ ((After h).out ≡ [])
     go (inl all) = inl all.0
-    go (inr stopped) = inr (emptied buffers k application.made h history stops application.takes stopped (camera well) host lanes)
-all_or_empty buffers k served end told now frames turns lines (Err error) answer h history stops application camera host lanes cause is =
+    go (inr stopped) = inr (emptied mode buffers k application.made h history stops application.takes stopped (camera well) host lanes)
+all_or_empty mode buffers k served end told now frames turns lines (Err error) answer h history stops application camera host lanes cause is =
     absurd (told_well served end frames turns (Err error) (first_told (status_by served end frames turns (Err error)) answer cause is))
 
 -- ---- the turns

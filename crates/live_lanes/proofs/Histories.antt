@@ -1,29 +1,32 @@
 -- The history of a live run with lanes, by what its preparation, the splits, the workers, the lanes and the joins ensured.
-use Rattle.std.proofs.Common.{◌≡◌, inl, inr, ℕ, false, ◌≤◌, List, [], ◌∷◌, ◌++◌, Result, refl, sym, ap, subst, ◌∙◌, append_assoc, arith}
+use Rattle.std.proofs.Common.{◌≡◌, ◌⊎◌, inl, inr, ℕ, Bool, false, ◌≤◌, List, [], ◌∷◌, ◌++◌, Result, refl, sym, ap, subst, ◌∙◌, append_assoc, arith}
 use Rattle.std.proofs.lemmas.List.{append-nil}
 use Rattle.board_machine.specs.declared.events.Entry.{Entry}
 use Rattle.board_machine.specs.declared.events.Event.{Event}
 use Rattle.board_machine.specs.declared.events.Event.TheVariants.{Stop}
 use Rattle.board_machine.specs.Machine.{entry}
 use Rattle.board_machine.specs.Places.{times, IsPrefix}
-use Rattle.board_machine.specs.Histories.{Run, After, own_of}
+use Rattle.board_machine.specs.Histories.{Run, After}
 use Rattle.board_machine.specs.Actors.{AllBy}
 use Rattle.board_machine.specs.Owners.{IsOwned}
 use Rattle.board_machine.specs.Handout.{IsLegal}
 use Rattle.board_machine.specs.Kinds.{HasNone, is_close, is_fill_refused}
 use Rattle.board_machine.specs.Adding.{entries_of}
-use Rattle.board_machine.proofs.Places.{same_self, times-append}
+use Rattle.board_machine.proofs.Places.{same_self}
 use Rattle.board_machine.proofs.Quiet.{open_takes_fills}
 use Rattle.buffer_words.specs.Passes.{Token}
-use Rattle.buffer_words.specs.Workers.{AreOf, OnlyBy, Works, Worker, numbers, Hosts, HostedAll}
+use Rattle.buffer_words.specs.Workers.{AreApart, OnlyBy, Works, Worker, Hosts, OthersAreApart, HostedAll}
 use Rattle.buffer_words.proofs.Working.{are_of_entries}
 use Rattle.gev_crew.specs.Prepared.{Prepares, SawOnly}
 use Rattle.gev_crew.specs.Kinds.{is_cameras, is_applications, is_hosts}
+use Rattle.mode_calls.specs.declared.mode.Mode.{Mode}
+use Rattle.mode_calls.specs.declared.mode.Mode.TheVariants.{OldestFirst, OldestFirstOverwrite, NewestOnly}
 use Rattle.gev_lanes.specs.declared.parts.ReaderLane.{ReaderLane}
 use Rattle.lane_turns.specs.Turns.{ReaderTurn}
-use Rattle.gev_live.specs.Kinds.{is_live, is_filling, is_handing}
+use Rattle.gev_live.specs.Kinds.{is_filling, is_taking, is_handing}
+use Rattle.gev_live.specs.Acquirers.{takers}
 use Rattle.gev_live.specs.History.{live_size}
-use Rattle.gev_live.proofs.Apart.{is_other, hosts_live, cameras_live, applications_live, hosts_fill, cameras_fill, applications_fill, hosts_hand, cameras_hand, childless_cameras, childless_applications, all_live}
+use Rattle.gev_live.proofs.Apart.{is_other, hosts_live, cameras_live, applications_live, hosts_fill, cameras_fill, applications_fill, hosts_take, cameras_take, hosts_hand, cameras_hand, childless_cameras, childless_applications, all_live}
 use Rattle.gev_live.proofs.Quiet.{is_beginning, beginning_are, never_closed}
 use Rattle.gev_live.proofs.Splitting.{Behind, behind, only_later}
 use Rattle.lane_crew.specs.declared.lane_tools.LaneTools.{LaneTools}
@@ -32,19 +35,19 @@ use Rattle.live_lanes.specs.Kinds.{is_strict_lanes}
 use Rattle.live_lanes.specs.History.{LanesCrew, LanesHistory}
 use Rattle.live_lanes.specs.Homes.{LanesHome}
 use Rattle.live_lanes.specs.Made.{numbers_in}
-use Rattle.live_lanes.proofs.Apart.{readers_live, readers_fill, readers_hand, lanes_live, strict_live, strict_hand, childless_readers, childless_lanes, childless_strict}
+use Rattle.live_lanes.proofs.Apart.{readers_live, readers_fill, readers_take, readers_hand, lanes_live, strict_live, strict_take, strict_hand, childless_readers, childless_lanes, childless_strict}
 use Rattle.live_lanes.proofs.Crews.{Did, lane_workers, workers_numbers, lanes_home, strict_lanes_home, lanes_childless, lanes_apart, lanes_among}
 use Rattle.live_lanes.proofs.Hosting.{three_home, split_off, three_hosts, hosted, all_apart}
 use Rattle.live_lanes.proofs.Stopping.{StoppedAt, quiet_all}
 
 -- What the preparation, the splits, the workers, the lanes and the joins ensured, from the empty board on.
-pub record Story (buffers : ℕ) (s one two three four home back u a worked_a b worked_b d worked_d : Token) (n : ℕ) (made : List ReaderTurn) (us : List ReaderLane) (tools : List LaneTools) (answer : Result (Unit {0}) ℕ) : Type 0 where
+pub record Story (mode : Mode) (buffers : ℕ) (s one two three four home back u a worked_a b worked_b d worked_d : Token) (n : ℕ) (made : List ReaderTurn) (us : List ReaderLane) (tools : List LaneTools) (answer : Result (Unit {0}) ℕ) : Type 0 where
   pub prepared : SawOnly (Prepares live_size buffers) s
   pub crew : LanesHome s one two three four home back u a worked_a b worked_b d worked_d (numbers_in tools)
   pub camera : Works is_cameras a worked_a
   pub reader : Works is_lane_readers b worked_b
   pub application : Works is_applications d worked_d
-  pub did : Did n 0 made us tools u.seen
+  pub did : Did mode n 0 made us tools u.seen
   pub stopped : StoppedAt b.number answer (numbers_in tools) u.seen
   pub owned : IsOwned (After u.seen)
   pub legal : IsLegal u.seen
@@ -58,24 +61,25 @@ all_of l = record { rest = []; is = sym (append-nil l) }
 none_refused : (h : List Entry) → Run h → HasNone is_close h → HasNone is_fill_refused h
 none_refused h run none = open_takes_fills [] h run refl none
 
-pub lanes_history : (buffers : ℕ) (s one two three four home back u a worked_a b worked_b d worked_d : Token) (n : ℕ) (made : List ReaderTurn) (us : List ReaderLane) (tools : List LaneTools) (answer : Result (Unit {0}) ℕ)
-    → Story buffers s one two three four home back u a worked_a b worked_b d worked_d n made us tools answer → LanesHistory buffers (crew_of a b d tools) u.seen
-lanes_history buffers s one two three four home back u a worked_a b worked_b d worked_d n made us tools answer w = record {
+pub lanes_history : (mode : Mode) (buffers : ℕ) (s one two three four home back u a worked_a b worked_b d worked_d : Token) (n : ℕ) (made : List ReaderTurn) (us : List ReaderLane) (tools : List LaneTools) (answer : Result (Unit {0}) ℕ)
+    → Story mode buffers s one two three four home back u a worked_a b worked_b d worked_d n made us tools answer → LanesHistory mode buffers (crew_of a b d tools) u.seen
+lanes_history mode buffers s one two three four home back u a worked_a b worked_b d worked_d n made us tools answer w = record {
   run = w.crew.ended_run;
   owned = w.owned;
   legal = w.legal;
   alone = tight.alone;
   apart = all_apart s one two three four home back u a worked_a b worked_b d worked_d (numbers_in tools) w.crew;
-  entries = subst (λ l. AllBy (0 ∷ l) u.seen) (workers_numbers is_strict_lanes n 0 made us tools u.seen w.did trio) tight.entries;
+  entries = subst (λ l. AllBy (0 ∷ l) u.seen) (workers_numbers (is_strict_lanes mode) mode n 0 made us tools u.seen w.did trio) tight.entries;
   prepared = w.prepared.events;
   prepares = w.prepared.kind;
   since = tight.since;
   begins = begins_tight;
   kinds = all_live tight.since (tight.only is_other [] (inr hosts_live)
-      (lanes_apart is_strict_lanes is_other [] n 0 made us tools u.seen w.did trio strict_live (inr applications_live, (inr readers_live, (inr cameras_live, tt)))));
+      (lanes_apart (is_strict_lanes mode) is_other [] mode n 0 made us tools u.seen w.did trio (strict_live mode) (inr applications_live, (inr readers_live, (inr cameras_live, tt)))));
   fills = fills_by;
+  takes = takes_by mode tight.since w.did tight.only;
   hands = tight.only is_handing (d.number ∷ []) (inr hosts_hand)
-      (lanes_apart is_strict_lanes is_handing (d.number ∷ []) n 0 made us tools u.seen w.did trio strict_hand (inl (omega (arith, same_self d.number)), (inr readers_hand, (inr cameras_hand, tt))));
+      (lanes_apart (is_strict_lanes mode) is_handing (d.number ∷ []) mode n 0 made us tools u.seen w.did trio (strict_hand mode) (inl (omega (arith, same_self d.number)), (inr readers_hand, (inr cameras_hand, tt))));
   answer = answer;
   before = w.stopped.before;
   after = w.stopped.after;
@@ -92,29 +96,48 @@ lanes_history buffers s one two three four home back u a worked_a b worked_b d w
     hosts : Hosts s.seen is_hosts u (split_off a b d (numbers_in tools)) trio
     hosts = three_hosts s one two three four home back u a worked_a b worked_b d worked_d (numbers_in tools) w.crew w.camera w.reader w.application
 
-    loose : HostedAll s.seen is_hosts u.seen (lane_workers is_lanes n 0 made us tools u.seen w.did trio)
-    loose = hosted s one two three four home back u a worked_a b worked_b d worked_d (numbers_in tools) (lane_workers is_lanes n 0 made us tools u.seen w.did trio) w.crew
-        (lanes_home s.seen is_hosts u (split_off a b d (numbers_in tools)) trio n 0 made us tools u.seen (all_of u.seen) w.did hosts)
-        (lanes_childless is_lanes n 0 made us tools u.seen w.did trio childless_lanes (childless_applications, (childless_readers, (childless_cameras, tt))))
-        (workers_numbers is_lanes n 0 made us tools u.seen w.did trio)
+    loose : HostedAll s.seen is_hosts u.seen (lane_workers (is_lanes mode) mode n 0 made us tools u.seen w.did trio)
+    loose = hosted s one two three four home back u a worked_a b worked_b d worked_d (numbers_in tools) (lane_workers (is_lanes mode) mode n 0 made us tools u.seen w.did trio) w.crew
+        (lanes_home s.seen is_hosts u (split_off a b d (numbers_in tools)) trio mode n 0 made us tools u.seen (all_of u.seen) w.did hosts)
+        (lanes_childless (is_lanes mode) mode n 0 made us tools u.seen w.did trio (childless_lanes mode) (childless_applications, (childless_readers, (childless_cameras, tt))))
+        (workers_numbers (is_lanes mode) mode n 0 made us tools u.seen w.did trio)
 
     unclosed : HasNone is_close u.seen
     unclosed = never_closed live_size buffers w.prepared.events loose.since u.seen w.prepared.kind (loose.seen_since ∙ ap (λ l. l ++ loose.since) w.prepared.seen)
         (all_live loose.since (loose.only is_other [] (inr hosts_live)
-        (lanes_apart is_lanes is_other [] n 0 made us tools u.seen w.did trio lanes_live (inr applications_live, (inr readers_live, (inr cameras_live, tt))))))
+        (lanes_apart (is_lanes mode) is_other [] mode n 0 made us tools u.seen w.did trio (lanes_live mode) (inr applications_live, (inr readers_live, (inr cameras_live, tt))))))
 
-    tight : HostedAll s.seen is_hosts u.seen (lane_workers is_strict_lanes n 0 made us tools u.seen w.did trio)
-    tight = hosted s one two three four home back u a worked_a b worked_b d worked_d (numbers_in tools) (lane_workers is_strict_lanes n 0 made us tools u.seen w.did trio) w.crew
-        (strict_lanes_home s.seen is_hosts u (split_off a b d (numbers_in tools)) trio n 0 made us tools u.seen (all_of u.seen) (none_refused u.seen w.crew.ended_run unclosed) w.did hosts)
-        (lanes_childless is_strict_lanes n 0 made us tools u.seen w.did trio childless_strict (childless_applications, (childless_readers, (childless_cameras, tt))))
-        (workers_numbers is_strict_lanes n 0 made us tools u.seen w.did trio)
+    tight : HostedAll s.seen is_hosts u.seen (lane_workers (is_strict_lanes mode) mode n 0 made us tools u.seen w.did trio)
+    tight = hosted s one two three four home back u a worked_a b worked_b d worked_d (numbers_in tools) (lane_workers (is_strict_lanes mode) mode n 0 made us tools u.seen w.did trio) w.crew
+        (strict_lanes_home s.seen is_hosts u (split_off a b d (numbers_in tools)) trio mode n 0 made us tools u.seen (all_of u.seen) (none_refused u.seen w.crew.ended_run unclosed) w.did hosts)
+        (lanes_childless (is_strict_lanes mode) mode n 0 made us tools u.seen w.did trio (childless_strict mode) (childless_applications, (childless_readers, (childless_cameras, tt))))
+        (workers_numbers (is_strict_lanes mode) mode n 0 made us tools u.seen w.did trio)
 
     begins_tight : u.seen ≡ entries_of 0 w.prepared.events ++ tight.since
     begins_tight = tight.seen_since ∙ ap (λ l. l ++ tight.since) w.prepared.seen
 
     fills_by : OnlyBy is_filling (numbers_in tools) tight.since
     fills_by = tight.only is_filling (numbers_in tools) (inr hosts_fill)
-        (lanes_among is_strict_lanes is_filling (numbers_in tools) n 0 made us tools u.seen w.did trio (λ i. omega arith) (inr applications_fill, (inr readers_fill, (inr cameras_fill, tt))))
+        (lanes_among (is_strict_lanes mode) is_filling (numbers_in tools) mode n 0 made us tools u.seen w.did trio (λ i. omega arith) (inr applications_fill, (inr readers_fill, (inr cameras_fill, tt))))
+
+    -- in a mode that drops buffers the lanes are among those that take
+    takers_among : (m : Mode) (did : Did m n 0 made us tools u.seen) → OthersAreApart is_taking (d.number ∷ numbers_in tools) (lane_workers (is_strict_lanes m) m n 0 made us tools u.seen did trio)
+    takers_among m did =
+        lanes_among (is_strict_lanes m) is_taking (d.number ∷ numbers_in tools) m n 0 made us tools u.seen did trio (λ i. omega arith)
+        (inl (omega (arith, same_self d.number)), (inr readers_take, (inr cameras_take, tt)))
+
+    -- takes and poolings are the application's, and the lanes' in a mode that drops buffers
+    takes_by : (m : Mode) (since : List Entry) (did : Did m n 0 made us tools u.seen)
+        → ((part : Event → Bool) (ks : List ℕ) → ((1 ≤ times 0 ks) ⊎ AreApart is_hosts part) → OthersAreApart part ks (lane_workers (is_strict_lanes m) m n 0 made us tools u.seen did trio) → OnlyBy part ks since)
+        → OnlyBy is_taking (takers m d.number (numbers_in tools)) since
+    takes_by OldestFirst since did only =
+        only is_taking (d.number ∷ []) (inr hosts_take)
+        (lanes_apart (is_strict_lanes OldestFirst) is_taking (d.number ∷ []) OldestFirst n 0 made us tools u.seen did trio strict_take
+        (inl (omega (arith, same_self d.number)), (inr readers_take, (inr cameras_take, tt))))
+    takes_by OldestFirstOverwrite since did only =
+        only is_taking (d.number ∷ numbers_in tools) (inr hosts_take) (takers_among OldestFirstOverwrite did)
+    takes_by NewestOnly since did only =
+        only is_taking (d.number ∷ numbers_in tools) (inr hosts_take) (takers_among NewestOnly did)
 
     there : Behind (entries_of 0 w.prepared.events) tight.since w.stopped.before stop_entry w.stopped.after
     there = behind is_beginning (entries_of 0 w.prepared.events) tight.since w.stopped.before stop_entry w.stopped.after

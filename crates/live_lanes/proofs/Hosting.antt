@@ -1,7 +1,5 @@
 -- Whose the entries are after the workers and the lanes came home.
-use Rattle.std.proofs.Common.{◌≡◌, ◌⊎◌, inl, inr, ℕ, Bool, true, ◌+◌, ◌≤◌, List, [], ◌∷◌, ◌++◌, refl, sym, subst, arith}
-use Rattle.board_machine.specs.declared.events.Event.{Event}
-use Rattle.board_machine.specs.declared.events.Event.TheVariants.{Split}
+use Rattle.std.proofs.Common.{◌≡◌, ℕ, ◌≤◌, List, [], ◌∷◌, ◌++◌, refl, sym, subst, arith}
 use Rattle.board_machine.specs.Places.{times}
 use Rattle.board_machine.specs.Machine.{IsActor}
 use Rattle.board_machine.specs.Histories.{After}
@@ -14,9 +12,7 @@ use Rattle.gev_crew.specs.Kinds.{is_cameras, is_applications, is_hosts}
 use Rattle.lane_crew.specs.Kinds.{is_lane_readers}
 use Rattle.lane_homes.specs.Homes.{SplitsEach}
 use Rattle.lane_homes.proofs.Rising.{numbers_apart}
-use Rattle.gev_live.proofs.Apart.{childless_cameras, childless_applications}
 use Rattle.live_lanes.specs.Homes.{LanesHome}
-use Rattle.live_lanes.proofs.Apart.{childless_readers}
 use Rattle.live_lanes.proofs.Splits.{hosts_split_each}
 
 -- the three workers that came home

@@ -8,6 +8,7 @@ pub mod Histories
 pub mod Emptied
 pub mod Handing
 pub mod Shares
+pub mod Claiming
 pub mod Telling
 pub mod Steady
 pub mod Lasts

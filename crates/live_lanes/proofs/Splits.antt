@@ -5,16 +5,13 @@ use Rattle.atomic_table.specs.Seated.{TableId}
 use Rattle.board_machine.specs.declared.events.Entry.{Entry}
 use Rattle.board_machine.specs.declared.events.Event.{Event}
 use Rattle.board_machine.specs.declared.events.Event.TheVariants.{Split}
-use Rattle.acq_core.specs.Receiver.{config_of, buffers, Stands}
-use Rattle.acq_core.specs.declared.machine.Machine.{Machine}
-use Rattle.acq_core.specs.Waiting.{waiting_fills, waiting_requests}
+use Rattle.acq_core.specs.Receiver.{config_of}
 use Rattle.buffer_words.specs.Passes.{Token}
 use Rattle.buffer_words.specs.Workers.{Worker, Hosts}
 use Rattle.buffer_words.proofs.Working.{hosts_splits}
 use Rattle.gev_lanes.specs.declared.parts.LaneQueues.{LaneQueues}
 use Rattle.gev_lanes.specs.declared.parts.ReaderLane.{ReaderLane}
 use Rattle.gev_lanes.specs.Sides.{LaneEnd, IsLaneAt, AreNew}
-use Rattle.gev_live.specs.Told.{live_config}
 use Rattle.lane_crew.specs.declared.lane_tools.LaneTools.{LaneTools}
 use Rattle.lane_crew.specs.Tools.{IsReady, AreReady, ends_in}
 use Rattle.lane_homes.specs.Homes.{SplitsEach}

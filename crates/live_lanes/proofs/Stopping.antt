@@ -1,16 +1,15 @@
 -- Behind the stop of the acquisition's worker no lane acts.
-use Rattle.std.proofs.Common.{◌≡◌, ◌≢◌, ◌⊎◌, inl, inr, ℕ, Bool, true, false, ◌≤◌, ◌+◌, ◌==◌, List, [], ◌∷◌, ◌++◌, Result, refl, sym, ap, subst, ◌∙◌, append_assoc, arith, eq-eqb}
+use Rattle.std.proofs.Common.{◌≡◌, ◌≢◌, ℕ, Bool, true, false, ◌≤◌, ◌==◌, List, [], ◌∷◌, ◌++◌, Result, refl, sym, ap, subst, ◌∙◌, append_assoc, eq-eqb}
 use Rattle.std.proofs.lemmas.List.{append-nil, append_cancel_left}
-use Rattle.std.proofs.lemmas.Bool.{cond_both, cond-true}
+use Rattle.std.proofs.lemmas.Bool.{cond-true}
 use Rattle.board_machine.specs.declared.events.Entry.{Entry}
 use Rattle.board_machine.specs.declared.events.Event.{Event}
 use Rattle.board_machine.specs.declared.events.Event.TheVariants.{Stop}
-use Rattle.board_machine.specs.Machine.{empty_board, entry}
-use Rattle.board_machine.specs.Places.{times, IsPrefix}
-use Rattle.board_machine.specs.Histories.{Run, After, own_of}
+use Rattle.board_machine.specs.Machine.{entry}
+use Rattle.board_machine.specs.Places.{times}
+use Rattle.board_machine.specs.Histories.{own_of}
 use Rattle.board_machine.specs.Kinds.{HasNone}
-use Rattle.board_machine.proofs.Quiet.{none_rest}
-use Rattle.board_machine.proofs.Runs.{own_of-append, runs_rest}
+use Rattle.board_machine.proofs.Runs.{own_of-append}
 use Rattle.buffer_words.specs.Workers.{OnlyBy}
 use Rattle.gev_live.proofs.Splitting.{PartsAt, parts_at}
 

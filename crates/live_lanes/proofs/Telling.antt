@@ -1,5 +1,5 @@
 -- A live run with lanes, by what its workers and lanes promised.
-use Rattle.std.proofs.Common.{◌≡◌, inl, inr, ℕ, false, List, [], ◌∷◌, ◌++◌, Option, Result, refl, sym, ap, subst, ◌∙◌, append_assoc, ◌≤◌, length}
+use Rattle.std.proofs.Common.{◌≡◌, inl, inr, ℕ, false, List, [], ◌∷◌, ◌++◌, Option, Result, refl, sym, ap, subst, ◌∙◌, append_assoc, arith, ◌≤◌, length}
 use Rattle.std.proofs.lemmas.List.{append-nil, append_cancel_left}
 use Rattle.gev_types.specs.declared.memory.NoMemory as memory
 use Rattle.board_machine.specs.declared.events.Entry.{Entry}
@@ -11,12 +11,12 @@ use Rattle.board_machine.specs.Adding.{entries_of}
 use Rattle.board_machine.specs.Histories.{Run, own_of, After}
 use Rattle.board_machine.specs.Laws.{IsAlone}
 use Rattle.board_machine.specs.Kinds.{HasNone, is_stop}
+use Rattle.board_machine.proofs.Places.{same_self, times-append}
 use Rattle.board_machine.proofs.Runs.{own_of-append, runs_rest}
 use Rattle.buffer_words.specs.Passes.{Token, own}
 use Rattle.buffer_words.specs.Several.{EntersEach}
 use Rattle.buffer_words.proofs.Several.{each_then}
 use Rattle.client_machine.specs.Machine.{new_client}
-use Rattle.camera_machine.specs.Camera.{Camera}
 use Rattle.gev_links.specs.Links.{Address}
 use Rattle.gev_report.specs.LiveLine.{live_line}
 use Rattle.gev_serve.specs.declared.ends.ServeEnd.{ServeEnd}
@@ -29,12 +29,13 @@ use Rattle.lane_crew.specs.declared.lane_tools.LaneTools.{LaneTools}
 use Rattle.lane_crew.specs.Tools.{joins_of, ends_in}
 use Rattle.lane_crew.specs.Reader.{BringsAll}
 use Rattle.lane_crew.proofs.Staying.{lanes_stay}
-use Rattle.gev_live.specs.Told.{Told, reader_side, live_config, live_camera}
+use Rattle.gev_live.specs.Told.{Told, live_config, live_camera}
 use Rattle.gev_live.specs.History.{live_size}
 use Rattle.gev_live.specs.Endings.{taken_of, status_by, EndsSo}
 use Rattle.gev_live.specs.LiveRun.{Numbers}
 use Rattle.gev_live.specs.Parts.{LiveCamera, LiveApplication}
-use Rattle.gev_live.proofs.Quiet.{one_size, takes_by}
+use Rattle.gev_live.proofs.Quiet.{one_size}
+use Rattle.gev_live.proofs.Acquiring.{HandsOut, hands_out}
 use Rattle.gev_live.proofs.CameraPart.{camera_part}
 use Rattle.gev_live.proofs.ApplicationPart.{application_part}
 use Rattle.gev_live.proofs.Meaning.{links_stay, link_failed, answer_means, never_spent}
@@ -50,9 +51,10 @@ use Rattle.live_lanes.proofs.Splits.{numbers_count}
 use Rattle.live_lanes.proofs.Crews.{Did, lanes_stop_nothing, lanes_do_no_more}
 use Rattle.live_lanes.proofs.Hosting.{three_hosts}
 use Rattle.live_lanes.proofs.Stopping.{StoppedAt, stopped_at}
-use Rattle.live_lanes.proofs.Histories.{Story, crew_of, all_of, lanes_history}
+use Rattle.live_lanes.proofs.Histories.{crew_of, all_of, lanes_history}
 use Rattle.live_lanes.proofs.Handing.{stops_last, all_or_empty, spent_all}
 use Rattle.live_lanes.proofs.Shares.{lanes_share}
+use Rattle.live_lanes.proofs.Claiming.{lanes_untaken}
 
 -- the joins of the lanes by their numbers
 joins_same : (tools : List LaneTools) → joins_of tools ≡ joins_from (numbers_in tools)
@@ -70,7 +72,7 @@ own_entered s t events none e =
     ∙ (own_of-append s.number s.seen e.between ∙ (ap (λ l. l ++ own_of s.number e.between) none ∙ e.own)))
 
 module _ (n : Numbers) (lanes : ℕ) (camera stream : Address) (o e : Told) (served : ServeEnd) (read : AcqEnd) (taken : Result ℕ memory.NoMemory) (lines : List ℕ) (s u : Token)
-    (r : RanLanes lanes (live_camera n.seed) camera stream o e n.frames n.turns served read taken lines s u) where
+    (r : RanLanes n.mode lanes (live_camera n.seed) camera stream o e n.frames n.turns served read taken lines s u) where
   back_in : IsPrefix r.back.seen u.seen
   back_in = seen_more r.back u (Join r.worked_d.number) r.crew.third.joins
 
@@ -87,9 +89,9 @@ module _ (n : Numbers) (lanes : ℕ) (camera stream : Address) (o e : Told) (ser
   joined_is : u.seen ≡ r.reads.joined.seen ++ behind_them
   joined_is = worked_in.is ∙ (ap (λ l. l ++ worked_in.rest) r.reads.stops.seen ∙ append_assoc r.reads.joined.seen r.reads.stops.between worked_in.rest)
 
-  pub did_all : Did (length r.tools) 0 r.reads.made r.reads.after r.tools u.seen
-  did_all = subst (λ l. Did (length r.tools) 0 r.reads.made r.reads.after r.tools l) (sym joined_is)
-      (lanes_stay (length r.tools) 0 r.reads.made r.reads.after r.tools r.reads.joined.seen behind_them r.reads.did (subst (λ l. Run l) joined_is r.crew.ended_run))
+  pub did_all : Did n.mode (length r.tools) 0 r.reads.made r.reads.after r.tools u.seen
+  did_all = subst (λ l. Did n.mode (length r.tools) 0 r.reads.made r.reads.after r.tools l) (sym joined_is)
+      (lanes_stay n.mode (length r.tools) 0 r.reads.made r.reads.after r.tools r.reads.joined.seen behind_them r.reads.did (subst (λ l. Run l) joined_is r.crew.ended_run))
 
   own_b : own_of r.b.number u.seen ≡ own r.worked_b
   own_b = home_own r.one r.two r.b r.worked_b r.home r.back u.seen r.crew.second back_in r.crew.ended_run
@@ -125,11 +127,11 @@ module _ (n : Numbers) (lanes : ℕ) (camera stream : Address) (o e : Told) (ser
 
   stop_stands : StoppedAt r.b.number r.reads.answer (numbers_in r.tools) u.seen
   stop_stands = stopped_at r.b.number r.reads.answer (numbers_in r.tools) r.reads.joined.seen behind_them u.seen joined_is stop_alone
-      (lanes_do_no_more (length r.tools) 0 r.reads.made r.reads.after r.tools r.reads.joined.seen behind_them r.reads.did
+      (lanes_do_no_more n.mode (length r.tools) 0 r.reads.made r.reads.after r.tools r.reads.joined.seen behind_them r.reads.did
       (runs_rest empty_board r.reads.joined.seen behind_them (subst (λ l. Run l) joined_is r.crew.ended_run)))
 
-  pub history_of : SawOnly (Prepares live_size n.buffers) s → LanesHistory n.buffers (crew_of r.a r.b r.d r.tools) u.seen
-  history_of saw = lanes_history n.buffers s r.one r.two r.three r.four r.home r.back u r.a r.worked_a r.b r.worked_b r.d r.worked_d (length r.tools) r.reads.made r.reads.after r.tools r.reads.answer
+  pub history_of : SawOnly (Prepares live_size n.buffers) s → LanesHistory n.mode n.buffers (crew_of r.a r.b r.d r.tools) u.seen
+  history_of saw = lanes_history n.mode n.buffers s r.one r.two r.three r.four r.home r.back u r.a r.worked_a r.b r.worked_b r.d r.worked_d (length r.tools) r.reads.made r.reads.after r.tools r.reads.answer
       (record {
         prepared = saw;
         crew = r.crew;
@@ -162,15 +164,30 @@ module _ (n : Numbers) (lanes : ℕ) (camera stream : Address) (o e : Told) (ser
   pub camera_of : LiveCamera (live_camera n.seed) o.camera e.camera o.camera_clock e.camera_clock served
   camera_of = camera_part served (live_camera n.seed) r.serves.camera o.camera e.camera o.camera_clock e.camera_clock r.a r.serves.middle r.serves.serves
 
-  pub application_of : LanesHistory n.buffers (crew_of r.a r.b r.d r.tools) u.seen → LiveApplication o.app_clock e.app_clock n.frames r.d.number lines taken u.seen
-  application_of history = application_part n.frames o.app_clock e.app_clock lines taken r.d r.worked_d u.seen r.applies r.crew.third.new r.crew.ended_run
+  pub shares_of : LanesHistory n.mode n.buffers (crew_of r.a r.b r.d r.tools) u.seen
+      → LanesShare n.mode live_config (length r.tools) 0 (numbers_in r.tools) r.reads.made r.reads.after (ends_in r.tools) u.seen
+  shares_of history = lanes_share n.mode (length r.tools) 0 r.reads.made r.reads.after r.tools u.seen r.configs r.crew.ended_run
+      (one_size live_size n.buffers history.prepared history.since u.seen history.prepares history.begins history.kinds) did_all
+
+  -- the application is no lane
+  no_lane : LanesHistory n.mode n.buffers (crew_of r.a r.b r.d r.tools) u.seen → times r.d.number (numbers_in r.tools) ≡ 0
+  no_lane history =
+      omega (arith, history.apart r.d.number, times-append r.d.number (numbers_in r.tools) (r.d.number ∷ r.b.number ∷ r.a.number ∷ []), same_self r.d.number)
+
+  hands_of : LanesHistory n.mode n.buffers (crew_of r.a r.b r.d r.tools) u.seen → HandsOut n.mode r.d.number u.seen
+  hands_of history = hands_out n.mode r.d.number (numbers_in r.tools) live_size n.buffers history.prepared history.since u.seen history.prepares history.begins (no_lane history)
+      history.fills history.takes
+      (lanes_untaken n.mode (length r.tools) 0 (numbers_in r.tools) r.reads.made r.reads.after (ends_in r.tools) u.seen (shares_of history))
+
+  pub application_of : LanesHistory n.mode n.buffers (crew_of r.a r.b r.d r.tools) u.seen → LiveApplication n.mode o.app_clock e.app_clock n.frames r.d.number lines taken u.seen
+  application_of history = application_part n.mode n.frames o.app_clock e.app_clock lines taken r.d r.worked_d u.seen r.applies r.crew.third.new r.crew.ended_run
       (home_prefix r.two r.three r.d r.worked_d r.back u u.seen r.crew.third (all_of u.seen))
       (home_own r.two r.three r.d r.worked_d r.back u u.seen r.crew.third (all_of u.seen) r.crew.ended_run)
-      (takes_by r.d.number live_size n.buffers history.prepared history.since u.seen history.prepares history.begins history.hands)
+      (hands_of history).handed (hands_of history).undropped
 
 pub ran_lanes : (n : Numbers) (lanes : ℕ) (camera stream : Address) (answer : Status) (o e : Told) (served : ServeEnd) (read : AcqEnd) (taken : Result ℕ memory.NoMemory) (lines : List ℕ)
     (written written_after : Option (List ℕ)) (faults faults_after : ℕ) (s u : Token)
-    → SawOnly (Prepares live_size n.buffers) s → RanLanes lanes (live_camera n.seed) camera stream o e n.frames n.turns served read taken lines s u
+    → SawOnly (Prepares live_size n.buffers) s → RanLanes n.mode lanes (live_camera n.seed) camera stream o e n.frames n.turns served read taken lines s u
     → EndsSo (status_by served read n.frames n.turns taken) answer (lines ++ live_line n.frames (taken_of taken)) written written_after faults faults_after
     → LanesRun n lanes camera stream answer o e written written_after faults faults_after u.seen
 unfolding reader_of
@@ -182,29 +199,28 @@ ran_lanes n lanes camera stream answer o e served read taken lines written writt
   camera_part = served_part;
   read = read;
   reader_part = part;
-  shares = subst (λ k. LanesShare live_config k 0 (numbers_in r.tools) r.reads.made r.reads.after (ends_in r.tools) u.seen) r.count
-      (lanes_share (length r.tools) 0 r.reads.made r.reads.after r.tools u.seen r.configs r.crew.ended_run
-      (one_size live_size n.buffers history.prepared history.since u.seen history.prepares history.begins history.kinds) did);
+  shares = subst (λ k. LanesShare n.mode live_config k 0 (numbers_in r.tools) r.reads.made r.reads.after (ends_in r.tools) u.seen) r.count
+      (shares_of n lanes camera stream o e served read taken lines s u r history);
   applied = taken;
   lines = lines;
   application_part = taken_part;
   ended = ends;
   steady = links_stay (live_camera n.seed) o e served read n.frames n.turns taken answer served_part r.faults ends.cause;
   failed = link_failed (live_camera n.seed) o e served read n.frames n.turns taken answer served_part r.faults ends.cause;
-  none_left = all_or_empty n.buffers (crew_of r.a r.b r.d r.tools) served read o.app_clock e.app_clock n.frames n.turns lines taken answer u.seen history
+  none_left = all_or_empty n.mode n.buffers (crew_of r.a r.b r.d r.tools) served read o.app_clock e.app_clock n.frames n.turns lines taken answer u.seen history
       (stops_last camera stream o e n.turns r.b.number (numbers_in r.tools) read u.seen part) taken_part
       (λ well. subst (λ l. HasNone is_stop l) (sym own_camera) (camera_stops_nothing served (live_camera n.seed) o.camera e.camera o.camera_clock e.camera_clock r.a r.worked_a well r.crew.first.new r.serves))
       (host_stops_nothing live_size n.buffers s u _ _ saw
       (three_hosts s r.one r.two r.three r.four r.home r.back u r.a r.worked_a r.b r.worked_b r.d r.worked_d (numbers_in r.tools) r.crew r.camera_works r.reader_works r.application_works))
-      (lanes_stop_nothing (length r.tools) 0 r.reads.made r.reads.after r.tools u.seen did) ends.cause;
+      (lanes_stop_nothing n.mode (length r.tools) 0 r.reads.made r.reads.after r.tools u.seen did) ends.cause;
   means = answer_means served read n.frames n.turns (length r.reads.made) lines taken_part.made taken answer taken_part.told_lines
       (spent_all r.reads.on.setup_end read n.turns r.reads.made (never_spent stream new_client r.reads.on.setup r.reads.on.setup_end r.reads.on.client r.reads.on.set_up_by) r.reads.on.ends) ends.cause;
 }
   where
-    history : LanesHistory n.buffers (crew_of r.a r.b r.d r.tools) u.seen
+    history : LanesHistory n.mode n.buffers (crew_of r.a r.b r.d r.tools) u.seen
     history = history_of n lanes camera stream o e served read taken lines s u r saw
 
-    did : Did (length r.tools) 0 r.reads.made r.reads.after r.tools u.seen
+    did : Did n.mode (length r.tools) 0 r.reads.made r.reads.after r.tools u.seen
     did = did_all n lanes camera stream o e served read taken lines s u r
 
     part : LanesReader camera stream o e n.turns r.b.number (numbers_in r.tools) read u.seen
@@ -213,7 +229,7 @@ ran_lanes n lanes camera stream answer o e served read taken lines written writt
     served_part : LiveCamera (live_camera n.seed) o.camera e.camera o.camera_clock e.camera_clock served
     served_part = camera_of n lanes camera stream o e served read taken lines s u r
 
-    taken_part : LiveApplication o.app_clock e.app_clock n.frames r.d.number lines taken u.seen
+    taken_part : LiveApplication n.mode o.app_clock e.app_clock n.frames r.d.number lines taken u.seen
     taken_part = application_of n lanes camera stream o e served read taken lines s u r history
 
     own_camera : own_of r.a.number u.seen ≡ own r.worked_a

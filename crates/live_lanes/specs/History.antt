@@ -14,7 +14,9 @@ use Rattle.board_machine.specs.Actors.{AllBy}
 use Rattle.board_machine.specs.Adding.{entries_of}
 use Rattle.buffer_words.specs.Workers.{AreOf, OnlyBy}
 use Rattle.gev_crew.specs.Prepared.{Prepares}
-use Rattle.gev_live.specs.Kinds.{is_live, is_filling, is_handing}
+use Rattle.mode_calls.specs.declared.mode.Mode.{Mode}
+use Rattle.gev_live.specs.Kinds.{is_live, is_filling, is_taking, is_handing}
+use Rattle.gev_live.specs.Acquirers.{takers}
 use Rattle.gev_live.specs.History.{live_size}
 
 -- the numbers of the workers' actors, and of the lanes' in their order
@@ -29,10 +31,11 @@ workers_of k = k.lanes ++ k.application ∷ k.reader ∷ k.camera ∷ []
 
 -- A history from the empty board on, in which each place has one owner, at every step, and buffers are handed out
 -- in the order of their fills. It begins with so many buffers, which the first actor announces and queues, and with
--- the start. After that claims and fills are the lanes' alone, and takes, lays, grabs, poolings and unposts the
--- application's; all else is looks, splits, joins and stops. Behind the stop of the acquisition's worker nothing is
--- claimed or filled. At the end the first actor is alone again.
-pub record LanesHistory (buffers : ℕ) (k : LanesCrew) (h : List Entry) : Type 0 where
+-- the start. After that claims and fills are the lanes' alone, and lays, grabs and unposts the application's. Takes and
+-- poolings are the application's too, and with the other modes than OldestFirst those of the lanes' claims and fills;
+-- all else is looks, splits, joins and stops. Behind the stop of the acquisition's worker nothing is claimed or filled.
+-- At the end the first actor is alone again.
+pub record LanesHistory (mode : Mode) (buffers : ℕ) (k : LanesCrew) (h : List Entry) : Type 0 where
   pub run : Run h
   pub owned : IsOwned (After h)
   pub legal : IsLegal h
@@ -45,6 +48,7 @@ pub record LanesHistory (buffers : ℕ) (k : LanesCrew) (h : List Entry) : Type 
   pub begins : h ≡ entries_of 0 prepared ++ since
   pub kinds : AreOf is_live since
   pub fills : OnlyBy is_filling k.lanes since
+  pub takes : OnlyBy is_taking (takers mode k.application k.lanes) since
   pub hands : OnlyBy is_handing (k.application ∷ []) since
   pub answer : Result (Unit {0}) ℕ
   pub before : List Entry

@@ -21,15 +21,15 @@ use Rattle.live_lanes.specs.Parts.{LanesReader, LanesShare}
 pub record LanesRun (n : Numbers) (lanes : ℕ) (camera stream : Address) (answer : Status) (o e : Told) (written written_after : Option (List ℕ)) (faults faults_after : ℕ) (h : List Entry) : Type 0 where
   pub crew : LanesCrew
   pub count : length crew.lanes ≡ lanes
-  pub history : LanesHistory n.buffers crew h
+  pub history : LanesHistory n.mode n.buffers crew h
   pub served : ServeEnd
   pub camera_part : LiveCamera (live_camera n.seed) o.camera e.camera o.camera_clock e.camera_clock served
   pub read : AcqEnd
   pub reader_part : LanesReader camera stream o e n.turns crew.reader crew.lanes read h
-  pub shares : LanesShare live_config lanes 0 crew.lanes reader_part.made reader_part.sides_after reader_part.ends h
+  pub shares : LanesShare n.mode live_config lanes 0 crew.lanes reader_part.made reader_part.sides_after reader_part.ends h
   pub applied : Result ℕ NoMemory
   pub lines : List ℕ
-  pub application_part : LiveApplication o.app_clock e.app_clock n.frames crew.application lines applied h
+  pub application_part : LiveApplication n.mode o.app_clock e.app_clock n.frames crew.application lines applied h
   pub ended : EndsSo (status_by served read n.frames n.turns applied) answer (lines ++ live_line n.frames (taken_of applied)) written written_after faults faults_after
   pub steady : answer ≢ status.LinkFault → LinksStay o e
   pub failed : answer ≡ status.LinkFault → LinkFailed o e

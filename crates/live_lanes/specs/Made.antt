@@ -2,7 +2,7 @@
 use Rattle.std.specs.Prelude.{◌≡◌, ⊤, ℕ, ◌≤◌, List, [], ◌∷◌, length}
 use Rattle.atomic_table.specs.Seated.{TableId}
 use Rattle.board_machine.specs.declared.events.Event.TheVariants.{Split}
-use Rattle.buffer_words.specs.Passes.{Token, own, IsEmptyHanded, Enters, SameHands}
+use Rattle.buffer_words.specs.Passes.{Token, own, IsEmptyHanded, Enters}
 use Rattle.client_machine.specs.Machine.{Client, HasSubmittedNone}
 use Rattle.camera_machine.specs.Camera.{Camera}
 use Rattle.acq_core.specs.Receiver.{config_of, buffers, Stands}

@@ -13,6 +13,7 @@ use Rattle.client_machine.specs.Machine.{Client, new_client}
 use Rattle.gev_links.specs.Links.{Address}
 use Rattle.gev_control.specs.declared.acq_end.AcqEnd.{AcqEnd}
 use Rattle.gev_control.specs.Ends.{is_fault_end}
+use Rattle.mode_calls.specs.declared.mode.Mode.{Mode}
 use Rattle.gev_acq.specs.Reading.{FaultsOf}
 use Rattle.gev_acq.specs.Claims.{claims_in}
 use Rattle.gev_reader.specs.History.{AreSized}
@@ -51,19 +52,19 @@ pub record LanesReader (camera stream : Address) (o e : Told) (turns k : ℕ) (l
   pub brings : BringsAll (length lanes) made sides sides_after
 
 -- Lane k of n, actor a, with an acquisition machine of its own: it served some of what the reader heard for it, in
--- order, and then the machine's stop. What it put into the output is what these inputs retire, in order; each buffer
+-- order, by the buffer handling mode, and then the machine's stop. What it put into the output is what these inputs retire, in order; each buffer
 -- that it claimed has the run's size.
-pub record LaneShare (c : AcqConfig) (n k a : ℕ) (made : List ReaderTurn) (sides : List ReaderLane) (e : LaneEnd) (h : List Entry) : Type 0 where
+pub record LaneShare (mode : Mode) (c : AcqConfig) (n k a : ℕ) (made : List ReaderTurn) (sides : List ReaderLane) (e : LaneEnd) (h : List Entry) : Type 0 where
   pub served : List CellServed
   pub heard : IsHeard n k made served
   pub queued : IsQueued c k sides e served
-  pub part : LanePart c a h served
+  pub part : LanePart mode c a h served
   pub fills : tried (own_of a h) ≡ retired_items c (inputs_in served ++ stop ∷ [])
   pub sized : AreSized live_size (claims_in (inputs_in served))
 
 -- The same of each lane, with numbers from k on.
-abbrev pub LanesShare : AcqConfig → ℕ → ℕ → List ℕ → List ReaderTurn → List ReaderLane → List LaneEnd → List Entry → Type 0
-LanesShare c n k [] made sides [] h = ⊤
-LanesShare c n k (a ∷ lanes) made sides [] h = ⊥
-LanesShare c n k [] made sides (e ∷ es) h = ⊥
-LanesShare c n k (a ∷ lanes) made sides (e ∷ es) h = LaneShare c n k a made sides e h × LanesShare c n (suc k) lanes made sides es h
+abbrev pub LanesShare : Mode → AcqConfig → ℕ → ℕ → List ℕ → List ReaderTurn → List ReaderLane → List LaneEnd → List Entry → Type 0
+LanesShare mode c n k [] made sides [] h = ⊤
+LanesShare mode c n k (a ∷ lanes) made sides [] h = ⊥
+LanesShare mode c n k [] made sides (e ∷ es) h = ⊥
+LanesShare mode c n k (a ∷ lanes) made sides (e ∷ es) h = LaneShare mode c n k a made sides e h × LanesShare mode c n (suc k) lanes made sides es h

@@ -8,6 +8,7 @@ use Rattle.buffer_words.specs.Passes.{Token}
 use Rattle.buffer_words.specs.Workers.{Works}
 use Rattle.client_machine.specs.Machine.{Client, new_client}
 use Rattle.camera_machine.specs.Camera.{Camera}
+use Rattle.mode_calls.specs.declared.mode.Mode.{Mode}
 use Rattle.gev_links.specs.Links.{Address}
 use Rattle.gev_serve.specs.declared.ends.ServeEnd.{ServeEnd}
 use Rattle.gev_control.specs.declared.acq_end.AcqEnd.{AcqEnd}
@@ -28,7 +29,7 @@ use Rattle.live_lanes.specs.Homes.{LanesHome}
 
 -- The workers' passes a, b and d and the lanes' were split off from the token s on and joined up to the token u, and each
 -- worker kept its promise.
-pub record RanLanes (lanes : ℕ) (new : Camera) (camera stream : Address) (o e : Told) (frames turns : ℕ) (served : ServeEnd) (read : AcqEnd) (answer : Result ℕ NoMemory) (lines : List ℕ) (s u : Token) : Type 0 where
+pub record RanLanes (mode : Mode) (lanes : ℕ) (new : Camera) (camera stream : Address) (o e : Told) (frames turns : ℕ) (served : ServeEnd) (read : AcqEnd) (answer : Result ℕ NoMemory) (lines : List ℕ) (s u : Token) : Type 0 where
   pub one : Token
   pub two : Token
   pub three : Token
@@ -52,7 +53,7 @@ pub record RanLanes (lanes : ℕ) (new : Camera) (camera stream : Address) (o e 
   pub sides : List ReaderLane
   pub sides_new : AreNew 0 queues sides (ends_in tools)
   pub reader_works : Works is_lane_readers b worked_b
-  pub reads : ReadsByLanes camera stream (reader_side o new_client) (reader_side e client) sides tools turns read b worked_b
+  pub reads : ReadsByLanes mode camera stream (reader_side o new_client) (reader_side e client) sides tools turns read b worked_b
   pub faults : FaultsOf (is_fault_end read) o.stream.faults e.stream.faults o.control.faults e.control.faults
   pub application_works : Works is_applications d worked_d
   pub applies : AppliesAndStops frames o.app_clock e.app_clock [] lines answer d worked_d

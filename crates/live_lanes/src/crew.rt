@@ -25,6 +25,7 @@ use gev_links::{Clock, Gate, Link};
 use gev_live::Ends;
 use gev_types::Peer;
 use lane_crew::{LaneTools, LanesDone, read_by_lanes};
+use mode_calls::Mode;
 use std::alloc::Global;
 use std::sync::Wait;
 use std::thread;
@@ -67,6 +68,7 @@ fn read_and_apply<
     turns: u64,
     frames: u32,
     lines: Vec<u8>,
+    mode: Mode,
 ) -> (LanesDone<S, L, C>, ApplicationWork<C>)
     requires tables { (mine.pass.table ≡ board_id board.now) × (taker.table ≡ board_id board.now) }
     requires hands { IsEmptyHanded mine.pass }
@@ -75,7 +77,7 @@ fn read_and_apply<
     requires readers { AreReadersOf lanes.now mine.reader }
     requires ready { AreReady (board_id board.now) lanes.now mine.tools.items }
     requires some { 0 < length lanes.now }
-    ensures reads { ReadsByLanes camera own
+    ensures reads { ReadsByLanes mode camera own
         (record { received = S.received stream; heard = L.received control; sent = L.sent control; told = C.told host_clock; client = mine.client })
         (record { received = S.received result.0.stream; heard = L.received result.0.control; sent = L.sent result.0.control; told = C.told result.0.clock; client = result.0.client })
         mine.reader mine.tools.items turns result.0.end mine.pass result.0.pass }
@@ -96,7 +98,7 @@ fn read_and_apply<
         move || -> LanesDone<S, L, C>
             requires { (mine.pass.table ≡ board_id board.now) × IsEmptyHanded mine.pass × HasSubmittedNone mine.client × AreNew 0 lanes.now mine.reader (ends_in mine.tools.items)
                 × AreReadersOf lanes.now mine.reader × AreReady (board_id board.now) lanes.now mine.tools.items × (0 < length lanes.now) }
-            ensures { ReadsByLanes camera own
+            ensures { ReadsByLanes mode camera own
                 (record { received = S.received stream; heard = L.received control; sent = L.sent control; told = C.told host_clock; client = mine.client })
                 (record { received = S.received result.stream; heard = L.received result.control; sent = L.sent result.control; told = C.told result.clock; client = result.client })
                 mine.reader mine.tools.items turns result.end mine.pass result.pass
@@ -111,7 +113,7 @@ fn read_and_apply<
             } = mine;
             read_by_lanes(
                 rt, board, pass, lanes, reader, tools, client, stream, control, host_clock, gate,
-                camera, own, turns,
+                camera, own, turns, mode,
             )
         },
     );
@@ -139,6 +141,7 @@ pub(crate) fn work_crew<
     turns: u64,
     frames: u32,
     lines: Vec<u8>,
+    mode: Mode,
 ) -> (CameraWork<L, C>, (LanesDone<S, L, C>, ApplicationWork<C>))
     requires tables { (watcher.table ≡ board_id board.now) × (mine.pass.table ≡ board_id board.now) × (taker.table ≡ board_id board.now) }
     requires hands { IsEmptyHanded mine.pass }
@@ -151,7 +154,7 @@ pub(crate) fn work_crew<
     ensures serves { ServesAndStops result.0.end camera (wire (L.received ends.camera) (L.sent ends.camera) (L.faults ends.camera))
         (wire (L.received result.0.link) (L.sent result.0.link) (L.faults result.0.link)) (C.told ends.camera_clock) (C.told result.0.clock) watcher result.0.pass }
     ensures camera { Works is_cameras watcher result.0.pass × KeepsHands watcher result.0.pass }
-    ensures reads { ReadsByLanes (L.address ends.camera) (S.address ends.stream)
+    ensures reads { ReadsByLanes mode (L.address ends.camera) (S.address ends.stream)
         (record { received = S.received ends.stream; heard = L.received ends.control; sent = L.sent ends.control; told = C.told ends.host_clock; client = mine.client })
         (record { received = S.received result.1.0.stream; heard = L.received result.1.0.control; sent = L.sent result.1.0.control; told = C.told result.1.0.clock; client = result.1.0.client })
         mine.reader mine.tools.items turns result.1.0.end mine.pass result.1.0.pass }
@@ -181,7 +184,7 @@ pub(crate) fn work_crew<
         move || -> (LanesDone<S, L, C>, ApplicationWork<C>)
             requires { (mine.pass.table ≡ board_id board.now) × (taker.table ≡ board_id board.now) × IsEmptyHanded mine.pass × HasSubmittedNone mine.client
                 × AreNew 0 lanes.now mine.reader (ends_in mine.tools.items) × AreReadersOf lanes.now mine.reader × AreReady (board_id board.now) lanes.now mine.tools.items × (0 < length lanes.now) }
-            ensures { ReadsByLanes peer own
+            ensures { ReadsByLanes mode peer own
                 (record { received = S.received stream; heard = L.received control; sent = L.sent control; told = C.told host_clock; client = mine.client })
                 (record { received = S.received result.0.stream; heard = L.received result.0.control; sent = L.sent result.0.control; told = C.told result.0.clock; client = result.0.client })
                 mine.reader mine.tools.items turns result.0.end mine.pass result.0.pass
@@ -192,7 +195,7 @@ pub(crate) fn work_crew<
         {
             read_and_apply(
                 rt, alloc, board, lanes, mine, taker, stream, control, host_clock, app_clock, gate,
-                peer, own, turns, frames, lines,
+                peer, own, turns, frames, lines, mode,
             )
         },
     )

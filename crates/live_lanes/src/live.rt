@@ -22,6 +22,7 @@ use gev_crew::prepare;
 use gev_links::{Clock, Gate, Link, Sink};
 use gev_live::{Ends, finish, status_by, taken_of};
 use gev_status::Status;
+use mode_calls::Mode;
 use std::alloc::Global;
 use std::sync::Wait;
 use std::thread::Threads;
@@ -50,6 +51,7 @@ fn run_prepared<
     ends: Ends<L, S, C>,
     gate: &G,
     sink: &mut K,
+    mode: Mode,
 ) -> (Status, Ends<L, S, C>)
     requires table { pass.old.table ≡ board_id board.now }
     requires first { pass.old.number ≡ 0 }
@@ -59,7 +61,7 @@ fn run_prepared<
     ensures table { pass.new.table ≡ pass.old.table }
     ensures hands { SameHands pass.old pass.new }
     ensures live { (buffers : ℕ) → SawOnly (Prepares live_size buffers) pass.old
-        → LanesRun (record { seed = seed; frames = frames; buffers = buffers; turns = turns }) lanes (L.address ends.camera) (S.address ends.stream) result.0
+        → LanesRun (record { seed = seed; frames = frames; buffers = buffers; turns = turns; mode = mode }) lanes (L.address ends.camera) (S.address ends.stream) result.0
         (record {
           camera = wire (L.received ends.camera) (L.sent ends.camera) (L.faults ends.camera);
           stream = wire (S.received ends.stream) (S.sent ends.stream) (S.faults ends.stream);
@@ -85,7 +87,7 @@ fn run_prepared<
         taken,
         lines,
     } = run_crew(
-        rt, alloc, board, pass, seed, lanes, tools, ends, gate, turns, frames,
+        rt, alloc, board, pass, seed, lanes, tools, ends, gate, turns, frames, mode,
     );
     let first = status_by(served, read, frames, turns, &taken);
     let count = taken_of(&taken);
@@ -114,6 +116,7 @@ fn run_over<
     ends: Ends<L, S, C>,
     gate: &G,
     sink: &mut K,
+    mode: Mode,
 ) -> (Status, Ends<L, S, C>)
     requires table { pass.old.table ≡ board_id board.now }
     requires first { pass.old.number ≡ 0 }
@@ -124,7 +127,7 @@ fn run_over<
     requires few_lanes { lanes ≤ 4 }
     ensures table { pass.new.table ≡ pass.old.table }
     ensures hands { SameHands pass.old pass.new }
-    ensures live { RunsLanes (record { seed = seed; frames = frames; buffers = buffers; turns = turns }) lanes (L.address ends.camera) (S.address ends.stream) result.0
+    ensures live { RunsLanes (record { seed = seed; frames = frames; buffers = buffers; turns = turns; mode = mode }) lanes (L.address ends.camera) (S.address ends.stream) result.0
         (record {
           camera = wire (L.received ends.camera) (L.sent ends.camera) (L.faults ends.camera);
           stream = wire (S.received ends.stream) (S.sent ends.stream) (S.faults ends.stream);
@@ -146,7 +149,7 @@ fn run_over<
     match make_tools(alloc, seed, lanes) {
         Ok(tools) => match prepare(alloc, board, pass, BUFFER_SIZE, buffers) {
             Ok(()) => run_prepared(
-                rt, alloc, board, pass, seed, frames, lanes, turns, tools, ends, gate, sink,
+                rt, alloc, board, pass, seed, frames, lanes, turns, tools, ends, gate, sink, mode,
             ),
             Err(_) => (Status::NoMemory, ends),
         },
@@ -158,8 +161,9 @@ fn run_over<
 /// links and clocks. The reader brings block b to lane (b - 1) mod `lanes`, each of which has a receiver of its own;
 /// a datagram for a lane that has no free cell is shed, and counts as lost. The camera makes its frames from `seed`;
 /// `frames` of them are to be handed out, 1 to 1000, through `buffers` buffers, 1 to 15; the reader makes at most
-/// `turns` turns. The lines of the buffers that were handed out are written in order, and a last line. Where no
-/// thread can be made the workers run one after another.
+/// `turns` turns. The mode says what a new block does with buffers that wait for the application. The lines of the
+/// buffers that were handed out are written in order, and a last line. Where no thread can be made the workers run one
+/// after another.
 ///
 /// `Done` where all frames were handed out; `TurnsSpent` where the reader made all its turns before. `NoAnswer`
 /// and `Refused` as the control channel's client says; `LinkFault` where a link failed, `WriteFault` where the
@@ -184,6 +188,7 @@ pub fn live_lanes<
     ends: Ends<L, S, C>,
     gate: &G,
     sink: &mut K,
+    mode: Mode,
 ) -> (Status, Ends<L, S, C>)
     requires table { pass.old.table ≡ board_id board.now }
     requires first { pass.old.number ≡ 0 }
@@ -195,7 +200,7 @@ pub fn live_lanes<
     ensures table { pass.new.table ≡ pass.old.table }
     ensures hands { SameHands pass.old pass.new }
     ensures alone { IsAlone (After pass.new.seen) 0 }
-    ensures live { RunsLanes (record { seed = seed; frames = frames; buffers = buffers; turns = turns }) lanes (L.address ends.camera) (S.address ends.stream) result.0
+    ensures live { RunsLanes (record { seed = seed; frames = frames; buffers = buffers; turns = turns; mode = mode }) lanes (L.address ends.camera) (S.address ends.stream) result.0
         (record {
           camera = wire (L.received ends.camera) (L.sent ends.camera) (L.faults ends.camera);
           stream = wire (S.received ends.stream) (S.sent ends.stream) (S.faults ends.stream);
@@ -220,6 +225,6 @@ pub fn live_lanes<
     ensures writes_steady { result.0 ≢ Status.WriteFault → K.faults sink.new ≡ K.faults sink.old }
 {
     run_over(
-        rt, alloc, board, pass, seed, frames, buffers, lanes, turns, ends, gate, sink,
+        rt, alloc, board, pass, seed, frames, buffers, lanes, turns, ends, gate, sink, mode,
     )
 }

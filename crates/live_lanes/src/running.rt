@@ -20,6 +20,7 @@ use gev_live::Ends;
 use gev_serve::ServeEnd;
 use gev_types::NoMemory;
 use lane_crew::LanesDone;
+use mode_calls::Mode;
 use std::alloc::Global;
 use std::sync::Wait;
 use std::thread::Threads;
@@ -57,6 +58,7 @@ pub(crate) fn run_crew<
     gate: &G,
     turns: u64,
     frames: u32,
+    mode: Mode,
 ) -> CrewDone<L, S, C>
     requires table { pass.old.table ≡ board_id board.now }
     requires first { pass.old.number ≡ 0 }
@@ -65,7 +67,7 @@ pub(crate) fn run_crew<
     requires tools { AreNew seed lanes tools.camera tools.client tools.lanes tools.reader tools.parts.items tools.room.items (vec_capacity tools.room) tools.lines.items }
     ensures table { pass.new.table ≡ pass.old.table }
     ensures hands { SameHands pass.old pass.new }
-    ensures ran { RanLanes lanes (live_camera seed) (L.address ends.camera) (S.address ends.stream)
+    ensures ran { RanLanes mode lanes (live_camera seed) (L.address ends.camera) (S.address ends.stream)
         (record {
           camera = wire (L.received ends.camera) (L.sent ends.camera) (L.faults ends.camera);
           stream = wire (S.received ends.stream) (S.sent ends.stream) (S.faults ends.stream);
@@ -106,7 +108,7 @@ pub(crate) fn run_crew<
     };
     let (watched, done) = work_crew(
         rt, alloc, board, &queues, watcher, mine, taker, new_camera, ends, gate, turns, frames,
-        lines,
+        lines, mode,
     );
     let (told, applied) = done;
     let CameraWork {

@@ -10,6 +10,7 @@ use gev_links::{MemoryClock, MemoryLink, MemorySink, OpenGate};
 use gev_live::Ends;
 use gev_status::Status;
 use gev_types::Peer;
+use mode_calls::Mode;
 use std::alloc::Global;
 use std::process::Abort;
 use std::sync::Wait;
@@ -69,7 +70,19 @@ fn check_run<R: Abort + Threads + Wait + Sync>(
         app_clock: MemoryClock::new(&[]),
     };
     let (answer, _ends) = live_lanes(
-        rt, alloc, &board, &mut pass, 1, 20, 10, lanes, 3, ends, &OpenGate, &mut sink,
+        rt,
+        alloc,
+        &board,
+        &mut pass,
+        1,
+        20,
+        10,
+        lanes,
+        3,
+        ends,
+        &OpenGate,
+        &mut sink,
+        Mode::OldestFirst,
     );
     assert_eq!(rt; answer, status);
     assert_eq!(rt; sink.written(), text.as_bytes());

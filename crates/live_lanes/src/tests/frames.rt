@@ -11,6 +11,7 @@ use gev_links::{DiscardingLink, Gate, MemoryClock, MemorySink, OpenGate};
 use gev_live::Ends;
 use gev_status::Status;
 use gev_types::{NoMemory, Peer, Shape};
+use mode_calls::Mode;
 use std::alloc::Global;
 use std::process::Abort;
 use std::sync::Wait;
@@ -110,6 +111,7 @@ fn run_heard<R: Abort + Threads + Wait + Sync, G: Gate + Sync>(
     control: &[Option<(&[u8], Peer)>],
     moments: &[u64],
     gate: &G,
+    mode: Mode,
 ) -> Result<(Status, Vec<u8>), Fail>
     requires some { 1 ≤ buffers }
     requires few { buffers ≤ 15 }
@@ -125,7 +127,7 @@ fn run_heard<R: Abort + Threads + Wait + Sync, G: Gate + Sync>(
     let (board, mut pass) = Board::new(alloc)?;
     let mut sink = MemorySink::new(alloc, 1000, &[]);
     let (answer, _ends) = live_lanes(
-        rt, alloc, &board, &mut pass, 1, 2, buffers, 2, turns, ends, gate, &mut sink,
+        rt, alloc, &board, &mut pass, 1, 2, buffers, 2, turns, ends, gate, &mut sink, mode,
     );
     Ok((answer, sink.written().to_vec(alloc)?))
 }
@@ -138,6 +140,7 @@ fn run_two<R: Abort + Threads + Wait + Sync, G: Gate + Sync>(
     turns: u64,
     moments: &[u64],
     gate: &G,
+    mode: Mode,
 ) -> Result<(Status, Vec<u8>), Fail>
     requires some { 1 ≤ buffers }
     requires few { buffers ≤ 15 }
@@ -159,6 +162,7 @@ fn run_two<R: Abort + Threads + Wait + Sync, G: Gate + Sync>(
         &control,
         moments,
         gate,
+        mode,
     )
 }
 
@@ -172,16 +176,31 @@ fn contains(text: &[u8], part: &[u8]) -> bool {
     false
 }
 
-// Datagrams may be shed between reader and lanes, so the frames needn't come whole; where a line says so the frame has
-// its digest.
-#[test]
-fn whole_frames_have_their_digests(rt: HostRuntime) -> Result<(), Fail> {
-    let alloc = rt.alloc();
+// Datagrams may be shed between reader and lanes, and images dropped, so the frames needn't come whole, or at all; where
+// a line says so the frame has its digest.
+fn check_digests<R: Abort + Threads + Wait + Sync>(
+    rt: &R,
+    alloc: Global,
+    buffers: u8,
+    turns: u64,
+    mode: Mode,
+) -> Result<(), Fail>
+    requires some { 1 ≤ buffers }
+    requires few { buffers ≤ 15 }
+{
     let mut moments = Vec::new(alloc);
     for moment in 0..601 {
         moments.push(moment)?;
     }
-    let (answer, text) = run_two(&rt, alloc, 4, 100_000, moments.as_slice(), &OpenGate)?;
+    let (answer, text) = run_two(
+        rt,
+        alloc,
+        buffers,
+        turns,
+        moments.as_slice(),
+        &OpenGate,
+        mode,
+    )?;
     let ends = match answer {
         Status::Done => true,
         Status::TurnsSpent { .. } => true,
@@ -200,13 +219,20 @@ fn whole_frames_have_their_digests(rt: HostRuntime) -> Result<(), Fail> {
     Ok(())
 }
 
+#[test]
+fn whole_frames_have_their_digests(rt: HostRuntime) -> Result<(), Fail> {
+    check_digests(&rt, rt.alloc(), 4, 100_000, Mode::OldestFirst)?;
+    check_digests(&rt, rt.alloc(), 1, 1000, Mode::OldestFirstOverwrite)?;
+    check_digests(&rt, rt.alloc(), 2, 1000, Mode::NewestOnly)
+}
+
 // With two buffers the second fill waits for the first take, and that take for the second fill, so a lane and the
 // application run at once. The host's clock stands, so that no cell but of datagrams is on its way: the first 64 packets
 // of each block find one, and each lane fills its block at the latest at its end.
 #[test]
 fn fill_and_take_meet(rt: HostRuntime) -> Result<(), Fail> {
     let gate = MeetingGate::new(10_000_000);
-    let (answer, text) = run_two(&rt, rt.alloc(), 2, 500, &[0], &gate)?;
+    let (answer, text) = run_two(&rt, rt.alloc(), 2, 500, &[0], &gate, Mode::OldestFirst)?;
     assert_eq!(rt; answer, Status::Done);
     assert!(rt; gate.have_met());
     assert_eq!(rt; (gate.fills(), gate.takes()), (2, 2));

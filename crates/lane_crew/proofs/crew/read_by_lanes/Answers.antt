@@ -8,12 +8,12 @@ use Rattle.lane_crew.proofs.crew.read_by_lanes.Goals as goal
 
 pub bring_home-requires-clause-back : goal.bring_home-requires-clause-back
 bring_home-requires-clause-back g c =
-    served_back (board_id c.args.board.now) c.args.lanes.now c.args.tools.items c.read_and_serve-served.result.0.items c.requires.ready
+    served_back c.args.mode (board_id c.args.board.now) c.args.lanes.now c.args.tools.items c.read_and_serve-served.result.0.items c.requires.ready
     c.read_and_serve-served.ensures.served
 
 pub returns-clause-reads : goal.returns-clause-reads
 returns-clause-reads g c =
-    crew_reads c.args.camera c.args.own _ _ (board_id c.args.board.now) c.args.lanes.now c.args.reader c.read_and_serve-served.result.1.0.reader c.args.tools.items
+    crew_reads c.args.mode c.args.camera c.args.own _ _ (board_id c.args.board.now) c.args.lanes.now c.args.reader c.read_and_serve-served.result.1.0.reader c.args.tools.items
     c.read_and_serve-served.result.0.items c.args.turns c.read_and_serve-served.result.1.1 c.stop-stopped.result c.args.pass
     c.read_and_serve-served.result.1.0.pass c.bring_home.new.pass c.stop-stopped.new.pass c.requires.new c.requires.ready
     c.read_and_serve-served.ensures.reads c.read_and_serve-served.ensures.served c.bring_home.ensures.enters c.bring_home.ensures.joined
@@ -21,5 +21,5 @@ returns-clause-reads g c =
 
 pub returns-clause-works : goal.returns-clause-works
 returns-clause-works g c =
-    crew_works c.args.camera c.args.own _ _ c.args.reader c.args.tools.items c.args.turns c.read_and_serve-served.result.1.1 c.args.pass
+    crew_works c.args.mode c.args.camera c.args.own _ _ c.args.reader c.args.tools.items c.args.turns c.read_and_serve-served.result.1.1 c.args.pass
     c.stop-stopped.new.pass (returns-clause-reads g c)

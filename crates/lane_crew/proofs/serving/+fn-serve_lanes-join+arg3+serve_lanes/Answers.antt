@@ -13,6 +13,6 @@ join-served-requires-after_bounds g t c κs within =
 
 pub returns-in-Some-clause-served : goal.returns-in-Some-clause-served
 returns-in-Some-clause-served g t c =
-    subst (AreServed c.args.lanes.now c.args.tools.items) (sym c.push_reserved.ensures.items)
-    (subst (λ l. AreServed c.args.lanes.now l (c.join-served.result.1.items ++ c.join-served.result.0 ∷ [])) (sym c.in-Some.ensures.items)
-    (served_last c.args.lanes.now c.pop.new.self.items c.join-served.result.1.items c.in-Some.last c.join-served.result.0 c.join-served.ensures.second.0 c.join-served.ensures.first))
+    subst (AreServed c.args.mode c.args.lanes.now c.args.tools.items) (sym c.push_reserved.ensures.items)
+    (subst (λ l. AreServed c.args.mode c.args.lanes.now l (c.join-served.result.1.items ++ c.join-served.result.0 ∷ [])) (sym c.in-Some.ensures.items)
+    (served_last c.args.mode c.args.lanes.now c.pop.new.self.items c.join-served.result.1.items c.in-Some.last c.join-served.result.0 c.join-served.ensures.second.0 c.join-served.ensures.first))

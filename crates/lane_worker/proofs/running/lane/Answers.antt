@@ -8,7 +8,7 @@ use Rattle.lane_worker.proofs.running.lane.Goals as goal
 
 pub cells-init : goal.cells-init
 cells-init g c = record {
-  so = begins (config_of c.args.acq.now) (Stands c.args.acq.now) c.args.ends.now c.args.pass.now;
+  so = begins c.args.mode (config_of c.args.acq.now) (Stands c.args.acq.now) c.args.ends.now c.args.pass.now;
   lane = c.requires.lane;
   table = refl;
   config = refl;
@@ -20,14 +20,14 @@ cells-init g c = record {
 
 pub returns-then-is_end-clause-serves : goal.returns-then-is_end-clause-serves
 returns-then-is_end-clause-serves g c =
-    ends_so (config_of c.args.acq.now) (config_of c.cells.acq) (Stands c.args.acq.now) (Stands c.cells.acq) (Stands c.retire_all.new.acq) c.args.ends.now
+    ends_so c.args.mode (config_of c.args.acq.now) (config_of c.cells.acq) (Stands c.args.acq.now) (Stands c.cells.acq) (Stands c.retire_all.new.acq) c.args.ends.now
     c.cells.ends c.next_cell-cell.new.lane c.free_cell.new.lane c.next_cell-cell.result c.args.pass.now c.cells.pass c.retire_all.new.pass
     c.cells.invariant.so c.cells.invariant.config c.next_cell-cell.ensures.taken (sym c.is_end.ensures ∙ c.if-is_end.true) c.free_cell.ensures.freed
     c.retire_all.ensures.serves
 
 pub cells-preserved : goal.cells-preserved
 cells-preserved g c = record {
-  so = goes_on (config_of c.args.acq.now) (config_of c.cells.acq) (Stands c.args.acq.now) (Stands c.cells.acq) (Stands c.serve_cell.new.acq)
+  so = goes_on c.args.mode (config_of c.args.acq.now) (config_of c.cells.acq) (Stands c.args.acq.now) (Stands c.cells.acq) (Stands c.serve_cell.new.acq)
       (Stands c.put_requests.new.acq) c.args.ends.now c.cells.ends c.next_cell-cell.new.lane c.free_cell-in-cells.new.lane c.put_requests.new.ends
       c.next_cell-cell.result (waiting_requests c.serve_cell.new.acq) c.args.pass.now c.cells.pass c.serve_cell.new.pass c.cells.invariant.so
       c.cells.invariant.config c.next_cell-cell.ensures.taken (sym c.is_end.ensures ∙ c.if-is_end.false) c.serve_cell.ensures.serves

@@ -8,7 +8,7 @@ use Rattle.lane_worker.proofs.running.lane.Given as goal
 
 abbrev pub invariant-cells : goal.invariant-cells
 invariant-cells g l = record {
-  so : Serving (config_of l.fn.acq) (Stands l.fn.acq) (Stands l.acq) l.fn.ends l.ends l.fn.pass l.pass;
+  so : Serving l.fn.mode (config_of l.fn.acq) (Stands l.fn.acq) (Stands l.acq) l.fn.ends l.ends l.fn.pass l.pass;
   lane : IsLaneAt l.lanes l.ends;
   table : l.pass.table ≡ l.fn.pass.table;
   config : config_of l.acq ≡ config_of l.fn.acq;

@@ -14,5 +14,5 @@ lanes-preserved g c = record {
   lanes =
       (lanes_last c.args.lanes.now c.pop.new.self.items c.in-Some.ends
       (subst (λ l. AreLanesOf c.args.lanes.now l) c.in-Some.ensures.items c.lanes.invariant.lanes)).0;
-  table = c.check_taken.ensures.table ∙ (c.serve_one.ensures.table ∙ c.lanes.invariant.table);
+  table = c.serve_one.ensures.table ∙ c.lanes.invariant.table;
 }

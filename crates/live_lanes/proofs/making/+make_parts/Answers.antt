@@ -1,4 +1,4 @@
-use Rattle.std.proofs.Common.{rules, List, [], ◌∷◌, ◌++◌, sym, ap, subst, ◌∙◌}
+use Rattle.std.proofs.Common.{rules, [], ◌∷◌, ◌++◌, sym, ap, subst, ◌∙◌}
 use Rattle.gev_lanes.specs.Sides.{AreLanesOf}
 use Rattle.live_lanes.specs.declared.lane_parts.LaneParts.{LaneParts}
 use Rattle.live_lanes.specs.Made.{AreNewParts, ends_of}
