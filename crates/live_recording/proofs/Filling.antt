@@ -24,6 +24,7 @@ use Rattle.acquisition_laws.specs.Erased.{images}
 use Rattle.block_fills.specs.Fills.{tried_by, tried, item_of, retired_items}
 use Rattle.buffer_words.specs.Workers.{AreOf, AreEvents, OnlyBy}
 use Rattle.gev_live.specs.Kinds.{is_live, is_filling}
+use Rattle.mode_calls.specs.declared.mode.Mode.{Mode}
 use Rattle.gev_live.specs.History.{Crew, live_size, LiveHistory}
 use Rattle.gev_live.proofs.Quiet.{is_beginning, beginning_are, none_both, never_closed}
 use Rattle.live_recording.specs.Replayed.{contents}
@@ -57,8 +58,8 @@ by_both : (k : ℕ) (g h : List Entry) → ByOne k g → ByOne k h → ByOne k (
 by_both k [] h first second = second
 by_both k (e ∷ g) h first second = (first.0, by_both k g h first.1 second)
 
-by_reader : (buffers : ℕ) (k : Crew) (h : List Entry) → LiveHistory buffers k h → ByOne k.reader h
-by_reader buffers k h history =
+by_reader : (mode : Mode) (buffers : ℕ) (k : Crew) (h : List Entry) → LiveHistory mode buffers k h → ByOne k.reader h
+by_reader mode buffers k h history =
     subst (λ l. ByOne k.reader l) (sym history.begins)
     (by_both k.reader (entries_of 0 history.prepared) history.since (beginning_by k.reader 0 history.prepared (beginning_are live_size buffers history.prepared history.prepares))
     (since_by k.reader history.since history.fills))
@@ -81,10 +82,10 @@ contents_retired [] = refl
 contents_retired (x ∷ xs) = ap (λ (fs : List Filling). x.buf ∷ fs) (contents_retired xs)
 
 -- all that was filled, wherever it lay, is what the reader's inputs retire
-pub filled_images : (c : AcqConfig) (buffers : ℕ) (k : Crew) (h : List Entry) (q : List Input) → LiveHistory buffers k h → tried (own_of k.reader h) ≡ retired_items c q
+pub filled_images : (mode : Mode) (c : AcqConfig) (buffers : ℕ) (k : Crew) (h : List Entry) (q : List Input) → LiveHistory mode buffers k h → tried (own_of k.reader h) ≡ retired_items c q
     → contents (filled h) ≡ images (fills c.p (retired_from c first_state q))
-filled_images c buffers k h q history is =
-    ap contents (filled_tried k.reader h (by_reader buffers k h history) unrefused ∙ is) ∙ contents_retired (fills c.p (retired_from c first_state q))
+filled_images mode c buffers k h q history is =
+    ap contents (filled_tried k.reader h (by_reader mode buffers k h history) unrefused ∙ is) ∙ contents_retired (fills c.p (retired_from c first_state q))
   where
     unrefused : HasNone is_fill_refused h
     unrefused = open_takes_fills [] h history.run refl (never_closed live_size buffers history.prepared history.since h history.prepares history.begins history.kinds)
@@ -111,8 +112,8 @@ since_unswept : (es : List Entry) → AreOf is_live es → HasNone is_sweep es
 since_unswept [] are = tt
 since_unswept (e ∷ es) are = (live_unswept e.event are.0, since_unswept es are.1)
 
-never_swept : (buffers : ℕ) (k : Crew) (h : List Entry) → LiveHistory buffers k h → HasNone is_sweep h
-never_swept buffers k h history =
+never_swept : (mode : Mode) (buffers : ℕ) (k : Crew) (h : List Entry) → LiveHistory mode buffers k h → HasNone is_sweep h
+never_swept mode buffers k h history =
     subst (λ l. HasNone is_sweep l) (sym history.begins)
     (none_both is_sweep (entries_of 0 history.prepared) history.since (events_unswept 0 history.prepared (beginning_are live_size buffers history.prepared history.prepares)) (since_unswept history.since history.kinds))
 
@@ -144,13 +145,13 @@ contents-append [] ys = refl
 contents-append (x ∷ xs) ys = ap (λ (fs : List Filling). x.filling ∷ fs) (contents-append xs ys)
 
 -- what the application took comes first in what was filled
-pub taken_front : (buffers : ℕ) (k : Crew) (h : List Entry) → LiveHistory buffers k h → handed_items h ≡ taken_items k.application h → IsPrefix (contents (taken_items k.application h)) (contents (filled h))
-taken_front buffers k h history handed =
+pub taken_front : (mode : Mode) (buffers : ℕ) (k : Crew) (h : List Entry) → LiveHistory mode buffers k h → handed_items h ≡ taken_items k.application h → IsPrefix (contents (taken_items k.application h)) (contents (filled h))
+taken_front mode buffers k h history handed =
     subst (λ l. IsPrefix (contents l) (contents (filled h))) handed
     (record { rest = contents (front.rest ++ drop (length (removed h)) (filled h)); is = whole })
   where
     front : IsPrefix (handed_items h) (removed_items h)
-    front = marked_front (marks every_actor h) (removed_items h) (all_true h (never_swept buffers k h history))
+    front = marked_front (marks every_actor h) (removed_items h) (all_true h (never_swept mode buffers k h history))
 
     whole : contents (filled h) ≡ contents (handed_items h) ++ contents (front.rest ++ drop (length (removed h)) (filled h))
     whole =

@@ -32,6 +32,8 @@ use Rattle.gev_reader.specs.Reads.{EndsAfter}
 use Rattle.gev_live.specs.Told.{Told, live_config}
 use Rattle.gev_live.specs.History.{live_size}
 use Rattle.gev_live.specs.Endings.{is_told}
+use Rattle.mode_calls.specs.declared.mode.Mode.TheVariants.{OldestFirst}
+use Rattle.gev_live.specs.Acquirers.{DropsNothing}
 use Rattle.gev_live.specs.LiveRun.{Numbers, LiveRun}
 use Rattle.gev_live.specs.Journal.{JournaledRun, RunsWithJournal}
 use Rattle.live_promises.specs.Promises.{KeepsRun}
@@ -109,17 +111,17 @@ reports_run made es heard notes sized few wide is =
 
 replays_fills : (n : Numbers) (camera stream : Address) (lived : Status) (o e : Told) (h : List Entry) (run : LiveRun n camera stream lived o e None None 0 0 h) (heard : List (Option (List ℕ)))
     → length run.reader_part.made ≤ 100000 → AllByRecursion HasWidths (turns_noted heard run.reader_part.made) → heard ≡ heard_by run.reader_part.made
-    → ReplaysFills (script_of (turns_noted heard run.reader_part.made)) run.crew.application h
-replays_fills n camera stream lived o e h run heard few wide is =
+    → n.mode ≡ OldestFirst → ReplaysFills (script_of (turns_noted heard run.reader_part.made)) run.crew.application h
+replays_fills n camera stream lived o e h run heard few wide is oldest =
     let reported : ReportsRun (turns_noted heard run.reader_part.made) (inputs_all run.reader_part.made) =
     reports_run run.reader_part.made run.reader_part.on.entries heard run.reader_part.on.notes run.reader_part.sized few wide is in
     let same : contents (filled h) ≡ images (fills live_config.p (retired_from live_config first_state (inputs_all run.reader_part.made))) =
-    filled_images live_config n.buffers run.crew h (inputs_all run.reader_part.made) run.history run.reader_part.fills in
+    filled_images n.mode live_config n.buffers run.crew h (inputs_all run.reader_part.made) run.history run.reader_part.fills in
     record {
       report = reported.report;
       reports = reported.reports;
       takes = λ r reports. subst (λ fs. AreTakesOf (take_lines r) fs) (sym same) (reported.takes r reports);
-      own = taken_front n.buffers run.crew h run.history run.application_part.handed;
+      own = taken_front n.mode n.buffers run.crew h run.history (subst (λ m. DropsNothing m run.crew.application h) oldest run.application_part.undropped).0;
     }
 
 -- ---- the journal
@@ -175,11 +177,11 @@ bare n camera stream lived answer o e kept written written_after faults faults_a
 -- the script was written, whole or in part
 taken_down : (n : Numbers) (camera stream : Address) (lived answer : Status) (o e : Told) (turns : ℕ) (kept : List (Option (List ℕ))) (journal : List Turn) (written written_after : Option (List ℕ)) (faults faults_after : ℕ)
     (h : List Entry) (run : JournaledRun n camera stream lived o e None None 0 0 h journal) → KeepsRun run.run
-    → n.turns ≤ 100000 → KeepsFront turns e.stream.received kept → AllByRecursion IsReceived kept → length kept ≡ length journal
+    → n.mode ≡ OldestFirst → n.turns ≤ 100000 → KeepsFront turns e.stream.received kept → AllByRecursion IsReceived kept → length kept ≡ length journal
     → (is_told answer ≡ true → AllByRecursion (λ (x : Turn). x.moment < 2 ^ 64) journal)
     → RecordsSo lived answer (script_of (noted kept (map mark_of journal))) written written_after faults faults_after
     → RecordedRun n camera stream answer o e kept written written_after faults faults_after h
-taken_down n camera stream lived answer o e turns kept journal written written_after faults faults_after h run keeps most front received same small so =
+taken_down n camera stream lived answer o e turns kept journal written written_after faults faults_after h run keeps oldest most front received same small so =
     let entries : journal ≡ run.run.reader_part.on.entries = journal_entries n camera stream lived o e h journal run in
     let marks : map mark_of journal ≡ marks_in [] run.run.reader_part.made = journal_marks run.run.reader_part.made run.run.reader_part.on.entries journal run.run.reader_part.on.notes entries in
     let counted : length kept ≡ length run.run.reader_part.made = same ∙ journal_counted run.run.reader_part.made run.run.reader_part.on.entries journal run.run.reader_part.on.notes entries in
@@ -194,16 +196,16 @@ taken_down n camera stream lived answer o e turns kept journal written written_a
       promises = keeps;
       replays = λ telling told. replays_fills n camera stream lived o e h run.run kept (run_short n camera stream lived o e h run.run most)
           (subst (λ ms. AllByRecursion HasWidths (noted kept ms)) marks (all_wide kept journal received (small told)))
-          (tape_heard n camera stream lived o e h run.run turns kept most front counted telling);
+          (tape_heard n camera stream lived o e h run.run turns kept most front counted telling) oldest;
     }
 
 run_recorded : (n : Numbers) (camera stream : Address) (lived answer : Status) (o e : Told) (turns : ℕ) (kept : List (Option (List ℕ))) (journal : List Turn)
     (written written_after : Option (List ℕ)) (faults faults_after : ℕ) (h : List Entry)
-    → n.turns ≤ 100000 → KeepsFront turns e.stream.received kept → AllByRecursion IsReceived kept
+    → n.mode ≡ OldestFirst → n.turns ≤ 100000 → KeepsFront turns e.stream.received kept → AllByRecursion IsReceived kept
     → (run : JournaledRun n camera stream lived o e None None 0 0 h journal) → KeepsRun run.run
     → Finishes lived answer kept journal written written_after faults faults_after
     → RecordedRun n camera stream answer o e kept written written_after faults faults_after h
-run_recorded n camera stream lived answer o e turns kept journal written written_after faults faults_after h most front received run keeps (inl end) =
+run_recorded n camera stream lived answer o e turns kept journal written written_after faults faults_after h oldest most front received run keeps (inl end) =
     bare n camera stream lived answer o e kept written written_after faults faults_after h run.run keeps
     (record {
       cause = inl end.1;
@@ -211,7 +213,7 @@ run_recorded n camera stream lived answer o e turns kept journal written written
           (untold n camera stream lived o e h (script_of (turns_noted (heard_by run.run.reader_part.made) run.run.reader_part.made)) written written_after faults faults_after run.run end.0 end.2 end.3);
     })
     (told_answer lived answer end.1 end.0)
-run_recorded n camera stream lived answer o e turns kept journal written written_after faults faults_after h most front received run keeps (inr (inl end)) =
+run_recorded n camera stream lived answer o e turns kept journal written written_after faults faults_after h oldest most front received run keeps (inr (inl end)) =
     bare n camera stream lived answer o e kept written written_after faults faults_after h run.run keeps
     (record {
       cause = inr (end.0, inr end.1);
@@ -219,8 +221,8 @@ run_recorded n camera stream lived answer o e turns kept journal written written
           (nothing_written (script_of (turns_noted (heard_by run.run.reader_part.made) run.run.reader_part.made)) written written_after end.2, end.3);
     })
     (memory_untold answer end.1)
-run_recorded n camera stream lived answer o e turns kept journal written written_after faults faults_after h most front received run keeps (inr (inr end)) =
-    taken_down n camera stream lived answer o e turns kept journal written written_after faults faults_after h run keeps most front received end.1 end.2 end.3
+run_recorded n camera stream lived answer o e turns kept journal written written_after faults faults_after h oldest most front received run keeps (inr (inr end)) =
+    taken_down n camera stream lived answer o e turns kept journal written written_after faults faults_after h run keeps oldest most front received end.1 end.2 end.3
 
 -- memory was wanting before, and so nothing was written
 ends_untold : (lived answer : Status) (kept : List (Option (List ℕ))) (journal : List Turn) (written written_after : Option (List ℕ)) (faults faults_after : ℕ) → lived ≡ status.NoMemory
@@ -231,13 +233,13 @@ ends_untold lived answer kept journal written written_after faults faults_after 
 
 recorded_of : (n : Numbers) (camera stream : Address) (lived answer : Status) (o e : Told) (turns : ℕ) (kept : List (Option (List ℕ))) (journal : List Turn)
     (written written_after : Option (List ℕ)) (faults faults_after : ℕ) (h : List Entry)
-    → n.turns ≤ 100000 → KeepsFront turns e.stream.received kept → AllByRecursion IsReceived kept
+    → n.mode ≡ OldestFirst → n.turns ≤ 100000 → KeepsFront turns e.stream.received kept → AllByRecursion IsReceived kept
     → RunsWithJournal n camera stream lived o e None None 0 0 h journal → Run h → Finishes lived answer kept journal written written_after faults faults_after
     → RecordsLive n camera stream answer o e kept written written_after faults faults_after h
-recorded_of n camera stream lived answer o e turns kept journal written written_after faults faults_after h most front received (inl run) is_run end =
-    inl (run_recorded n camera stream lived answer o e turns kept journal written written_after faults faults_after h most front received run
+recorded_of n camera stream lived answer o e turns kept journal written written_after faults faults_after h oldest most front received (inl run) is_run end =
+    inl (run_recorded n camera stream lived answer o e turns kept journal written written_after faults faults_after h oldest most front received run
     (live_runs_keep n camera stream lived o e None None 0 0 h (inl run.run) is_run) end)
-recorded_of n camera stream lived answer o e turns kept journal written written_after faults faults_after h most front received (inr never) is_run end =
+recorded_of n camera stream lived answer o e turns kept journal written written_after faults faults_after h oldest most front received (inr never) is_run end =
     let nothing = ends_untold lived answer kept journal written written_after faults faults_after never.0.wanted end in
     inr (record {
       never = record {
@@ -256,9 +258,9 @@ recorded_of n camera stream lived answer o e turns kept journal written written_
 -- the same, by the journal as the script's writer was shown it
 pub recorded : (n : Numbers) (camera stream : Address) (lived answer : Status) (o e : Told) (turns : ℕ) (kept : List (Option (List ℕ))) (journal shown : List Turn)
     (written written_after : Option (List ℕ)) (faults faults_after : ℕ) (h : List Entry)
-    → n.turns ≤ 100000 → KeepsFront turns e.stream.received kept → AllByRecursion IsReceived kept
+    → n.mode ≡ OldestFirst → n.turns ≤ 100000 → KeepsFront turns e.stream.received kept → AllByRecursion IsReceived kept
     → RunsWithJournal n camera stream lived o e None None 0 0 h journal → Run h → shown ≡ journal → Finishes lived answer kept shown written written_after faults faults_after
     → RecordsLive n camera stream answer o e kept written written_after faults faults_after h
-recorded n camera stream lived answer o e turns kept journal shown written written_after faults faults_after h most front received runs is_run same end =
-    recorded_of n camera stream lived answer o e turns kept journal written written_after faults faults_after h most front received runs is_run
+recorded n camera stream lived answer o e turns kept journal shown written written_after faults faults_after h oldest most front received runs is_run same end =
+    recorded_of n camera stream lived answer o e turns kept journal written written_after faults faults_after h oldest most front received runs is_run
     (subst (λ js. Finishes lived answer kept js written written_after faults faults_after) same end)

@@ -10,6 +10,7 @@ ghost use Rattle.buffer_words.specs.Boards.{board_id};
 ghost use Rattle.buffer_words.specs.Passes.{SameHands};
 ghost use Rattle.gev_serve.specs.Wires.{wire};
 ghost use Rattle.gev_live.specs.Endings.{is_told};
+ghost use Rattle.mode_calls.specs.declared.mode.Mode.TheVariants as Mode;
 ghost use Rattle.live_recording.specs.Recorded.{answer_by, Finishes, RecordsLive};
 
 use crate::marks::marks_of;
@@ -20,6 +21,7 @@ use gev_links::{Clock, Gate, Link, Sink};
 use gev_live::{Ends, live_with_journal};
 use gev_record::{RecordEnd, Tape, write_script};
 use gev_status::Status;
+use mode_calls::Mode;
 use std::alloc::Global;
 use std::sync::Wait;
 use std::thread::Threads;
@@ -96,10 +98,10 @@ fn finish<L: Link, K: Sink>(
     write_run(alloc, sink, lived, tape, journal)
 }
 
-/// A live run with one lane that is recorded: what `live_over` runs, over a tape as the link of the stream, which was
-/// made for `turns` receives, 1 to 100,000, and has kept none. In place of the run's lines a script is written, of the
-/// datagrams on the tape and the marks of the reader's turns. Replayed, it writes a take line for each buffer that
-/// the run filled; what the application took comes first, the buffers' ids aside.
+/// A live run with one lane that is recorded: what `live_over` runs with OldestFirst, over a tape as the link of
+/// the stream, which was made for `turns` receives, 1 to 100,000, and has kept none. In place of the run's lines a
+/// script is written, of the datagrams on the tape and the marks of the reader's turns. Replayed, it writes a take
+/// line for each buffer that the run filled; what the application took comes first, the buffers' ids aside.
 ///
 /// The answers are those of `live_over`. With `Done`, `NoAnswer`, `Refused` and `TurnsSpent` the script was written
 /// whole; with `WriteFault` the sink failed behind a front of it; with `NoMemory` at most a front of it was written, and
@@ -134,7 +136,7 @@ pub fn record_over<
     ensures table { pass.new.table ≡ pass.old.table }
     ensures hands { SameHands pass.old pass.new }
     ensures alone { IsAlone (After pass.new.seen) 0 }
-    ensures records { RecordsLive (record { seed = seed; frames = frames; buffers = buffers; turns = turns }) (L.address ends.camera) (L.address ends.stream.inner) result.0
+    ensures records { RecordsLive (record { seed = seed; frames = frames; buffers = buffers; turns = turns; mode = Mode.OldestFirst }) (L.address ends.camera) (L.address ends.stream.inner) result.0
         (record {
           camera = wire (L.received ends.camera) (L.sent ends.camera) (L.faults ends.camera);
           stream = wire (L.received ends.stream.inner) (L.sent ends.stream.inner) (L.faults ends.stream.inner);
@@ -172,6 +174,7 @@ pub fn record_over<
         ends,
         gate,
         &mut nowhere,
+        Mode::OldestFirst,
     );
     pass.witness();
     ends.stream.witness();

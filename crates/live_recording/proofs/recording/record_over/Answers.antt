@@ -1,10 +1,11 @@
+use Rattle.std.proofs.Common.{refl}
 use Rattle.live_recording.proofs.Whole.{recorded}
 use Rattle.live_recording.proofs.Steady.{recorded_alone, recorded_steady, recorded_failed, recorded_writes_steady}
 use Rattle.live_recording.proofs.recording.record_over.Goals as goal
 
 pub returns-clause-records : goal.returns-clause-records
 returns-clause-records g c =
-    recorded _ _ _ c.live_with_journal-lived.result.0 _ _ _ _ _ c.live_with_journal-lived.result.2.items c.as_slice.result.now _ _ _ _ _ c.requires.few_turns c.witness-2.ensures.front c.witness-2.ensures.received
+    recorded _ _ _ c.live_with_journal-lived.result.0 _ _ _ _ _ c.live_with_journal-lived.result.2.items c.as_slice.result.now _ _ _ _ _ refl c.requires.few_turns c.witness-2.ensures.front c.witness-2.ensures.received
     c.live_with_journal-lived.ensures.live c.witness.ensures.run c.as_slice.ensures.value c.finish-status.ensures
 
 pub returns-clause-alone : goal.returns-clause-alone
