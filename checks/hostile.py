@@ -13,11 +13,8 @@ import time
 OF_REPLAY_SCRIPTS = ["replay", "explain", "image 1", "image 2"]
 OF_CAMERA_SCRIPTS = ["camera"]
 OF_CAPTURES = ["streams", "capture 49152 1464 4096"]
-# Those that read nothing. Their numbers are drawn anew, and now and then a word is changed. Those of LATER are drawn
-# where the program's help has such a line, as is the mode of live.
-OF_NOTHING = ["make 1 3 50 50 50", "soak 1 3 50 50 50", "soak 1 3 50 0 0 short", "live 1 2 2 1 3"]
-LATER = {"record": "record 1 2 2 3"}
-MODE = r"usage: gevacq live [^\n]* \[<mode>\]\n"
+# Those that read nothing. Their numbers are drawn anew, and now and then a word is changed.
+OF_NOTHING = ["make 1 3 50 50 50", "soak 1 3 50 50 50", "soak 1 3 50 0 0 short", "live 1 2 2 1 3", "record 1 2 2 3"]
 
 # How long one run may take, and all together, in seconds.
 RUN_SECONDS = 20
@@ -473,7 +470,7 @@ def judge_run(lanes, status, text, error):
 
 
 def judge_script(data, status, text, error):
-    """Whether the lines are those of a made script."""
+    """Whether the lines are those of a made or recorded script."""
     lines = lines_of(text)
     wants(status == 7 or lines and lines[0].startswith("gevacq ") and lines[-1] == "end", "no whole script")
     for line in lines[1:]:
@@ -567,14 +564,7 @@ def seeds(program):
     return scripts, cameras, captures
 
 
-def known(program):
-    """The command lines that read nothing and are in the program's help, and whether live has a mode."""
-    text = output_of(program, ["--help"])[1].decode()
-    later = [line for name, line in LATER.items() if f"usage: gevacq {name} " in text]
-    return OF_NOTHING + later, re.search(MODE, text) is not None
-
-
-def drawn(draw, scripts, cameras, captures, of_nothing, has_mode):
+def drawn(draw, scripts, cameras, captures):
     """The words and the input of one run."""
     kind = draw.random()
     if kind < 0.55:
@@ -590,15 +580,15 @@ def drawn(draw, scripts, cameras, captures, of_nothing, has_mode):
         data = draw.choice([whole, mutated(draw, whole), whole[: draw.randrange(len(whole))], any_lines(draw, b"")])
         return [it.encode() for it in draw.choice(OF_CAPTURES).split()], data
     else:
-        return any_words(draw, of_nothing, has_mode), b""
+        return any_words(draw), b""
     forms = [whole, with_mutated_lines(draw, whole, line_of), with_mutated_lines(draw, whole, line_of)]
     forms += [mutated(draw, whole), any_lines(draw, head)]
     return [it.encode() for it in words], draw.choice(forms)
 
 
-def any_words(draw, of_nothing, has_mode):
+def any_words(draw):
     """Words of a command line, right ones or not."""
-    words = [it.encode() for it in draw.choice(of_nothing + OF_REPLAY_SCRIPTS + OF_CAPTURES).split()]
+    words = [it.encode() for it in draw.choice(OF_NOTHING + OF_REPLAY_SCRIPTS + OF_CAPTURES).split()]
     if words[0] in (b"make", b"soak"):
         numbers = [draw.getrandbits(64), draw.randrange(6)] + [draw.choice([0, 50, 400, 1000]) for _ in range(3)]
         words[1:6] = [b"%d" % it for it in numbers]
@@ -607,7 +597,7 @@ def any_words(draw, of_nothing, has_mode):
         words[-1] = b"%d" % draw.choice([1, 3, 40, 400])
     if words[0] == b"live":
         words[4] = b"%d" % draw.randrange(1, 5)
-        if has_mode and draw.random() < 0.7:
+        if draw.random() < 0.7:
             words.append(b"%d" % draw.randrange(3))
     others = [b"", b"0", b"01", b"-1", b"+1", b"1 ", b"short", b"18446744073709551616", b"\xff\xfe", draw.randbytes(3).replace(b"\0", b"x")]
     kind = draw.randrange(6)
@@ -622,7 +612,7 @@ def any_words(draw, of_nothing, has_mode):
 
 def main(program, seed, runs):
     draw = random.Random(seed)
-    inputs = [*seeds(program), *known(program)]
+    inputs = seeds(program)
     begun, ran, wrong = time.monotonic(), 0, 0
     while ran < runs and wrong < 5 and time.monotonic() - begun < ALL_SECONDS:
         words, data = drawn(draw, *inputs)
