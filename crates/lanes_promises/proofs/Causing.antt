@@ -21,7 +21,7 @@ use Rattle.lane_turns.specs.Turns.{ReaderTurn, joined}
 use Rattle.lane_reader.specs.Turned.{IsControlled}
 use Rattle.lane_reader.specs.Reads.{heards_in, sends_in, ControlEach, AllGoOn, EndsIn}
 use Rattle.lane_crew.specs.Reader.{EndsAfter, ReadsOn}
-use Rattle.gev_causes.specs.Moves.{Move, hears, sends, sends_all, hears_of, setup_moves, moves_sent, moves_heard, datagrams, later_moves}
+use Rattle.gev_causes.specs.Moves.{Move, hears, sends_all, hears_of, setup_moves, moves_sent, moves_heard, datagrams, later_moves}
 use Rattle.gev_causes.specs.Causes.{IsUnanswered}
 use Rattle.gev_causes.proofs.Keeping.{Kept, Due, TickCame, later-append, kept_sends, take_kept, tick_kept, receive_kept}
 use Rattle.gev_causes.proofs.Turns.{CameTo, GoesOnOrStops, setup_goes_on, setup_gives_up}

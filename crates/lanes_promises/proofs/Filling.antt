@@ -17,6 +17,7 @@ use Rattle.acquisition_machine.proofs.Order.{all_append, all_front, all_back, al
 use Rattle.block_fills.specs.Fills.{tried_by, tried, IsRetired}
 use Rattle.block_fills.proofs.Acquisitions.{retired_blocks}
 use Rattle.buffer_words.specs.Workers.{AreEvents, OnlyBy}
+use Rattle.mode_calls.specs.declared.mode.Mode.{Mode}
 use Rattle.gev_lanes.specs.declared.parts.ReaderLane.{ReaderLane}
 use Rattle.gev_lanes.specs.Sides.{LaneEnd}
 use Rattle.lane_turns.specs.Turns.{ReaderTurn}
@@ -28,7 +29,7 @@ use Rattle.gev_live.proofs.Splitting.{member_or}
 use Rattle.run_promises.specs.Headline.{Acquirer, is_acquirer, IsBlockOf}
 use Rattle.run_promises.specs.Laws.{FillsWhatRetires, FillsAsAcquirer, FillsByAcquirers}
 use Rattle.live_lanes.specs.History.{LanesCrew, LanesHistory}
-use Rattle.live_lanes.specs.Parts.{LaneShare, LanesShare}
+use Rattle.live_lanes.specs.Parts.{LanesShare}
 use Rattle.lanes_promises.specs.Promises.{acquirers_in}
 use Rattle.lanes_promises.proofs.Sending.{cells_clean}
 
@@ -58,8 +59,8 @@ since_among : (ks : List ℕ) (es : List Entry) → OnlyBy is_filling ks es → 
 since_among ks [] only = tt
 since_among ks (e ∷ es) only = (one_among ks e.by e.event only.0, since_among ks es only.1)
 
-pub lanes_alone : (buffers : ℕ) (k : LanesCrew) (h : List Entry) → LanesHistory buffers k h → FillsAmong k.lanes h
-lanes_alone buffers k h history =
+pub lanes_alone : (mode : Mode) (buffers : ℕ) (k : LanesCrew) (h : List Entry) → LanesHistory mode buffers k h → FillsAmong k.lanes h
+lanes_alone mode buffers k h history =
     subst (FillsAmong k.lanes) (sym history.begins)
     (all_append (λ (e : Entry). FillsAs k.lanes e.by e.event) (entries_of 0 history.prepared) history.since
     (beginning_not k.lanes 0 history.prepared (beginning_are live_size buffers history.prepared history.prepares)) (since_among k.lanes history.since history.fills))
@@ -74,25 +75,25 @@ or_first : (b other : Bool) → b ≡ true → (b || other) ≡ true
 or_first true other is = refl
 or_first false other is = absurd (cc)
 
-module _ (c : AcqConfig) (n : ℕ) (made : List ReaderTurn) (sides : List ReaderLane) (h : List Entry) where
-  pub is_lane : (k : ℕ) (lanes : List ℕ) (ends : List LaneEnd) (shares : LanesShare c n k lanes made sides ends h) (i : ℕ) → 1 ≤ times i lanes → is_acquirer (acquirers_in c n k lanes made sides ends h shares) i ≡ true
+module _ (mode : Mode) (c : AcqConfig) (n : ℕ) (made : List ReaderTurn) (sides : List ReaderLane) (h : List Entry) where
+  pub is_lane : (k : ℕ) (lanes : List ℕ) (ends : List LaneEnd) (shares : LanesShare mode c n k lanes made sides ends h) (i : ℕ) → 1 ≤ times i lanes → is_acquirer (acquirers_in mode c n k lanes made sides ends h shares) i ≡ true
   is_lane k [] ends shares i member = absurd (omega (arith, member))
   is_lane k (a ∷ lanes) [] shares i member = absurd shares
   is_lane k (a ∷ lanes) (e ∷ es) shares i member = go (member_or i a lanes member) (λ more. is_lane (suc k) lanes es shares.1 i more)
     where
-      go : (i ≡ a) ⊎ (1 ≤ times i lanes) → (1 ≤ times i lanes → is_acquirer (acquirers_in c n (suc k) lanes made sides es h shares.1) i ≡ true)
-          → (is_acquirer (acquirers_in c n (suc k) lanes made sides es h shares.1) i || (i == a)) ≡ true
-      go (inl is) rest = ap (λ b. is_acquirer (acquirers_in c n (suc k) lanes made sides es h shares.1) i || b) (eq-eqb i a is) ∙ or_true (is_acquirer (acquirers_in c n (suc k) lanes made sides es h shares.1) i)
-      go (inr more) rest = or_first (is_acquirer (acquirers_in c n (suc k) lanes made sides es h shares.1) i) (i == a) (rest more)
+      go : (i ≡ a) ⊎ (1 ≤ times i lanes) → (1 ≤ times i lanes → is_acquirer (acquirers_in mode c n (suc k) lanes made sides es h shares.1) i ≡ true)
+          → (is_acquirer (acquirers_in mode c n (suc k) lanes made sides es h shares.1) i || (i == a)) ≡ true
+      go (inl is) rest = ap (λ b. is_acquirer (acquirers_in mode c n (suc k) lanes made sides es h shares.1) i || b) (eq-eqb i a is) ∙ or_true (is_acquirer (acquirers_in mode c n (suc k) lanes made sides es h shares.1) i)
+      go (inr more) rest = or_first (is_acquirer (acquirers_in mode c n (suc k) lanes made sides es h shares.1) i) (i == a) (rest more)
 
-  pub lanes_fill : (k : ℕ) (lanes : List ℕ) (ends : List LaneEnd) (shares : LanesShare c n k lanes made sides ends h) → AllByRecursion (FillsWhatRetires c h) (acquirers_in c n k lanes made sides ends h shares)
+  pub lanes_fill : (k : ℕ) (lanes : List ℕ) (ends : List LaneEnd) (shares : LanesShare mode c n k lanes made sides ends h) → AllByRecursion (FillsWhatRetires c h) (acquirers_in mode c n k lanes made sides ends h shares)
   lanes_fill k [] ends shares = tt
   lanes_fill k (a ∷ lanes) [] shares = absurd shares
   lanes_fill k (a ∷ lanes) (e ∷ es) shares = (record { clean = cells_clean c first_state shares.0.served; retired = shares.0.fills }, lanes_fill (suc k) lanes es shares.1)
 
   -- what a lane put into the output are blocks of its machine
-  pub lane_blocks : (k : ℕ) (lanes : List ℕ) (ends : List LaneEnd) (shares : LanesShare c n k lanes made sides ends h) → 1 ≤ c.window → (i : ℕ) → 1 ≤ times i lanes
-      → AllByRecursion (IsBlockOf c (acquirers_in c n k lanes made sides ends h shares)) (tried (own_of i h))
+  pub lane_blocks : (k : ℕ) (lanes : List ℕ) (ends : List LaneEnd) (shares : LanesShare mode c n k lanes made sides ends h) → 1 ≤ c.window → (i : ℕ) → 1 ≤ times i lanes
+      → AllByRecursion (IsBlockOf c (acquirers_in mode c n k lanes made sides ends h shares)) (tried (own_of i h))
   lane_blocks k [] ends shares some i member = absurd (omega (arith, member))
   lane_blocks k (a ∷ lanes) [] shares some i member = absurd shares
   lane_blocks k (a ∷ lanes) (e ∷ es) shares some i member = go (member_or i a lanes member) (λ more. lane_blocks (suc k) lanes es shares.1 some i more)
@@ -101,10 +102,10 @@ module _ (c : AcqConfig) (n : ℕ) (made : List ReaderTurn) (sides : List Reader
       q = inputs_in shares.0.served ++ stop ∷ []
 
       all : List Acquirer
-      all = acquirers_in c n k (a ∷ lanes) made sides (e ∷ es) h shares
+      all = acquirers_in mode c n k (a ∷ lanes) made sides (e ∷ es) h shares
 
       rest_of : List Acquirer
-      rest_of = acquirers_in c n (suc k) lanes made sides es h shares.1
+      rest_of = acquirers_in mode c n (suc k) lanes made sides es h shares.1
 
       go : (i ≡ a) ⊎ (1 ≤ times i lanes) → (1 ≤ times i lanes → AllByRecursion (IsBlockOf c rest_of) (tried (own_of i h))) → AllByRecursion (IsBlockOf c all) (tried (own_of i h))
       go (inl is) rest =

@@ -1,5 +1,5 @@
 -- Each live run with lanes keeps its promises.
-use Rattle.std.proofs.Common.{◌≡◌, ◌⊎◌, inl, inr, ℕ, suc, ◌≤◌, List, [], ◌∷◌, ◌++◌, Option, refl, sym, subst, arith}
+use Rattle.std.proofs.Common.{inl, inr, ℕ, suc, List, [], ◌∷◌, ◌++◌, Option, refl, arith}
 use Rattle.std.specs.List.{AllByRecursion}
 use Rattle.gev_types.specs.declared.frame.Frame.{Frame}
 use Rattle.block_image.specs.OneBlock.{AreSent}
@@ -12,6 +12,7 @@ use Rattle.acquisition_machine.proofs.Order.{all_weaker}
 use Rattle.gev_links.specs.Links.{Address}
 use Rattle.gev_status.specs.declared.status.Status.{Status}
 use Rattle.script_trace.proofs.Handing.{taken_all}
+use Rattle.mode_calls.specs.declared.mode.Mode.{Mode}
 use Rattle.gev_lanes.specs.declared.parts.ReaderLane.{ReaderLane}
 use Rattle.gev_lanes.specs.Sides.{LaneEnd}
 use Rattle.lane_turns.specs.Turns.{ReaderTurn}
@@ -34,26 +35,26 @@ use Rattle.lanes_promises.proofs.Refusing.{refused_read}
 use Rattle.lanes_promises.proofs.Filling.{lanes_alone, is_lane, lanes_fill, lane_blocks, all_acquire, filled_all}
 
 -- a lane's block under a map of frames
-one_framed : (frames : ℕ → Option Frame) (c : AcqConfig) (n k : ℕ) (lanes : List ℕ) (made : List ReaderTurn) (sides : List ReaderLane) (ends : List LaneEnd) (h : List Entry)
-    (shares : LanesShare c n k lanes made sides ends h) → AreSent frames c.p (packets_among (answers_in made)) → (x : Item)
-    → IsBlockOf c (acquirers_in c n k lanes made sides ends h shares) x → HoldsUnderOne frames c (acquirers_in c n k lanes made sides ends h shares) x
-one_framed frames c n k [] made sides ends h shares sent x is = absurd is
-one_framed frames c n k (a ∷ lanes) made sides [] h shares sent x is = absurd shares
-one_framed frames c n k (a ∷ lanes) made sides (e ∷ es) h shares sent x (inl its) =
+one_framed : (mode : Mode) (frames : ℕ → Option Frame) (c : AcqConfig) (n k : ℕ) (lanes : List ℕ) (made : List ReaderTurn) (sides : List ReaderLane) (ends : List LaneEnd) (h : List Entry)
+    (shares : LanesShare mode c n k lanes made sides ends h) → AreSent frames c.p (packets_among (answers_in made)) → (x : Item)
+    → IsBlockOf c (acquirers_in mode c n k lanes made sides ends h shares) x → HoldsUnderOne frames c (acquirers_in mode c n k lanes made sides ends h shares) x
+one_framed mode frames c n k [] made sides ends h shares sent x is = absurd is
+one_framed mode frames c n k (a ∷ lanes) made sides [] h shares sent x is = absurd shares
+one_framed mode frames c n k (a ∷ lanes) made sides (e ∷ es) h shares sent x (inl its) =
     inl (blocks_frames frames c (inputs_in shares.0.served ++ stop ∷ []) x its (lane_sent frames c.p n k made shares.0.served shares.0.heard.datagrams sent))
-one_framed frames c n k (a ∷ lanes) made sides (e ∷ es) h shares sent x (inr other) = inr (one_framed frames c n (suc k) lanes made sides es h shares.1 sent x other)
+one_framed mode frames c n k (a ∷ lanes) made sides (e ∷ es) h shares sent x (inr other) = inr (one_framed mode frames c n (suc k) lanes made sides es h shares.1 sent x other)
 
 run_keeps : (n : Numbers) (lanes : ℕ) (camera stream : Address) (answer : Status) (o e : Told) (written written_after : Option (List ℕ)) (faults faults_after : ℕ) (h : List Entry)
     (run : LanesRun n lanes camera stream answer o e written written_after faults faults_after h) → KeepsRun run
 run_keeps n lanes camera stream answer o e written written_after faults faults_after h run = record {
   headline = runs_headline live_config (lanes_of run) h (omega arith) run.history.run
-      (lanes_fill live_config lanes run.reader_part.made run.reader_part.sides_after h 0 run.crew.lanes run.reader_part.ends run.shares)
-      (all_acquire (lanes_of run) run.crew.lanes h (is_lane live_config lanes run.reader_part.made run.reader_part.sides_after h 0 run.crew.lanes run.reader_part.ends run.shares)
-      (lanes_alone n.buffers run.crew h run.history));
+      (lanes_fill n.mode live_config lanes run.reader_part.made run.reader_part.sides_after h 0 run.crew.lanes run.reader_part.ends run.shares)
+      (all_acquire (lanes_of run) run.crew.lanes h (is_lane n.mode live_config lanes run.reader_part.made run.reader_part.sides_after h 0 run.crew.lanes run.reader_part.ends run.shares)
+      (lanes_alone n.mode n.buffers run.crew h run.history));
   handed = handed;
   framed = λ frames sent.
       all_weaker (IsBlockOf live_config (lanes_of run)) (HoldsUnderOne frames live_config (lanes_of run))
-      (λ x its. one_framed frames live_config lanes 0 run.crew.lanes run.reader_part.made run.reader_part.sides_after run.reader_part.ends h run.shares sent x its) (handed_items h) handed;
+      (λ x its. one_framed n.mode frames live_config lanes 0 run.crew.lanes run.reader_part.made run.reader_part.sides_after run.reader_part.ends h run.shares sent x its) (handed_items h) handed;
   causes = record {
     unanswered = given_up camera stream (reader_side o new_client) (reader_side e run.reader_part.client) n.turns run.read run.reader_part.made run.reader_part.last run.reader_part.on refl;
     refused = refused_read camera stream (reader_side o new_client) (reader_side e run.reader_part.client) n.turns run.read run.reader_part.made run.reader_part.last run.reader_part.on;
@@ -62,8 +63,8 @@ run_keeps n lanes camera stream answer o e written written_after faults faults_a
   where
     handed : AllByRecursion (IsBlockOf live_config (lanes_of run)) (handed_items h)
     handed = taken_all (IsBlockOf live_config (lanes_of run)) every_actor h
-        (filled_all (IsBlockOf live_config (lanes_of run)) run.crew.lanes h (lanes_alone n.buffers run.crew h run.history)
-        (lane_blocks live_config lanes run.reader_part.made run.reader_part.sides_after h 0 run.crew.lanes run.reader_part.ends run.shares (omega arith)))
+        (filled_all (IsBlockOf live_config (lanes_of run)) run.crew.lanes h (lanes_alone n.mode n.buffers run.crew h run.history)
+        (lane_blocks n.mode live_config lanes run.reader_part.made run.reader_part.sides_after h 0 run.crew.lanes run.reader_part.ends run.shares (omega arith)))
 
 pub lane_runs_keep : LaneRunsKeepPromises
 lane_runs_keep n lanes camera stream answer o e written written_after faults faults_after h (inl run) is_run = run_keeps n lanes camera stream answer o e written written_after faults faults_after h run

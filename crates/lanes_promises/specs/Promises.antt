@@ -9,6 +9,7 @@ use Rattle.board_machine.specs.Machine.{Item}
 use Rattle.board_machine.specs.Handout.{handed_items}
 use Rattle.acquisition_machine.specs.declared.config.AcqConfig.{AcqConfig}
 use Rattle.acquisition_machine.specs.Machine.{stop}
+use Rattle.mode_calls.specs.declared.mode.Mode.{Mode}
 use Rattle.gev_links.specs.Links.{Address}
 use Rattle.gev_status.specs.declared.status.Status.{Status}
 use Rattle.gev_lanes.specs.declared.parts.ReaderLane.{ReaderLane}
@@ -26,28 +27,28 @@ use Rattle.live_lanes.specs.LanesRun.{LanesRun, RunsLanes}
 use Rattle.lanes_promises.specs.Causes.{HasCauses}
 
 -- The lanes, each with what its machine was told: the inputs of the cells that it served, and the stop at their end.
-abbrev pub acquirers_in : (c : AcqConfig) (n k : ℕ) (lanes : List ℕ) (made : List ReaderTurn) (sides : List ReaderLane) (ends : List LaneEnd) (h : List Entry)
-    → LanesShare c n k lanes made sides ends h → List Acquirer
-acquirers_in c n k [] made sides ends h shares = []
-acquirers_in c n k (a ∷ lanes) made sides [] h shares = []
-acquirers_in c n k (a ∷ lanes) made sides (e ∷ es) h shares =
-    record { actor = a; inputs = inputs_in shares.0.served ++ stop ∷ [] } ∷ acquirers_in c n (suc k) lanes made sides es h shares.1
+abbrev pub acquirers_in : (mode : Mode) (c : AcqConfig) (n k : ℕ) (lanes : List ℕ) (made : List ReaderTurn) (sides : List ReaderLane) (ends : List LaneEnd) (h : List Entry)
+    → LanesShare mode c n k lanes made sides ends h → List Acquirer
+acquirers_in mode c n k [] made sides ends h shares = []
+acquirers_in mode c n k (a ∷ lanes) made sides [] h shares = []
+acquirers_in mode c n k (a ∷ lanes) made sides (e ∷ es) h shares =
+    record { actor = a; inputs = inputs_in shares.0.served ++ stop ∷ [] } ∷ acquirers_in mode c n (suc k) lanes made sides es h shares.1
 
 abbrev pub lanes_of : {n : Numbers} {lanes : ℕ} {camera stream : Address} {answer : Status} {o e : Told} {written written_after : Option (List ℕ)} {faults faults_after : ℕ} {h : List Entry}
     → LanesRun n lanes camera stream answer o e written written_after faults faults_after h → List Acquirer
 lanes_of {n} {lanes} {camera} {stream} {answer} {o} {e} {written} {written_after} {faults} {faults_after} {h} run =
-    acquirers_in live_config lanes 0 run.crew.lanes run.reader_part.made run.reader_part.sides_after run.reader_part.ends h run.shares
+    acquirers_in n.mode live_config lanes 0 run.crew.lanes run.reader_part.made run.reader_part.sides_after run.reader_part.ends h run.shares
 
 -- The item holds a block of one of these acquisitions, under a map of frames.
 abbrev pub HoldsUnderOne : (ℕ → Option Frame) → AcqConfig → List Acquirer → Item → Type 0
 HoldsUnderOne frames c [] x = ⊥
 HoldsUnderOne frames c (a ∷ acquirers) x = HoldsUnder frames c a.inputs x ⊎ HoldsUnderOne frames c acquirers x
 
--- The headline holds of the history, with the lanes as its acquirers, and each buffer that was handed out holds a
--- block of one of them: no record is empty. Under each map of frames from which all packets were sent that came on the
--- stream's link, each of them is its block's frame where it's marked complete, has each received byte in place and 0
--- elsewhere, and is marked complete where the buffer is large enough and its lane was told all packets before it was
--- filled. And the reader ended as it did for a cause.
+-- The headline holds of the history, with the lanes as its acquirers, and each buffer that was taken, be it handed out
+-- or dropped, holds a block of one of them: no record is empty. Under each map of frames from which all packets were
+-- sent that came on the stream's link, each of them is its block's frame where it's marked complete, has each received
+-- byte in place and 0 elsewhere, and is marked complete where the buffer is large enough and its lane was told all
+-- packets before it was filled. And the reader ended as it did for a cause.
 pub record KeepsRun {n : Numbers} {lanes : ℕ} {camera stream : Address} {answer : Status} {o e : Told} {written written_after : Option (List ℕ)} {faults faults_after : ℕ} {h : List Entry}
     (run : LanesRun n lanes camera stream answer o e written written_after faults faults_after h) : Type 0 where
   pub headline : KeepsHeadline live_config (lanes_of run) h
