@@ -12,7 +12,7 @@ use Rattle.gev_top.specs.Completeness.{NoneRose, EndsLive}
 use Rattle.gev_live.specs.Told.{Told}
 use Rattle.gev_live.specs.LiveRun.{Numbers}
 use Rattle.live_recording.specs.Recorded.{Recorded, RecordsLive}
-use Rattle.gev_call.specs.Runs.{IsUntold, told_by, numbers_of, RecordsOver}
+use Rattle.gev_call.specs.Runs.{IsUntold, told_by, RecordsOver}
 use Rattle.gev_call.proofs.Promised.{all_back}
 
 script_ends : (answer : Status) (script : List ℕ) (written written_after : Option (List ℕ)) (faults faults_after : ℕ) → Recorded answer script written written_after faults faults_after
@@ -49,7 +49,8 @@ record_understood n camera stream answer o e taped written written_after faults 
 record_understood n camera stream answer o e taped written written_after faults faults_after h (inr nothing) place is =
     let bad : NoMemory ≡ Usage place = sym nothing.never.wanted ∙ is in cc
 
-in_mode : LiveNumbers → Mode → Numbers
+-- the numbers of such a run in this mode
+abbrev pub in_mode : LiveNumbers → Mode → Numbers
 in_mode n mode = record { seed = n.seed; frames = n.frames; buffers = n.buffers; turns = n.turns; mode = mode }
 
 pub recorded_over : {L C : Type 0} (received : L → Option (List Answer)) (sent : L → Option (List (Address × List ℕ))) (faults : L → ℕ) (told : C → Option (List ℕ))

@@ -1,6 +1,5 @@
 -- A replay or an explanation that keeps its promises keeps the headline.
 use Rattle.std.proofs.Common.{◌≡◌, ℕ, List, Option, subst}
-use Rattle.script_runs.specs.declared.ending.Ending.{Ending}
 use Rattle.script_trace.specs.Standing.{Standing, first, running, ReplayRuns, ReplayRefuses}
 use Rattle.script_trace.specs.Laws.{StandsWell, HasSaid}
 use Rattle.script_notes.specs.Explaining.{untold, ExplainRefuses}
