@@ -3,7 +3,7 @@ use gvcp_wire::{Command, CommandHead};
 
 /// A command that reached the control port. Its bytes are lent from the datagram.
 #[derive(Clone, Copy)]
-pub struct Received<'a> {
+pub(crate) struct Received<'a> {
     /// Who sent it.
     pub peer: Peer,
     /// All bytes of the datagram.

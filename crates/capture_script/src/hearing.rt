@@ -49,7 +49,7 @@ fn hear_standard(
 }
 
 /// Tells a datagram, and gives a buffer where it asks for one. Answers how many buffers were filled.
-pub fn hear_bytes(
+pub(crate) fn hear_bytes(
     player: &mut Player,
     p: u32,
     widener: &mut Widener,

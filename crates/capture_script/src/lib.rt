@@ -4,11 +4,11 @@
 //! has, as a function of the capture's packets.
 #![tactic(auto)]
 
-mod hearing;
-mod playing;
-mod scripting;
-mod turning;
-mod writing;
+mod hearing; // a datagram with either kind of identifiers
+mod playing; // the acquisition that a script plays
+mod scripting; // who writes the script
+mod turning; // turns of the acquisition
+mod writing; // lines, each with its line feed
 
 pub use playing::Playing;
 pub use scripting::write_capture;

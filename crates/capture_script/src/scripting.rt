@@ -27,7 +27,7 @@ const MOST_BYTES: usize = 9999;
 /// Who writes the script of the datagrams to one port. Contracts see the port, what was played, and the moment of the
 /// last `t` line.
 #[derive(Drop)]
-pub struct Scripting {
+pub(crate) struct Scripting {
     alloc: Global,
     port: u16,
     playing: Playing,

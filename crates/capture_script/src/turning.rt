@@ -34,7 +34,7 @@ fn tell_again(player: &mut Player, p: u32, bytes: &[u8]) -> u8
 }
 
 /// Tells a datagram, which finds a buffer where it asks for one. Answers how many buffers were filled.
-pub fn tell(player: &mut Player, p: u32, bytes: &[u8]) -> u8
+pub(crate) fn tell(player: &mut Player, p: u32, bytes: &[u8]) -> u8
     requires config { config_in player.old ≡ config p }
     ensures plays { (q : List Input) → Took player.old q
         → Plays p q (inputs_by player.old.size bytes.now (turn (config p) q (datagram bytes.now)).need) player.new result }
@@ -51,7 +51,7 @@ pub fn tell(player: &mut Player, p: u32, bytes: &[u8]) -> u8
 }
 
 /// Tells a moment, in milliseconds, to the acquisition. Answers how many buffers were filled.
-pub fn tell_moment(player: &mut Player, p: u32, moment: u64) -> u8
+pub(crate) fn tell_moment(player: &mut Player, p: u32, moment: u64) -> u8
     requires config { config_in player.old ≡ config p }
     ensures plays { (q : List Input) → Took player.old q → Plays p q (moment_input moment ∷ []) player.new result }
     ensures config { config_in player.new ≡ config p }
@@ -62,7 +62,7 @@ pub fn tell_moment(player: &mut Player, p: u32, moment: u64) -> u8
 }
 
 /// Stops the acquisition. Answers how many buffers were filled.
-pub fn tell_stop(player: &mut Player, p: u32) -> u8
+pub(crate) fn tell_stop(player: &mut Player, p: u32) -> u8
     requires config { config_in player.old ≡ config p }
     ensures plays { (q : List Input) → Took player.old q → Plays p q (stopped ∷ []) player.new result }
     ensures config { config_in player.new ≡ config p }

@@ -42,7 +42,12 @@ fn add_flush(alloc: Global, out: &mut Vec<u8>) -> Result<(), NoMemory>
 }
 
 /// Adds what stands before the first datagram: a receiver's numbers, three buffers, and the start.
-pub fn add_opening(alloc: Global, p: u32, size: u32, out: &mut Vec<u8>) -> Result<(), NoMemory>
+pub(crate) fn add_opening(
+    alloc: Global,
+    p: u32,
+    size: u32,
+    out: &mut Vec<u8>,
+) -> Result<(), NoMemory>
     requires p_some { 528 ≤ p }
     requires p_most { p ≤ 8964 }
     ensures { OnOk result (out.new.items ≡ out.old.items ++ text_of (opening_lines p size)) }
@@ -59,7 +64,7 @@ pub fn add_opening(alloc: Global, p: u32, size: u32, out: &mut Vec<u8>) -> Resul
 }
 
 /// Adds the takes of so many buffers that were filled, which then go back.
-pub fn add_takes(alloc: Global, filled: u8, out: &mut Vec<u8>) -> Result<(), NoMemory>
+pub(crate) fn add_takes(alloc: Global, filled: u8, out: &mut Vec<u8>) -> Result<(), NoMemory>
     ensures { OnOk result (out.new.items ≡ out.old.items ++ text_of (taking filled)) }
 {
     if filled == 0 {
@@ -70,7 +75,7 @@ pub fn add_takes(alloc: Global, filled: u8, out: &mut Vec<u8>) -> Result<(), NoM
 }
 
 /// Adds the line of a datagram, whose digits come into the room.
-pub fn add_datagram(
+pub(crate) fn add_datagram(
     alloc: Global,
     bytes: &[u8],
     room: &mut [u8],

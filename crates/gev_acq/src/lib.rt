@@ -1,21 +1,21 @@
 //! The workers of a live run: what a reader, a camera and an application do on the board that they share.
 #![tactic(auto)]
 
-mod acquiring;
-mod claiming;
-mod draining;
-mod filling;
-mod heard;
-mod hearing;
-mod laws;
+mod acquiring; // all turns of the reader
+mod claiming; // a buffer for a new block, by the mode
+mod draining; // the stop of the receiver
+mod filling; // buffers of blocks that retired, by the mode
+mod heard; // what became of a datagram
+mod hearing; // a datagram, and the claim that it asks for
+mod laws; // laws of the reader's turns, as contracts
 #[cfg(test)]
 mod mode_tests;
-mod sending;
+mod sending; // the requests of a turn
 #[cfg(test)]
 mod tests;
-mod turn;
-mod turn_once;
-mod turning;
+mod turn; // a turn's entry in the journal
+mod turn_once; // one turn, and its control part
+mod turning; // what a turn does to the receiver
 
 pub use acquiring::acquire;
 pub use draining::{drain, retire_all};

@@ -3,11 +3,11 @@
 //! `specs/Runs.antt` says what a live run over ports did; what the other commands do is said by `gev_top`.
 #![tactic(auto)]
 
-mod recording;
-mod running;
+mod recording; // a recorded live run over ports
+mod running; // a live run over ports
 #[cfg(test)]
 mod tests;
-mod top;
+mod top; // the call of the program
 
 pub use recording::run_recorded;
 pub use running::run_live;

@@ -4,14 +4,14 @@
 //! `specs/Endings.antt` how a run ends, and `specs/LiveRun.antt` all of it together.
 #![tactic(auto)]
 
-mod crew;
-mod ends;
-mod finishing;
-mod live;
-mod running;
+mod crew; // the three workers as threads
+mod ends; // the links and clocks of a run
+mod finishing; // the answer, and the lines that are written
+mod live; // a run over links and clocks that are handed in
+mod running; // passes are split off and joined again
 #[cfg(test)]
 mod tests;
-mod tools;
+mod tools; // what the workers work with
 
 pub use ends::Ends;
 pub use finishing::{finish, status_by, taken_of};

@@ -4,16 +4,16 @@
 //! `specs/Writing.antt` what became of a script that was written: the one that `recorded_runs` defines.
 #![tactic(auto)]
 
-mod kept;
-mod lines;
-mod record_end;
-mod replica;
-mod tape;
+mod kept; // what one receive gave
+mod lines; // the line of a datagram
+mod record_end; // why a script was written in part
+mod replica; // the run's receiver once more
+mod tape; // a link that keeps what it hears
 #[cfg(test)]
 mod tests;
-mod turns;
-mod used;
-mod writing;
+mod turns; // the lines of a turn
+mod used; // which places open blocks have
+mod writing; // the whole script
 
 pub use acquisition_laws::Mark;
 pub use record_end::RecordEnd;

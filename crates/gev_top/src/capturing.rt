@@ -23,7 +23,7 @@ fn status_from(ending: Ending) -> Status
 }
 
 /// Lists the image streams in the capture that the source gives.
-pub fn streams<S: Source, K: Sink>(alloc: Global, source: &mut S, sink: &mut K) -> Status
+pub(crate) fn streams<S: Source, K: Sink>(alloc: Global, source: &mut S, sink: &mut K) -> Status
     ensures cause { ListsStreams result (S.left source.old) (S.left source.new) (S.faults source.old) (S.faults source.new)
         (K.written sink.old) (K.written sink.new) (K.faults sink.old) (K.faults sink.new) }
     ensures exact { IfTold (S.left source.old) (λ content. AnswersCapture result content) }
@@ -35,7 +35,7 @@ pub fn streams<S: Source, K: Sink>(alloc: Global, source: &mut S, sink: &mut K) 
 
 /// Writes a replay script of the datagrams to one port of the capture that the source gives, with payloads of at most
 /// `p` bytes and buffers of `bytes` bytes.
-pub fn capture<S: Source, K: Sink>(
+pub(crate) fn capture<S: Source, K: Sink>(
     alloc: Global,
     port: u16,
     p: u32,

@@ -23,7 +23,12 @@ fn status_for(end: ImageEnd) -> Status
 }
 
 /// Writes a picture of the buffer with this number, from 1, of those that the script's `take` lines get.
-pub fn image<S: Source, K: Sink>(alloc: Global, wanted: u32, source: &mut S, sink: &mut K) -> Status
+pub(crate) fn image<S: Source, K: Sink>(
+    alloc: Global,
+    wanted: u32,
+    source: &mut S,
+    sink: &mut K,
+) -> Status
     requires { 1 ≤ wanted }
     ensures cause { Images wanted result (S.left source.old) (S.left source.new) (S.faults source.old) (S.faults source.new)
         (K.written sink.old) (K.written sink.new) (K.faults sink.old) (K.faults sink.new) }

@@ -6,20 +6,20 @@
 //! and `gev_world`.
 #![tactic(auto)]
 
-mod capturing;
-mod command;
-mod errand;
-mod imaging;
-mod live_numbers;
-mod live_words;
-mod making;
-mod numbers;
-mod plain;
-mod scripts;
-mod soaking;
+mod capturing; // `streams` and `capture`
+mod command; // the commands that make no use of ports
+mod errand; // what any command line asks for
+mod imaging; // `image`
+mod live_numbers; // the numbers of `live` and `record`
+mod live_words; // the words of any command line
+mod making; // `make`
+mod numbers; // the numbers of `make` and `soak`
+mod plain; // the call for these commands
+mod scripts; // `replay`, `explain` and `camera`
+mod soaking; // `soak`
 #[cfg(test)]
 mod tests;
-mod usage;
+mod usage; // the words of these commands
 
 pub use command::Command;
 pub use errand::Errand;

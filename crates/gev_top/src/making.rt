@@ -9,7 +9,7 @@ use lossy_queue::Rates;
 use std::alloc::Global;
 
 /// Writes the replay script of a seed.
-pub fn make_script<K: Sink>(
+pub(crate) fn make_script<K: Sink>(
     alloc: Global,
     seed: u64,
     frames: u32,

@@ -48,7 +48,7 @@ fn run<S: Source, K: Sink, M: Modelled>(
 }
 
 /// Runs a replay script and writes its report.
-pub fn replay<S: Source, K: Sink>(alloc: Global, source: &mut S, sink: &mut K) -> Status
+pub(crate) fn replay<S: Source, K: Sink>(alloc: Global, source: &mut S, sink: &mut K) -> Status
     ensures cause { Replays result (S.left source.old) (S.left source.new) (S.faults source.old) (S.faults source.new)
         (K.written sink.old) (K.written sink.new) (K.faults sink.old) (K.faults sink.new) }
     ensures exact { IfTold (S.left source.old) (λ content. IsDecided commands.Replay result content) }
@@ -63,7 +63,7 @@ pub fn replay<S: Source, K: Sink>(alloc: Global, source: &mut S, sink: &mut K) -
 
 /// Runs a replay script and writes its report, and before the report of each line what it tells of lost frames and
 /// of datagrams that are in no image.
-pub fn explain<S: Source, K: Sink>(alloc: Global, source: &mut S, sink: &mut K) -> Status
+pub(crate) fn explain<S: Source, K: Sink>(alloc: Global, source: &mut S, sink: &mut K) -> Status
     ensures cause { Explains result (S.left source.old) (S.left source.new) (S.faults source.old) (S.faults source.new)
         (K.written sink.old) (K.written sink.new) (K.faults sink.old) (K.faults sink.new) }
     ensures exact { IfTold (S.left source.old) (λ content. IsDecided commands.Explain result content) }
@@ -77,7 +77,7 @@ pub fn explain<S: Source, K: Sink>(alloc: Global, source: &mut S, sink: &mut K) 
 }
 
 /// Runs a camera script and writes what the camera answers.
-pub fn camera<S: Source, K: Sink>(alloc: Global, source: &mut S, sink: &mut K) -> Status
+pub(crate) fn camera<S: Source, K: Sink>(alloc: Global, source: &mut S, sink: &mut K) -> Status
     ensures cause { Serves result (S.left source.old) (S.left source.new) (S.faults source.old) (S.faults source.new)
         (K.written sink.old) (K.written sink.new) (K.faults sink.old) (K.faults sink.new) }
     ensures exact { IfTold (S.left source.old) (λ content. IsDecided commands.Camera result content) }

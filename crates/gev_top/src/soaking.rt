@@ -42,7 +42,7 @@ fn status_of(end: SoakEnd) -> Status
 }
 
 /// Runs camera, network and host of a seed, and writes what the host takes.
-pub fn soak<K: Sink>(
+pub(crate) fn soak<K: Sink>(
     alloc: Global,
     seed: u64,
     frames: u32,

@@ -27,7 +27,7 @@ mod words;
 
 /// A script, and its report.
 #[derive(Clone, Copy)]
-pub struct Row {
+pub(crate) struct Row {
     script: &'static str,
     report: &'static str,
 }

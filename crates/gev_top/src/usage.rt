@@ -10,7 +10,7 @@ use lossy_queue::Rates;
 
 /// The command that the words are, or the place, from 0, of the first word with which no command line
 /// goes on. Where more words are wanted it is their number.
-pub fn read_words(words: &[String]) -> Result<Command, u32>
+pub(crate) fn read_words(words: &[String]) -> Result<Command, u32>
     ensures said { result ≡ command_of (map (λ word. string_bytes word) words.now) }
     ensures within { IfOk result (λ command. IsInRange command) }
 {

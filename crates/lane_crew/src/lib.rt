@@ -5,13 +5,13 @@
 //! their acts on the shared board.
 #![tactic(auto)]
 
-mod crew;
-mod homing;
-mod lane_tools;
-mod lanes_done;
-mod laws;
-mod reading;
-mod serving;
+mod crew; // reader and lanes as threads, and the stop
+mod homing; // passes are joined, and queues' ends meet
+mod lane_tools; // what the thread of a lane works with
+mod lanes_done; // what comes back of the whole crew
+mod laws; // a law of the lanes' parts, as a contract
+mod reading; // the reader, from the setup to its end
+mod serving; // the lanes as threads
 #[cfg(test)]
 mod tests;
 

@@ -3,7 +3,7 @@ use gev_lanes::LaneEnds;
 
 /// What a lane begins with beside its pass.
 #[derive(Drop)]
-pub struct LaneParts {
+pub(crate) struct LaneParts {
     /// Its ends of its queues.
     pub ends: LaneEnds,
     /// The receiver that assembles its blocks.

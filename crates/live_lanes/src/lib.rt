@@ -4,12 +4,12 @@
 //! lane did, and `specs/LanesRun.antt` all of it together, with the words of a run with one lane (`gev_live`).
 #![tactic(auto)]
 
-mod crew;
-mod lane_parts;
-mod live;
-mod making;
-mod running;
-mod splitting;
+mod crew; // the workers as threads
+mod lane_parts; // what a lane begins with beside its pass
+mod live; // a run over links and clocks that are handed in
+mod making; // what the workers work with
+mod running; // passes are split off and joined again
+mod splitting; // each lane gets a pass
 #[cfg(test)]
 mod tests;
 

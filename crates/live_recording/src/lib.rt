@@ -4,9 +4,9 @@
 //! `specs/Replayed.antt` what its script's replay reports.
 #![tactic(auto)]
 
-mod marks;
-mod nowhere;
-mod recording;
+mod marks; // the marks of a run, by its reader's journal
+mod nowhere; // a sink that keeps nothing
+mod recording; // a run over a tape, and its script
 #[cfg(test)]
 mod tests;
 

@@ -51,7 +51,12 @@ fn take_back(acq: &mut Acq, spare: &mut Vec<Buf>, size: u32) -> ArrayVec<u8, 4>
 }
 
 /// Tells a datagram. Answers what it needs or what became of it, and the places of the buffers that came back.
-pub fn tell(acq: &mut Acq, spare: &mut Vec<Buf>, size: u32, bytes: &[u8]) -> (Need, ArrayVec<u8, 4>)
+pub(crate) fn tell(
+    acq: &mut Acq,
+    spare: &mut Vec<Buf>,
+    size: u32,
+    bytes: &[u8],
+) -> (Need, ArrayVec<u8, 4>)
     requires playing { IsPlaying size acq.old spare.old.items }
     requires room { 4 ≤ vec_capacity spare.old }
     ensures need { (q : List Input) → Stands acq.old q → (turn (config_of acq.old) q (datagram bytes.now)).need ≡ Some result.0 }
@@ -83,7 +88,7 @@ fn give_spare(acq: &mut Acq, spare: &mut Vec<Buf>, size: u32, place: u8)
 }
 
 /// Tells the outcome of a claim: a buffer at this place, or none.
-pub fn give(acq: &mut Acq, spare: &mut Vec<Buf>, size: u32, place: Option<u8>)
+pub(crate) fn give(acq: &mut Acq, spare: &mut Vec<Buf>, size: u32, place: Option<u8>)
     requires playing { IsPlaying size acq.old spare.old.items }
     requires asked { IsSome (asked_block acq.old) }
     requires room { 4 ≤ vec_capacity spare.old }
@@ -98,7 +103,12 @@ pub fn give(acq: &mut Acq, spare: &mut Vec<Buf>, size: u32, place: Option<u8>)
 }
 
 /// Tells a moment, in milliseconds. Answers the places of the buffers that came back.
-pub fn tell_moment(acq: &mut Acq, spare: &mut Vec<Buf>, size: u32, moment: u64) -> ArrayVec<u8, 4>
+pub(crate) fn tell_moment(
+    acq: &mut Acq,
+    spare: &mut Vec<Buf>,
+    size: u32,
+    moment: u64,
+) -> ArrayVec<u8, 4>
     requires playing { IsPlaying size acq.old spare.old.items }
     requires room { 4 ≤ vec_capacity spare.old }
     ensures plays { Plays (record { acq = acq.old; size = size }) (record { acq = acq.new; size = size }) (moment_input moment) result.items }
@@ -111,7 +121,7 @@ pub fn tell_moment(acq: &mut Acq, spare: &mut Vec<Buf>, size: u32, moment: u64) 
 }
 
 /// Stops the acquisition. Answers the places of the buffers that came back.
-pub fn tell_stop(acq: &mut Acq, spare: &mut Vec<Buf>, size: u32) -> ArrayVec<u8, 4>
+pub(crate) fn tell_stop(acq: &mut Acq, spare: &mut Vec<Buf>, size: u32) -> ArrayVec<u8, 4>
     requires playing { IsPlaying size acq.old spare.old.items }
     requires room { 4 ≤ vec_capacity spare.old }
     ensures plays { Plays (record { acq = acq.old; size = size }) (record { acq = acq.new; size = size }) stopped result.items }

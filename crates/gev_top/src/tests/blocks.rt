@@ -1,7 +1,7 @@
 use super::Row;
 
 /// One block, as its datagrams come and as its buffer is.
-pub const BLOCKS: &[Row] = &[
+pub(crate) const BLOCKS: &[Row] = &[
     // One byte.
     Row {
         script: "\

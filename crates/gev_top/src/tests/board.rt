@@ -1,7 +1,7 @@
 use super::Row;
 
 /// Calls on buffers, and what is refused.
-pub const CALLS: &[Row] = &[
+pub(crate) const CALLS: &[Row] = &[
     // Nothing but the header and the end.
     Row {
         script: "\
@@ -125,7 +125,7 @@ end taken=1 fills=0 complete=0 underrun=0 requests=0 foreign=0 late=0 repeat=0 m
 ];
 
 /// Steps that are made by hand.
-pub const STEPS: &[Row] = &[
+pub(crate) const STEPS: &[Row] = &[
     // A close between a claim and its fill.
     Row {
         script: "\

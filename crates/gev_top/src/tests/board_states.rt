@@ -4,7 +4,7 @@ use super::Row;
 
 /// Each state twice: what refuses a queue and a revoke, and what a flush takes back; and what the actor finds behind
 /// a close.
-pub const STATES: &[Row] = &[
+pub(crate) const STATES: &[Row] = &[
     // In the pool.
     Row {
         script: "\

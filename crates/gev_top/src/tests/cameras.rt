@@ -5,14 +5,14 @@ use gev_script::ScriptKind;
 use std::test::Fail;
 
 /// A peer without control reads a register, and its write is refused.
-pub const CAMERA_SCRIPT: &str = "\
+pub(crate) const CAMERA_SCRIPT: &str = "\
 gevacq-camera 1
 c 1 420100800004000100000004
 c 1 4201008200080002000009380000012c
 end
 ";
 
-pub const CAMERA_REPORT: &str = "\
+pub(crate) const CAMERA_REPORT: &str = "\
 a 1 000000810004000180000001
 a 1 800600830004000200000000
 end executed=0

@@ -6,7 +6,7 @@ use gev_links::{MemorySink, SteadySource};
 use std::test::Fail;
 
 /// The explanation of the script of one block.
-pub const EXPLANATION: &str = "\
+pub(crate) const EXPLANATION: &str = "\
 announce 0.1
 queue ok
 start ok

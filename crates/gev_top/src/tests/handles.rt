@@ -1,7 +1,7 @@
 use super::Row;
 
 /// Handles are opened and closed, and with the stream's its buffers go.
-pub const HANDLES: &[Row] = &[
+pub(crate) const HANDLES: &[Row] = &[
     // Refusals, and calls on a closed stream.
     Row {
         script: "\

@@ -18,7 +18,7 @@ end
 ";
 
 /// The script of two blocks that were lost whole.
-pub const ALL_LOST: &str = "\
+pub(crate) const ALL_LOST: &str = "\
 gevacq 1 1452 2 200 20 3
 announce 3072
 announce 3072

@@ -1,7 +1,7 @@
 use super::Row;
 
 /// Scripts that set the buffer handling mode.
-pub const MODES: &[Row] = &[
+pub(crate) const MODES: &[Row] = &[
     // The oldest image that waits is dropped for a third one.
     Row {
         script: "\

@@ -7,7 +7,7 @@ use gev_links::{MemorySink, SteadySource};
 use std::test::Fail;
 
 /// The picture of the script's block.
-pub const PICTURE: &str = "P5\n3 1\n255\nabc";
+pub(crate) const PICTURE: &str = "P5\n3 1\n255\nabc";
 
 /// The script of an empty buffer.
 const FLUSHED: &str = "\

@@ -1,7 +1,7 @@
 use super::Row;
 
 /// Blocks of which fewer lines came than their leaders announced, and their like.
-pub const SHORT: &[Row] = &[
+pub(crate) const SHORT: &[Row] = &[
     // One line came of four that the leader announced.
     Row {
         script: "\

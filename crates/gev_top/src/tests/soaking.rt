@@ -10,7 +10,7 @@ soak frames=0 taken=0 complete=0 incomplete=0 underrun=0 requests=0 commands=4
 ";
 
 /// The text of three frames on a network that loses nothing.
-pub const THREE_FRAMES: &str = "\
+pub(crate) const THREE_FRAMES: &str = "\
 take 0.1 block=1 complete=1 larger=0 leader=1 len=3072 filled=3072 sha256=ea7326b4a3a56d696e0989e83403bff77066e6bc9a16ee901bc53925ecbad5a3
 take 0.1 block=2 complete=1 larger=0 leader=1 len=3072 filled=3072 sha256=1e22a9a73ed6ce8c9e1a63bd9b7aea48f726a528e07bb55ab46073b7a1e2ecdb
 take 0.1 block=3 complete=1 larger=0 leader=1 len=3072 filled=3072 sha256=94a7126f247758d802255c309dd796c1aeb49404b36c2ad1dd48f9780f38aef9

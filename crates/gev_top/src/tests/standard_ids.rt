@@ -1,7 +1,7 @@
 use super::Row;
 
 /// Scripts of version 2, whose datagrams may have standard identifiers.
-pub const STANDARD_IDS: &[Row] = &[
+pub(crate) const STANDARD_IDS: &[Row] = &[
     // One block.
     Row {
         script: "\

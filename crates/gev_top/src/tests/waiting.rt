@@ -1,7 +1,7 @@
 use super::Row;
 
 /// What comes of a block whose packets are missing.
-pub const WAITING: &[Row] = &[
+pub(crate) const WAITING: &[Row] = &[
     // A payload is lost, and is asked for twice.
     Row {
         script: "\
@@ -128,7 +128,7 @@ end taken=1 fills=1 complete=0 underrun=0 requests=0 foreign=0 late=0 repeat=0 m
 ];
 
 /// What comes of blocks where buffers are few.
-pub const FEW_BUFFERS: &[Row] = &[
+pub(crate) const FEW_BUFFERS: &[Row] = &[
     // No buffer was queued as the block began.
     Row {
         script: "\
