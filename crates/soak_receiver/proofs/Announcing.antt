@@ -32,7 +32,7 @@ use Rattle.script_trace.specs.Opening.{opening}
 use Rattle.script_replay.specs.declared.running.Running.{Running}
 use Rattle.script_replay.specs.Replays.{StandsAt, IsReplaying, AddsAt, Goes}
 use Rattle.script_replay.proofs.Replaying.{leads_on}
-use Rattle.soak_host.specs.Receiver.{soak_config, pooled_word, start}
+use Rattle.soak_host.specs.Receiver.{soak_config, SOAK_BUFFER_SIZE, pooled_word, start}
 use Rattle.soak_receiver.specs.Moves.{IsOpen, IsLeft}
 use Rattle.soak_receiver.specs.Taking.{queued}
 use Rattle.soak_receiver.specs.Stocking.{stock_lines, stocked, announced, IsBeginning, IsStocked, IsAnnounced, HasBegun}
@@ -129,7 +129,7 @@ refuses b i size (w ∷ words) rest runs =
         let there : i + suc j ≡ i + 1 + j = omega arith in
         later j (omega (arith, less)) (subst (λ k. CanEnrol (word_at b k)) there can)
 
-enrolled : (n : ℕ) → n < 4 → after_from (stocked n) (entries_of caller (Enrol n 3072 (Ok 1) ∷ Lay n ∷ [])) ≡ announced n
+enrolled : (n : ℕ) → n < 4 → after_from (stocked n) (entries_of caller (Enrol n SOAK_BUFFER_SIZE (Ok 1) ∷ Lay n ∷ [])) ≡ announced n
 enrolled zero few = refl
 enrolled (suc zero) few = refl
 enrolled (suc (suc zero)) few = refl
@@ -145,23 +145,23 @@ place_is n place few can none = go (cases_lt n place) (cases_lt place n)
     go (inr most) (inl below) = absurd (below_is_full n place below can)
     go (inr most) (inr least) = omega (arith, most, least)
 
-announce_leaves : (n : ℕ) (answer : Result BufferId GcError) (es : List Event) → n < 4 → answer ≢ Err OutOfMemory → Announces 3072 answer es → RunsFrom (stocked n) (entries_of caller es)
+announce_leaves : (n : ℕ) (answer : Result BufferId GcError) (es : List Event) → n < 4 → answer ≢ Err OutOfMemory → Announces SOAK_BUFFER_SIZE answer es → RunsFrom (stocked n) (entries_of caller es)
     → after_from (stocked n) (entries_of caller es) ≡ announced n
 announce_leaves n (Ok id) es few some (sized, (words, wide, opens)) runs =
     ap (λ fs. after_from (stocked n) (entries_of caller fs)) opens.is
     ∙ (refused.leaves
-    ∙ (ap (λ k. after_from (stocked n) (entries_of caller (Enrol k 3072 (Ok id.generation) ∷ Lay k ∷ []))) place
-    ∙ (ap (λ g. after_from (stocked n) (entries_of caller (Enrol n 3072 (Ok g) ∷ Lay n ∷ []))) generation
+    ∙ (ap (λ k. after_from (stocked n) (entries_of caller (Enrol k SOAK_BUFFER_SIZE (Ok id.generation) ∷ Lay k ∷ []))) place
+    ∙ (ap (λ g. after_from (stocked n) (entries_of caller (Enrol n SOAK_BUFFER_SIZE (Ok g) ∷ Lay n ∷ []))) generation
     ∙ enrolled n few)))
   where
     brought : List Event
-    brought = Enrol id.place 3072 (Ok id.generation) ∷ Lay id.place ∷ []
+    brought = Enrol id.place SOAK_BUFFER_SIZE (Ok id.generation) ∷ Lay id.place ∷ []
 
-    now : RunsFrom (stocked n) (entries_of caller (LookOut opens.output false ∷ refused_from 0 3072 words ++ brought))
+    now : RunsFrom (stocked n) (entries_of caller (LookOut opens.output false ∷ refused_from 0 SOAK_BUFFER_SIZE words ++ brought))
     now = subst (λ (fs : List Event). RunsFrom (stocked n) (entries_of caller fs)) opens.is runs
 
-    refused : Refuses (stocked n) 0 3072 words brought
-    refused = refuses (stocked n) 0 3072 words brought now.1
+    refused : Refuses (stocked n) 0 SOAK_BUFFER_SIZE words brought
+    refused = refuses (stocked n) 0 SOAK_BUFFER_SIZE words brought now.1
 
     place : id.place ≡ n
     place = place_is n id.place few refused.runs.0.meets.3
@@ -176,18 +176,18 @@ announce_leaves n (Err (InvalidHandle shown.Closed)) es few some looks runs =
 announce_leaves n (Err (InvalidParameter m)) es few some (same, unsized, looks) runs = absurd (unsized (lit≤ tt, lit≤ tt))
 announce_leaves n (Err OutOfMemory) es few some kind runs = absurd (some refl)
 announce_leaves n (Err ResourceExhausted) es few some (sized, (words, wide, opens)) runs =
-    let all : entries_of caller (refused_from 0 3072 words ++ []) ≡ entries_of caller (refused_from 0 3072 words) = ap (entries_of caller) (append-nil (refused_from 0 3072 words)) in
-    let now : RunsFrom (stocked n) (entries_of caller (LookOut opens.output false ∷ refused_from 0 3072 words)) = subst (λ (fs : List Event). RunsFrom (stocked n) (entries_of caller fs)) opens.is runs in
-    let refused : Refuses (stocked n) 0 3072 words [] = refuses (stocked n) 0 3072 words [] (subst (λ (h : List Entry). RunsFrom (stocked n) h) (sym all) now.1) in
+    let all : entries_of caller (refused_from 0 SOAK_BUFFER_SIZE words ++ []) ≡ entries_of caller (refused_from 0 SOAK_BUFFER_SIZE words) = ap (entries_of caller) (append-nil (refused_from 0 SOAK_BUFFER_SIZE words)) in
+    let now : RunsFrom (stocked n) (entries_of caller (LookOut opens.output false ∷ refused_from 0 SOAK_BUFFER_SIZE words)) = subst (λ (fs : List Event). RunsFrom (stocked n) (entries_of caller fs)) opens.is runs in
+    let refused : Refuses (stocked n) 0 SOAK_BUFFER_SIZE words [] = refuses (stocked n) 0 SOAK_BUFFER_SIZE words [] (subst (λ (h : List Entry). RunsFrom (stocked n) h) (sym all) now.1) in
     let within : n < length words = omega (arith, few, wide) in
     absurd (refused.none n within (subst (λ k. CanEnrol (word_at (stocked n) k)) (sym (zero-add n)) (can_enrol_next n few)))
 announce_leaves n (Err error) es few some kind runs = absurd kind
 
-pub announced_one : (n : ℕ) (old new : Running) (said : List ℕ) → n < 4 → IsStocked n old → Goes (line.announce 3072) old said new → new.tree ≡ old.tree → new.mode ≡ old.mode → IsAnnounced n new
+pub announced_one : (n : ℕ) (old new : Running) (said : List ℕ) → n < 4 → IsStocked n old → Goes (line.announce SOAK_BUFFER_SIZE) old said new → new.tree ≡ old.tree → new.mode ≡ old.mode → IsAnnounced n new
 announced_one n old new said few was goes same same_mode =
-    begun_on (line.announce 3072) (stock_lines n) (stocked n) (announced n) old new said was goes same same_mode adds_one
+    begun_on (line.announce SOAK_BUFFER_SIZE) (stock_lines n) (stocked n) (announced n) old new said was goes same same_mode adds_one
   where
-    adds_one : (t : Trace) (part : Part) → board t ≡ stocked n → AddsPart soak_config t (line.announce 3072) part → TellsNothing (announced n) t part
+    adds_one : (t : Trace) (part : Part) → board t ≡ stocked n → AddsPart soak_config t (line.announce SOAK_BUFFER_SIZE) part → TellsNothing (announced n) t part
     adds_one t part is adds =
         let calls = adds.spells.2 in
         let runs : RunsFrom (stocked n) (entries_of caller calls.events) = subst (λ (b : Board). RunsFrom b (entries_of caller calls.events)) is (subst (λ (p : Part). RunsFrom (board t) p.entries) calls.is adds.runs) in
@@ -212,7 +212,7 @@ queued_next (suc (suc zero)) few = refl
 queued_next (suc (suc (suc zero))) few = refl
 queued_next (suc (suc (suc (suc n)))) few = absurd (omega (arith, few))
 
-lines_next : (n : ℕ) → n < 4 → (stock_lines n ++ line.announce 3072 ∷ []) ++ line.queue n 1 ∷ [] ≡ stock_lines (n + 1)
+lines_next : (n : ℕ) → n < 4 → (stock_lines n ++ line.announce SOAK_BUFFER_SIZE ∷ []) ++ line.queue n 1 ∷ [] ≡ stock_lines (n + 1)
 lines_next zero few = refl
 lines_next (suc zero) few = refl
 lines_next (suc (suc zero)) few = refl
@@ -222,7 +222,7 @@ lines_next (suc (suc (suc (suc n)))) few = absurd (omega (arith, few))
 pub queued_one : (n : ℕ) (old new : Running) (said : List ℕ) → n < 4 → IsAnnounced n old → Goes (line.queue n 1) old said new → new.tree ≡ old.tree → new.mode ≡ old.mode → IsStocked (n + 1) new
 queued_one n old new said few was goes same same_mode =
     subst (λ (lines : List ScriptLine). IsBeginning lines (stocked (n + 1)) new) (lines_next n few)
-    (begun_on (line.queue n 1) (stock_lines n ++ line.announce 3072 ∷ []) (announced n) (stocked (n + 1)) old new said was goes same same_mode adds_one)
+    (begun_on (line.queue n 1) (stock_lines n ++ line.announce SOAK_BUFFER_SIZE ∷ []) (announced n) (stocked (n + 1)) old new said was goes same same_mode adds_one)
   where
     adds_one : (t : Trace) (part : Part) → board t ≡ announced n → AddsPart soak_config t (line.queue n 1) part → TellsNothing (stocked (n + 1)) t part
     adds_one t part is adds =

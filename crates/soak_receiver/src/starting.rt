@@ -16,8 +16,7 @@ const BUFFERS: u8 = 4;
 /// The size of each, in bytes: an image of 64 columns and 48 lines of Mono8.
 const BUFFER_SIZE: u64 = 3072;
 
-/// Payloads of 1452 bytes, two open blocks, a timeout of 200 ms, requests after 20 ms, and three rounds of
-/// them.
+/// How the receiver of a soak run is set: `p` in bytes, `timeout` and `age` in milliseconds.
 fn config() -> AcqConfig
     ensures { result ≡ soak_config }
 {
@@ -32,7 +31,7 @@ fn config() -> AcqConfig
 
 /// Announces a buffer at the first vacant place.
 fn announce_buffer(alloc: Global, running: &mut Running, place: u8) -> Result<(), NoMemory>
-    requires few { place < 4 }
+    requires few { place < BUFFERS }
     requires stocked { IsStocked place running.old }
     ensures { OnOk result (IsAnnounced place running.new) }
 {
@@ -42,7 +41,7 @@ fn announce_buffer(alloc: Global, running: &mut Running, place: u8) -> Result<()
 
 /// Queues the buffer that was announced.
 fn queue_announced(alloc: Global, running: &mut Running, place: u8) -> Result<(), NoMemory>
-    requires few { place < 4 }
+    requires few { place < BUFFERS }
     requires announced { IsAnnounced place running.old }
     ensures { OnOk result (IsStocked (place + 1) running.new) }
 {
@@ -56,7 +55,7 @@ fn queue_announced(alloc: Global, running: &mut Running, place: u8) -> Result<()
 
 /// Starts the stream.
 fn start_stream(alloc: Global, running: &mut Running) -> Result<(), NoMemory>
-    requires { IsStocked 4 running.old }
+    requires { IsStocked BUFFERS running.old }
     ensures { OnOk result (HasBegun running.new) }
 {
     let mut said = Vec::new(alloc);
