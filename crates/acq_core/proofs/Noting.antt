@@ -12,7 +12,7 @@ use Rattle.acquisition_machine.specs.Machine.{State, open_at}
 use Rattle.acquisition_machine.specs.Sound.{RiseFrom, IsSound}
 use Rattle.acquisition_machine.proofs.Order.{IsFound, Finds, find}
 use Rattle.acq_core.specs.declared.slot.Slot.{Slot}
-use Rattle.acq_core.specs.declared.machine.Machine.{Machine}
+use Rattle.acq_core.specs.declared.window.Window.{Window}
 use Rattle.acq_core.specs.Standing.{SlotStands, IsSlot, AreSlots, Acts, ActsForSome}
 use Rattle.acq_core.specs.Hearing.{need_given, need_in, heard_as, heard_in}
 use Rattle.acq_core.specs.Turning.{with_heard}
@@ -22,22 +22,22 @@ found_block : (b low : ℕ) (os : List Open) (o : Open) → RiseFrom low os → 
 found_block b low os o r is = let f : IsFound b os o = subst (λ x. Finds b os x) is (find b low os r) in f.of_block
 
 -- where the block with this id stands
-here : (m : Machine) (s : State) (b at : ℕ) → Acts m s → IsSound m.config s → position (λ y. y.block == b) m.slots.items ≡ Some at → IsAt m.config.p b at m.slots.items s.opens
+here : (m : Window) (s : State) (b at : ℕ) → Acts m s → IsSound m.config s → position (λ y. y.block == b) m.slots.items ≡ Some at → IsAt m.config.p b at m.slots.items s.opens
 here m s b at acts sound is = at_found m.config.p b s.floor at m.slots.items s.opens acts.slots sound.rise is
 
-pub slot_at : (m : Machine) (b at : ℕ) (x : Slot) → ActsForSome m → position (λ y. y.block == b) m.slots.items ≡ Some at → x ≡ get_or m.slots.items at x → IsSlot m.config.p x
+pub slot_at : (m : Window) (b at : ℕ) (x : Slot) → ActsForSome m → position (λ y. y.block == b) m.slots.items ≡ Some at → x ≡ get_or m.slots.items at x → IsSlot m.config.p x
 slot_at m b at x some is e =
     let a = here m some.state b at some.acts some.sound is in
     record { block = a.block; stands = subst (λ y. SlotStands m.config.p y a.block) (sym e) (a.slot x) }
 
-pub slot_block : (m : Machine) (b at : ℕ) (x : Slot) → ActsForSome m → position (λ y. y.block == b) m.slots.items ≡ Some at → x ≡ get_or m.slots.items at x → b ≡ x.block
+pub slot_block : (m : Window) (b at : ℕ) (x : Slot) → ActsForSome m → position (λ y. y.block == b) m.slots.items ≡ Some at → x ≡ get_or m.slots.items at x → b ≡ x.block
 slot_block m b at x some is e =
     let a = here m some.state b at some.acts some.sound is in
     let stands : SlotStands m.config.p x a.block = subst (λ y. SlotStands m.config.p y a.block) (sym e) (a.slot x) in
     sym (found_block b some.state.floor some.state.opens a.block some.sound.rise a.is) ∙ sym stands.block
 
 -- the slot there stands for the open block
-pub stands_at : (m : Machine) (s : State) (b at : ℕ) (x : Slot) (o : Open) → Acts m s → IsSound m.config s → position (λ y. y.block == b) m.slots.items ≡ Some at → x ≡ get_or m.slots.items at x → open_at b s.opens ≡ Some o → SlotStands m.config.p x o
+pub stands_at : (m : Window) (s : State) (b at : ℕ) (x : Slot) (o : Open) → Acts m s → IsSound m.config s → position (λ y. y.block == b) m.slots.items ≡ Some at → x ≡ get_or m.slots.items at x → open_at b s.opens ≡ Some o → SlotStands m.config.p x o
 stands_at m s b at x o acts sound is e there =
     let a = here m s b at acts sound is in
     let same : a.block ≡ o = cc in
@@ -48,7 +48,7 @@ block-heard now o x (Buffer b) = refl
 block-heard now o x Done = refl
 block-heard now o x (Ignored why) = refl
 
-pub acts_noted : (m : Machine) (s : State) (x : StreamPacket) (at : ℕ) (y : Slot) (o : Open) → Acts m s → IsSound m.config s → position (λ z. z.block == (head_of x).block) m.slots.items ≡ Some at → open_at (head_of x).block s.opens ≡ Some o
+pub acts_noted : (m : Window) (s : State) (x : StreamPacket) (at : ℕ) (y : Slot) (o : Open) → Acts m s → IsSound m.config s → position (λ z. z.block == (head_of x).block) m.slots.items ≡ Some at → open_at (head_of x).block s.opens ≡ Some o
     → SlotStands m.config.p y (heard_in m.moment m.config.p o x)
     → Acts (record m { slots = with_item m.slots at y }) (with_heard m.config.p x o s)
 acts_noted m s x at y o acts sound is found stands =
@@ -67,7 +67,7 @@ acts_noted m s x at y o acts sound is found stands =
     }
 
 -- there are slots still, and the answer wants no buffer
-pub slots_noted : (m : Machine) (x : StreamPacket) (at : ℕ) (z y : Slot) → ActsForSome m → position (λ k. k.block == (head_of x).block) m.slots.items ≡ Some at → z ≡ get_or m.slots.items at z
+pub slots_noted : (m : Window) (x : StreamPacket) (at : ℕ) (z y : Slot) → ActsForSome m → position (λ k. k.block == (head_of x).block) m.slots.items ≡ Some at → z ≡ get_or m.slots.items at z
     → ((o : Open) → SlotStands m.config.p z o → SlotStands m.config.p y (heard_in m.moment m.config.p o x)) → AreSlots (record m { slots = with_item m.slots at y })
 slots_noted m x at z y some is e f =
     let a = here m some.state (head_of x).block at some.acts some.sound is in
@@ -90,7 +90,7 @@ never_given : (p : ℕ) (o : Open) (given : Option Given) (x : StreamPacket) (b 
 never_given p o None x b e = never_without p x b (is_notice x) (not (fits p x)) e
 never_given p o (Some g) x b e = never_with b (is_notice x) (not (fits p x)) (is_new p o x) e
 
-pub never_buffer : (m : Machine) (x : StreamPacket) (at : ℕ) (z : Slot) (need : Need) (b : ℕ) → ActsForSome m → position (λ k. k.block == (head_of x).block) m.slots.items ≡ Some at → z ≡ get_or m.slots.items at z
+pub never_buffer : (m : Window) (x : StreamPacket) (at : ℕ) (z : Slot) (need : Need) (b : ℕ) → ActsForSome m → position (λ k. k.block == (head_of x).block) m.slots.items ≡ Some at → z ≡ get_or m.slots.items at z
     → ((o : Open) → SlotStands m.config.p z o → need ≡ need_in m.config.p o x) → need ≡ Buffer b → ⊥
 never_buffer m x at z need b some is e f n =
     let a = here m some.state (head_of x).block at some.acts some.sound is in

@@ -10,7 +10,7 @@ use Rattle.acquisition_machine.specs.Blocks.{Given, Open, opened}
 use Rattle.acquisition_machine.specs.Machine.{State, put, unasked, quiet, count_given, opens_block, claimed, step}
 use Rattle.acquisition_machine.specs.Sound.{AreOthers, IsSound, MayOpen}
 use Rattle.acq_core.specs.declared.slot.Slot.{Slot}
-use Rattle.acq_core.specs.declared.machine.Machine.{Machine}
+use Rattle.acq_core.specs.declared.window.Window.{Window}
 use Rattle.acq_core.specs.Standing.{SlotStands, SlotsStand, Acts, ActsForSome, HasRoom, floor_of, capped}
 use Rattle.acq_core.specs.Turning.{Gives}
 use Rattle.acq_core.proofs.Acting.{append_nil}
@@ -52,24 +52,24 @@ inserted p y o (x ∷ xs) (n ∷ os) s t a =
 
 -- ---- the turn
 
-may_open : (m : Machine) (s : State) (b : ℕ) → Acts m s → IsSound m.config s → m.asked ≡ Some b → MayOpen m.config s b
+may_open : (m : Window) (s : State) (b : ℕ) → Acts m s → IsSound m.config s → m.asked ≡ Some b → MayOpen m.config s b
 may_open m s b acts sound asked = sound.claim b (sym acts.asked ∙ asked)
 
 -- bitmaps are left for one more block
-pub some_spare : (m : Machine) (b : ℕ) → ActsForSome m → HasRoom m → m.asked ≡ Some b → 0 < vec_len m.spare
+pub some_spare : (m : Window) (b : ℕ) → ActsForSome m → HasRoom m → m.asked ≡ Some b → 0 < vec_len m.spare
 some_spare m b some room asked =
     let free = (may_open m some.state b some.acts some.sound asked).room in
     let count = count-opens m some.state some.acts in
     let pairs = room.pairs in
     omega (arith, free, count, pairs)
 
-pub opens_gives : (m n : Machine) (s : State) (b at : ℕ) (y : Slot) (given : Option Given) → n ≡ record m { asked = None; slots = n.slots; counts = n.counts; spare = n.spare } → Acts m s → IsSound m.config s → m.asked ≡ Some b
+pub opens_gives : (m n : Window) (s : State) (b at : ℕ) (y : Slot) (given : Option Given) → n ≡ record m { asked = None; slots = n.slots; counts = n.counts; spare = n.spare } → Acts m s → IsSound m.config s → m.asked ≡ Some b
     → at ≡ prefix_len (λ x. not (nat_lt b x.block)) m.slots.items → n.slots.items ≡ insert m.slots.items at y → SlotStands m.config.p y (opened b given m.moment)
     → ((k : Counts) → m.counts ≡ capped k → n.counts ≡ capped (count_given given k))
     → Gives m n (step m.config s (claimed given))
 opens_gives m n s b at y given rest acts sound asked place items stands counted =
     let is : s.asked ≡ Some b = sym acts.asked ∙ asked in
-    let config : n.config ≡ m.config = ap (λ (k : Machine). k.config) rest in
+    let config : n.config ≡ m.config = ap (λ (k : Window). k.config) rest in
     let p : ℕ = m.config.p in
     let open_now : SlotStands p y (opened b given s.now) = subst (λ now. SlotStands p y (opened b given now)) acts.moment stands in
     let put_in : SlotsStand p (insert m.slots.items (prefix_len (λ (x : Slot). not (nat_lt b x.block)) m.slots.items) y) (put (opened b given s.now) s.opens) =
@@ -79,16 +79,16 @@ opens_gives m n s b at y given rest acts sound asked place items stands counted 
     subst (λ k. Gives m n (quiet (opens_block given k (unasked s)))) (sym is)
     (record {
       acts = record {
-        moment = ap (λ (k : Machine). k.moment) rest ∙ acts.moment;
-        floor = ap (λ (k : Machine). floor_of k.floor) rest ∙ acts.floor;
+        moment = ap (λ (k : Window). k.moment) rest ∙ acts.moment;
+        floor = ap (λ (k : Window). floor_of k.floor) rest ∙ acts.floor;
         slots = subst (λ (k : AcqConfig). SlotsStand k.p n.slots.items (put (opened b given s.now) s.opens)) (sym config) there;
-        asked = ap (λ (k : Machine). k.asked) rest;
+        asked = ap (λ (k : Window). k.asked) rest;
         counts = counted s.counts acts.counts;
-        number = ap (λ (k : Machine). k.number) rest ∙ acts.number;
+        number = ap (λ (k : Window). k.number) rest ∙ acts.number;
       };
-      fills = ap (λ (k : Machine). k.fills.items) rest ∙ sym (append_nil m.fills.items);
-      ends = ap (λ (k : Machine). k.ends.items) rest ∙ sym (append_nil m.ends.items);
-      telling = ap (λ (k : Machine). k.telling) rest;
-      requests = ap (λ (k : Machine). k.requests.items) rest ∙ sym (append_nil m.requests.items);
+      fills = ap (λ (k : Window). k.fills.items) rest ∙ sym (append_nil m.fills.items);
+      ends = ap (λ (k : Window). k.ends.items) rest ∙ sym (append_nil m.ends.items);
+      telling = ap (λ (k : Window). k.telling) rest;
+      requests = ap (λ (k : Window). k.requests.items) rest ∙ sym (append_nil m.requests.items);
       config = config;
     })

@@ -24,7 +24,7 @@ use Rattle.acq_core.specs.declared.asked.Asked.{Asked}
 use Rattle.acq_core.specs.declared.slot.Slot.{Slot}
 use Rattle.acq_core.specs.declared.slot.Hold.{Hold}
 use Rattle.acq_core.specs.declared.slot.Hold.TheVariants.{Without, With}
-use Rattle.acq_core.specs.declared.machine.Machine.{Machine}
+use Rattle.acq_core.specs.declared.window.Window.{Window}
 use Rattle.acq_core.specs.Standing.{HoldsFor, SlotsStand, Acts, HasRoom, HasPlace, asked_of, floor_of}
 use Rattle.acq_core.specs.Turning.{Gives, Answers}
 use Rattle.acq_core.specs.Ending.{ends_of}
@@ -48,10 +48,10 @@ given_held p (x ∷ xs) [] s = absurd s
 given_held p (x ∷ xs) (o ∷ os) s =
     ap (λ g. with_given g (given_to xs)) (hold_given p o.block x.hold o.given o.heard s.0.hold) ∙ ap (with_given o.given) (given_held p xs os s.1)
 
-pub buffers_held : (m : Machine) (s : State) → Acts m s → buffers m ≡ held s.opens
+pub buffers_held : (m : Window) (s : State) → Acts m s → buffers m ≡ held s.opens
 buffers_held m s acts = given_held m.config.p m.slots.items s.opens acts.slots
 
-pub opens_count : (m : Machine) (s : State) → Acts m s → open_count m ≡ length s.opens
+pub opens_count : (m : Window) (s : State) → Acts m s → open_count m ≡ length s.opens
 opens_count m s acts = length-stand m.config.p m.slots.items s.opens acts.slots
 
 pub receivers_show : ReceiversShowTheirInputs
@@ -119,7 +119,7 @@ turn_room c s i some sound =
     let room = room_changed c s sound d.changed in
     omega (arith, few, both, parts, same, room)
 
-pub place_drained : (m n : Machine) (s : State) (i : Input) → 1 ≤ m.config.window → IsSound m.config s → waiting_fills m ≡ [] → Gives m n (step m.config s i) → HasPlace n
+pub place_drained : (m n : Window) (s : State) (i : Input) → 1 ≤ m.config.window → IsSound m.config s → waiting_fills m ≡ [] → Gives m n (step m.config s i) → HasPlace n
 place_drained m n s i some sound drained g =
     let room = turn_room m.config s i some sound in
     let fill = ap length (g.fills ∙ ap (λ l. l ++ fills m.config.p (step m.config s i).retired) drained) in
@@ -131,7 +131,7 @@ place_drained m n s i some sound drained g =
 
 -- ---- one more input
 
-pub receiver_after : (m n : Machine) (s : State) (i : Input) → IsReceiver m → Acts m s → IsSound m.config s → Gives m n (step m.config s i) → HasRoom n → ((b : ℕ) → n.asked ≡ Some b → HasPlace n) → IsReceiver n
+pub receiver_after : (m n : Window) (s : State) (i : Input) → IsReceiver m → Acts m s → IsSound m.config s → Gives m n (step m.config s i) → HasRoom n → ((b : ℕ) → n.asked ≡ Some b → HasPlace n) → IsReceiver n
 receiver_after m n s i is acts sound g room place = record {
   acts = record {
     state = (step m.config s i).after;
@@ -145,7 +145,7 @@ receiver_after m n s i is acts sound g room place = record {
   place = place;
 }
 
-pub receiver_drained : (m n : Machine) (i : Input) → IsReceiver m → waiting_fills m ≡ [] → ((s : State) → Acts m s → IsSound m.config s → Gives m n (step m.config s i)) → HasRoom n → IsReceiver n
+pub receiver_drained : (m n : Window) (i : Input) → IsReceiver m → waiting_fills m ≡ [] → ((s : State) → Acts m s → IsSound m.config s → Gives m n (step m.config s i)) → HasRoom n → IsReceiver n
 receiver_drained m n i is drained f room =
     let s : State = is.acts.state in
     let g = f s is.acts.acts is.acts.sound in
@@ -153,22 +153,22 @@ receiver_drained m n i is drained f room =
     (λ b e. place_drained m n s i is.room.config.window_some is.acts.sound drained g)
 
 -- no claim is awaited after it
-pub receiver_unasked : (m n : Machine) (i : Input) → IsReceiver m → ((s : State) → Acts m s → IsSound m.config s → Gives m n (step m.config s i)) → HasRoom n → n.asked ≡ None → IsReceiver n
+pub receiver_unasked : (m n : Window) (i : Input) → IsReceiver m → ((s : State) → Acts m s → IsSound m.config s → Gives m n (step m.config s i)) → HasRoom n → n.asked ≡ None → IsReceiver n
 receiver_unasked m n i is f room none =
     receiver_after m n is.acts.state i is is.acts.acts is.acts.sound (f is.acts.state is.acts.acts is.acts.sound) room (λ b e. absurd cc)
 
-stands_after : (m n : Machine) (q : List Input) (i : Input) → Gives m n (turn m.config q i) → Stands n (q ++ i ∷ [])
+stands_after : (m n : Window) (q : List Input) (i : Input) → Gives m n (turn m.config q i) → Stands n (q ++ i ∷ [])
 stands_after m n q i g =
     subst (λ s. Acts n s) (sym (after_from-append n.config first_state q (i ∷ [])))
     (subst (λ (c : AcqConfig). Acts n (turn c q i).after) (sym g.config) g.acts)
 
 -- nothing that was told before waits
-ends_alone : (m n : Machine) (s : State) (i : Input) → waiting_ends m ≡ [] → Acts m s → Gives m n (step m.config s i) → waiting_ends n ≡ ends_of m.telling m.config.p s.floor (step m.config s i).retired
+ends_alone : (m n : Window) (s : State) (i : Input) → waiting_ends m ≡ [] → Acts m s → Gives m n (step m.config s i) → waiting_ends n ≡ ends_of m.telling m.config.p s.floor (step m.config s i).retired
 ends_alone m n s i none acts g =
     g.ends ∙ ap (λ l. l ++ ends_of m.telling m.config.p (floor_of m.floor) (step m.config s i).retired) none
     ∙ ap (λ k. ends_of m.telling m.config.p k (step m.config s i).retired) acts.floor
 
-pub takes : (m n : Machine) (i : Input) → IsReceiver m → waiting_ends m ≡ [] → ((s : State) → Acts m s → IsSound m.config s → Gives m n (step m.config s i)) → Takes m n i
+pub takes : (m n : Window) (i : Input) → IsReceiver m → waiting_ends m ≡ [] → ((s : State) → Acts m s → IsSound m.config s → Gives m n (step m.config s i)) → Takes m n i
 takes m n i is none f =
     let some : 1 ≤ m.config.window = is.room.config.window_some in
     record {
@@ -185,7 +185,7 @@ takes m n i is none f =
 
 -- ---- buffers
 
-kept_each : (m n : Machine) (s : State) (t : Turn) → Acts m s → Gives m n t → GivesBack m.config.p s.opens t → KeepsBuffers m n
+kept_each : (m n : Window) (s : State) (t : Turn) → Acts m s → Gives m n t → GivesBack m.config.p s.opens t → KeepsBuffers m n
 kept_each m n s t acts g back =
     let were_there : List Given = map given_of m.fills.items in
     let back_now : List Retired = fills m.config.p t.retired in
@@ -195,25 +195,25 @@ kept_each m n s t acts g back =
     ∙ ap (λ l. were_there ++ (map given_of back_now ++ l)) (buffers_held n t.after g.acts)
     ∙ ap (λ l. were_there ++ l) (back ∙ sym (buffers_held m s acts))
 
-pub keeps_datagram : (m n : Machine) (bytes : List ℕ) → IsReceiver m → ((s : State) → Acts m s → IsSound m.config s → Gives m n (step m.config s (datagram bytes))) → KeepsBuffers m n
+pub keeps_datagram : (m n : Window) (bytes : List ℕ) → IsReceiver m → ((s : State) → Acts m s → IsSound m.config s → Gives m n (step m.config s (datagram bytes))) → KeepsBuffers m n
 keeps_datagram m n bytes is f =
     let s : State = is.acts.state in
     kept_each m n s (step m.config s (datagram bytes)) is.acts.acts (f s is.acts.acts is.acts.sound)
     (keeps_buffers m.config s (datagram bytes) is.room.config.window_some is.acts.sound)
 
-pub keeps_tick : (m n : Machine) (moment : ℕ) → IsReceiver m → ((s : State) → Acts m s → IsSound m.config s → Gives m n (step m.config s (tick moment))) → KeepsBuffers m n
+pub keeps_tick : (m n : Window) (moment : ℕ) → IsReceiver m → ((s : State) → Acts m s → IsSound m.config s → Gives m n (step m.config s (tick moment))) → KeepsBuffers m n
 keeps_tick m n moment is f =
     let s : State = is.acts.state in
     kept_each m n s (step m.config s (tick moment)) is.acts.acts (f s is.acts.acts is.acts.sound)
     (keeps_buffers m.config s (tick moment) is.room.config.window_some is.acts.sound)
 
-pub keeps_stop : (m n : Machine) → IsReceiver m → ((s : State) → Acts m s → IsSound m.config s → Gives m n (step m.config s stop)) → KeepsBuffers m n
+pub keeps_stop : (m n : Window) → IsReceiver m → ((s : State) → Acts m s → IsSound m.config s → Gives m n (step m.config s stop)) → KeepsBuffers m n
 keeps_stop m n is f =
     let s : State = is.acts.state in
     kept_each m n s (step m.config s stop) is.acts.acts (f s is.acts.acts is.acts.sound)
     (keeps_buffers m.config s stop is.room.config.window_some is.acts.sound)
 
-pub takes_given : (m n : Machine) (given : Option Given) → IsReceiver m → ((s : State) → Acts m s → IsSound m.config s → Gives m n (step m.config s (claimed given))) → TakesGiven given m.asked (buffers m) (buffers n)
+pub takes_given : (m n : Window) (given : Option Given) → IsReceiver m → ((s : State) → Acts m s → IsSound m.config s → Gives m n (step m.config s (claimed given))) → TakesGiven given m.asked (buffers m) (buffers n)
 takes_given m n given is f =
     let s : State = is.acts.state in
     let t : Turn = step m.config s (claimed given) in
@@ -224,18 +224,18 @@ takes_given m n given is f =
     (keeps_buffers m.config s (claimed given) is.room.config.window_some is.acts.sound).1))
 
 -- the block for which a buffer is asked
-pub asked_then : (m n : Machine) (i : Input) (answer : Option Need) → IsReceiver m → ((s : State) → Acts m s → IsSound m.config s → Gives m n (step m.config s i)) → ((s : State) → Acts m s → IsSound m.config s → (step m.config s i).need ≡ answer) → n.asked ≡ asked_by answer
+pub asked_then : (m n : Window) (i : Input) (answer : Option Need) → IsReceiver m → ((s : State) → Acts m s → IsSound m.config s → Gives m n (step m.config s i)) → ((s : State) → Acts m s → IsSound m.config s → (step m.config s i).need ≡ answer) → n.asked ≡ asked_by answer
 asked_then m n i answer is f need =
     let s : State = is.acts.state in
     (f s is.acts.acts is.acts.sound).acts.asked ∙ claims_follow_buffer m.config s i ∙ ap asked_by (need s is.acts.acts is.acts.sound)
 
 -- ---- a datagram
 
-pub answered : (m n : Machine) (answer : Need) (bytes : List ℕ) → IsReceiver m → ((s : State) → Acts m s → IsSound m.config s → Answers m n answer (step m.config s (datagram bytes))) → (q : List Input) → Stands m q → (turn m.config q (datagram bytes)).need ≡ Some answer
+pub answered : (m n : Window) (answer : Need) (bytes : List ℕ) → IsReceiver m → ((s : State) → Acts m s → IsSound m.config s → Answers m n answer (step m.config s (datagram bytes))) → (q : List Input) → Stands m q → (turn m.config q (datagram bytes)).need ≡ Some answer
 answered m n answer bytes is f q s = (f (After m.config q) s (blocks_are_in_order m.config q is.room.config.window_some)).need
 
 -- it makes no request
-pub requests_same : (m n : Machine) (bytes : List ℕ) → IsReceiver m → ((s : State) → Acts m s → IsSound m.config s → Gives m n (step m.config s (datagram bytes))) → waiting_requests m ≡ [] → waiting_requests n ≡ []
+pub requests_same : (m n : Window) (bytes : List ℕ) → IsReceiver m → ((s : State) → Acts m s → IsSound m.config s → Gives m n (step m.config s (datagram bytes))) → waiting_requests m ≡ [] → waiting_requests n ≡ []
 requests_same m n bytes is f none =
     let s : State = is.acts.state in
     requests_added m.requests.items n.requests.items (step m.config s (datagram bytes)).requests (f s is.acts.acts is.acts.sound).requests
@@ -248,23 +248,23 @@ no_opens : (os : List Open) → length os ≡ 0 → os ≡ []
 no_opens [] e = refl
 no_opens (o ∷ os) e = absurd (omega arith)
 
-pub none_after : (m n : Machine) (s : State) → Acts n s → s.opens ≡ [] → (buffers n ≡ []) × (open_count n ≡ 0)
+pub none_after : (m n : Window) (s : State) → Acts n s → s.opens ≡ [] → (buffers n ≡ []) × (open_count n ≡ 0)
 none_after m n s acts none = (buffers_held n s acts ∙ ap held none, opens_count n s acts ∙ ap length none)
 
-pub none_restarted : (m n : Machine) → IsReceiver m → open_count m ≡ 0 → ((s : State) → Acts m s → IsSound m.config s → Gives m n (step m.config s restart)) → (buffers n ≡ []) × (open_count n ≡ 0)
+pub none_restarted : (m n : Window) → IsReceiver m → open_count m ≡ 0 → ((s : State) → Acts m s → IsSound m.config s → Gives m n (step m.config s restart)) → (buffers n ≡ []) × (open_count n ≡ 0)
 none_restarted m n is none f =
     let s : State = is.acts.state in
     none_after m n (step m.config s restart).after (f s is.acts.acts is.acts.sound).acts
     (no_opens s.opens (sym (opens_count m s is.acts.acts) ∙ none))
 
-pub none_stopped : (m n : Machine) → IsReceiver m → ((s : State) → Acts m s → IsSound m.config s → Gives m n (step m.config s stop)) → (buffers n ≡ []) × (open_count n ≡ 0)
+pub none_stopped : (m n : Window) → IsReceiver m → ((s : State) → Acts m s → IsSound m.config s → Gives m n (step m.config s stop)) → (buffers n ≡ []) × (open_count n ≡ 0)
 none_stopped m n is f =
     let s : State = is.acts.state in
     none_after m n (step m.config s stop).after (f s is.acts.acts is.acts.sound).acts refl
 
 -- ---- what waits is taken
 
-pub fill_taken : (m n : Machine) → IsReceiver m → n ≡ record m { fills = n.fills } → vec_len n.fills ≤ vec_len m.fills → vec_capacity n.fills ≡ vec_capacity m.fills → IsReceiver n
+pub fill_taken : (m n : Window) → IsReceiver m → n ≡ record m { fills = n.fills } → vec_len n.fills ≤ vec_len m.fills → vec_capacity n.fills ≡ vec_capacity m.fills → IsReceiver n
 fill_taken m n is rest fewer capacity =
     let before = is.room.fills in
     let all = is.room.fills_all in
@@ -286,7 +286,7 @@ fill_taken m n is rest fewer capacity =
       place = λ b e. let place = is.place b e in omega (arith, place, fewer);
     })
 
-pub request_taken : (m n : Machine) → IsReceiver m → n ≡ record m { requests = n.requests } → AreNumbered n → vec_capacity n.requests ≡ vec_capacity m.requests → IsReceiver n
+pub request_taken : (m n : Window) → IsReceiver m → n ≡ record m { requests = n.requests } → AreNumbered n → vec_capacity n.requests ≡ vec_capacity m.requests → IsReceiver n
 request_taken m n is rest numbered capacity =
     let all = is.room.requests in
     subst IsReceiver (sym rest) (record {
@@ -308,7 +308,7 @@ request_taken m n is rest numbered capacity =
     })
 
 -- of what is told
-pub ends_taken : (m n : Machine) → IsReceiver m → n ≡ record m { ends = n.ends } → vec_len n.ends ≤ vec_len m.ends → vec_capacity n.ends ≡ vec_capacity m.ends → IsReceiver n
+pub ends_taken : (m n : Window) → IsReceiver m → n ≡ record m { ends = n.ends } → vec_len n.ends ≤ vec_len m.ends → vec_capacity n.ends ≡ vec_capacity m.ends → IsReceiver n
 ends_taken m n is rest fewer capacity =
     let before = is.room.ends in
     let all = is.room.ends_all in
@@ -331,7 +331,7 @@ ends_taken m n is rest fewer capacity =
     })
 
 -- they are told from now on
-pub receiver_telling : (m n : Machine) → IsReceiver m → n ≡ record m { telling = n.telling } → IsReceiver n
+pub receiver_telling : (m n : Window) → IsReceiver m → n ≡ record m { telling = n.telling } → IsReceiver n
 receiver_telling m n is rest =
     subst IsReceiver (sym rest) (record {
       acts = record { state = is.acts.state; acts = record { moment = is.acts.acts.moment; floor = is.acts.acts.floor; slots = is.acts.acts.slots; asked = is.acts.acts.asked; counts = is.acts.acts.counts; number = is.acts.acts.number }; sound = is.acts.sound };
@@ -353,16 +353,16 @@ receiver_telling m n is rest =
 
 -- ---- what was told before an input is forgotten
 
-other_ends : (m : Machine) (n : Machine) (s : State) → Acts m s → Acts (record m { ends = n.ends }) s
+other_ends : (m : Window) (n : Window) (s : State) → Acts m s → Acts (record m { ends = n.ends }) s
 other_ends m n s acts = record { moment = acts.moment; floor = acts.floor; slots = acts.slots; asked = acts.asked; counts = acts.counts; number = acts.number }
 
-pub acts_forgotten : (m mid : Machine) (s : State) → mid ≡ record m { ends = mid.ends } → Acts m s → Acts mid s
-acts_forgotten m mid s rest acts = subst (λ (k : Machine). Acts k s) (sym rest) (other_ends m mid s acts)
+pub acts_forgotten : (m mid : Window) (s : State) → mid ≡ record m { ends = mid.ends } → Acts m s → Acts mid s
+acts_forgotten m mid s rest acts = subst (λ (k : Window). Acts k s) (sym rest) (other_ends m mid s acts)
 
-pub forgotten : (m mid : Machine) → IsReceiver m → mid ≡ record m { ends = mid.ends } → vec_len mid.ends ≡ 0 → vec_capacity mid.ends ≡ vec_capacity m.ends → IsReceiver mid
+pub forgotten : (m mid : Window) → IsReceiver m → mid ≡ record m { ends = mid.ends } → vec_len mid.ends ≡ 0 → vec_capacity mid.ends ≡ vec_capacity m.ends → IsReceiver mid
 forgotten m mid is rest none capacity = ends_taken m mid is rest (omega arith) capacity
 
-takes_kept : (m mid n : Machine) (i : Input) → Takes (record m { ends = mid.ends }) n i → Takes m n i
+takes_kept : (m mid n : Window) (i : Input) → Takes (record m { ends = mid.ends }) n i → Takes m n i
 takes_kept m mid n i t = record {
   stands = λ q s. t.stands q (other_ends m mid (After m.config q) s);
   fills = λ q s. t.fills q (other_ends m mid (After m.config q) s);
@@ -375,20 +375,20 @@ takes_kept m mid n i t = record {
   telling = t.telling;
 }
 
-pub takes_forgotten : (m mid n : Machine) (i : Input) → mid ≡ record m { ends = mid.ends } → Takes mid n i → Takes m n i
-takes_forgotten m mid n i rest t = takes_kept m mid n i (subst (λ (k : Machine). Takes k n i) rest t)
+pub takes_forgotten : (m mid n : Window) (i : Input) → mid ≡ record m { ends = mid.ends } → Takes mid n i → Takes m n i
+takes_forgotten m mid n i rest t = takes_kept m mid n i (subst (λ (k : Window). Takes k n i) rest t)
 
-pub keeps_forgotten : (m mid n : Machine) → mid ≡ record m { ends = mid.ends } → KeepsBuffers mid n → KeepsBuffers m n
-keeps_forgotten m mid n rest k = subst (λ (a : Machine). KeepsBuffers a n) rest k
+pub keeps_forgotten : (m mid n : Window) → mid ≡ record m { ends = mid.ends } → KeepsBuffers mid n → KeepsBuffers m n
+keeps_forgotten m mid n rest k = subst (λ (a : Window). KeepsBuffers a n) rest k
 
-pub given_forgotten : (m mid n : Machine) (given : Option Given) → mid ≡ record m { ends = mid.ends } → TakesGiven given mid.asked (buffers mid) (buffers n) → TakesGiven given m.asked (buffers m) (buffers n)
-given_forgotten m mid n given rest t = subst (λ (a : Machine). TakesGiven given a.asked (buffers a) (buffers n)) rest t
+pub given_forgotten : (m mid n : Window) (given : Option Given) → mid ≡ record m { ends = mid.ends } → TakesGiven given mid.asked (buffers mid) (buffers n) → TakesGiven given m.asked (buffers m) (buffers n)
+given_forgotten m mid n given rest t = subst (λ (a : Window). TakesGiven given a.asked (buffers a) (buffers n)) rest t
 
-answered_kept : (m mid : Machine) (answer : Need) (bytes : List ℕ) → ((q : List Input) → Stands (record m { ends = mid.ends }) q → (turn m.config q (datagram bytes)).need ≡ Some answer)
+answered_kept : (m mid : Window) (answer : Need) (bytes : List ℕ) → ((q : List Input) → Stands (record m { ends = mid.ends }) q → (turn m.config q (datagram bytes)).need ≡ Some answer)
     → (q : List Input) → Stands m q → (turn m.config q (datagram bytes)).need ≡ Some answer
 answered_kept m mid answer bytes f q s = f q (other_ends m mid (After m.config q) s)
 
-pub answered_forgotten : (m mid : Machine) (answer : Need) (bytes : List ℕ) → mid ≡ record m { ends = mid.ends } → ((q : List Input) → Stands mid q → (turn mid.config q (datagram bytes)).need ≡ Some answer)
+pub answered_forgotten : (m mid : Window) (answer : Need) (bytes : List ℕ) → mid ≡ record m { ends = mid.ends } → ((q : List Input) → Stands mid q → (turn mid.config q (datagram bytes)).need ≡ Some answer)
     → (q : List Input) → Stands m q → (turn m.config q (datagram bytes)).need ≡ Some answer
 answered_forgotten m mid answer bytes rest f =
-    answered_kept m mid answer bytes (subst (λ (a : Machine). (q : List Input) → Stands a q → (turn a.config q (datagram bytes)).need ≡ Some answer) rest f)
+    answered_kept m mid answer bytes (subst (λ (a : Window). (q : List Input) → Stands a q → (turn a.config q (datagram bytes)).need ≡ Some answer) rest f)

@@ -7,7 +7,7 @@ use Rattle.acquisition_machine.specs.Blocks.{Open, ranges_asked, after_round}
 use Rattle.acquisition_machine.specs.Machine.{number_after, requests_for, requests_of, number_past, after_rounds}
 use Rattle.acq_core.specs.declared.asked.Asked.{Asked}
 use Rattle.acq_core.specs.declared.slot.Slot.{Slot}
-use Rattle.acq_core.specs.declared.machine.Machine.{Machine}
+use Rattle.acq_core.specs.declared.window.Window.{Window}
 use Rattle.acq_core.specs.Standing.{SlotStands, SlotsStand, IsSlot, AreSlots, HasRoom, asked_of}
 use Rattle.acq_core.specs.Rounds.{AsksAll}
 
@@ -38,20 +38,20 @@ next_at p c now (suc n) (x ∷ xs) (o ∷ os) s l =
     record { block = later.block; left = later.left; slot = later.slot; after = λ y t. (s.0, later.after y t) }
 
 -- how far the rounds have come
-pub record AsksTo (first last : Machine) (at : ℕ) (os : List Open) : Type 0 where
+pub record AsksTo (first last : Window) (at : ℕ) (os : List Open) : Type 0 where
   pub slots : SlotsStand first.config.p last.slots.items (partly first.config first.moment at os)
   pub requests : last.requests.items ++ map asked_of (requests_of first.config first.moment last.number (drop at os))
       ≡ first.requests.items ++ map asked_of (requests_of first.config first.moment first.number os)
   pub number : number_past first.config first.moment last.number (drop at os) ≡ number_past first.config first.moment first.number os
 
-pub record RoundsTo (first last : Machine) (at : ℕ) : Type 0 where
+pub record RoundsTo (first last : Window) (at : ℕ) : Type 0 where
   pub part : (os : List Open) → SlotsStand first.config.p first.slots.items os → AsksTo first last at os
   pub rest : last ≡ record first { slots = last.slots; number = last.number; requests = last.requests }
   pub room : HasRoom last
   pub within : at ≤ length last.slots.items
   pub few : vec_len last.requests ≤ 8 * at
 
-pub rounds_none : (m : Machine) → HasRoom m → vec_len m.requests ≡ 0 → RoundsTo m m 0
+pub rounds_none : (m : Window) → HasRoom m → vec_len m.requests ≡ 0 → RoundsTo m m 0
 rounds_none m room none = record {
   part = λ os s. record { slots = s; requests = refl; number = refl };
   rest = refl;
@@ -60,11 +60,11 @@ rounds_none m room none = record {
   few = omega (arith, none);
 }
 
-pub slot_next : (first last : Machine) (at : ℕ) (x : Slot) → AreSlots first → RoundsTo first last at → at < length last.slots.items → x ≡ get_or last.slots.items at x → IsSlot last.config.p x
+pub slot_next : (first last : Window) (at : ℕ) (x : Slot) → AreSlots first → RoundsTo first last at → at < length last.slots.items → x ≡ get_or last.slots.items at x → IsSlot last.config.p x
 slot_next first last at x some r l is =
     let os = some.0 in
     let n = next_at first.config.p first.config first.moment at last.slots.items os (r.part os some.1).slots l in
-    let config : last.config ≡ first.config = ap (λ (m : Machine). m.config) r.rest in
+    let config : last.config ≡ first.config = ap (λ (m : Window). m.config) r.rest in
     record {
       block = n.block;
       stands = subst (λ (k : AcqConfig). SlotStands k.p x n.block) (sym config) (subst (λ y. SlotStands first.config.p y n.block) (sym is) (n.slot x));
@@ -78,7 +78,7 @@ of_more c now n o rest all items more t e is h =
     ∙ ap (λ l. items ++ l) (sym (map-append asked_of (requests_for n o.block (ranges_asked c now o)) (requests_of c now (number_after n (ranges_asked c now o)) rest)))
     ∙ ap (λ l. items ++ map asked_of (requests_of c now n l)) (sym e) ∙ h
 
-asks_one : (first mid last : Machine) (at : ℕ) (x y : Slot) (os : List Open) → AsksTo first mid at os → at < length mid.slots.items → x ≡ get_or mid.slots.items at x → last.slots.items ≡ slice_set mid.slots.items at y
+asks_one : (first mid last : Window) (at : ℕ) (x y : Slot) (os : List Open) → AsksTo first mid at os → at < length mid.slots.items → x ≡ get_or mid.slots.items at x → last.slots.items ≡ slice_set mid.slots.items at y
     → ((o : Open) → SlotStands first.config.p x o → SlotStands first.config.p y (after_round first.config first.moment o))
     → ((o : Open) → SlotStands first.config.p x o → last.requests.items ≡ mid.requests.items ++ map asked_of (requests_for mid.number o.block (ranges_asked first.config first.moment o)))
     → ((o : Open) → SlotStands first.config.p x o → last.number ≡ number_after mid.number (ranges_asked first.config first.moment o))
@@ -98,15 +98,15 @@ asks_one first mid last at x y os a l is items stands made numbers =
       number = ap (λ k. number_past c now k (drop (suc at) os)) number ∙ ap (number_past c now mid.number) (sym n.left) ∙ a.number;
     }
 
-pub rounds_one : (first mid last : Machine) (at : ℕ) (x y : Slot) → RoundsTo first mid at → at < length mid.slots.items → x ≡ get_or mid.slots.items at x → last.slots.items ≡ slice_set mid.slots.items at y
+pub rounds_one : (first mid last : Window) (at : ℕ) (x y : Slot) → RoundsTo first mid at → at < length mid.slots.items → x ≡ get_or mid.slots.items at x → last.slots.items ≡ slice_set mid.slots.items at y
     → last ≡ record mid { slots = last.slots; number = last.number; requests = last.requests }
     → ((o : Open) → SlotStands mid.config.p x o → SlotStands mid.config.p y (after_round mid.config mid.moment o))
     → ((o : Open) → SlotStands mid.config.p x o → last.requests.items ≡ mid.requests.items ++ map asked_of (requests_for mid.number o.block (ranges_asked mid.config mid.moment o)))
     → ((o : Open) → SlotStands mid.config.p x o → last.number ≡ number_after mid.number (ranges_asked mid.config mid.moment o))
     → HasRoom last → at < length last.slots.items → vec_len last.requests ≤ vec_len mid.requests + 8 → RoundsTo first last (at + 1)
 rounds_one first mid last at x y r l is items rest stands made numbers room within few =
-    let config : mid.config ≡ first.config = ap (λ (m : Machine). m.config) r.rest in
-    let moment : mid.moment ≡ first.moment = ap (λ (m : Machine). m.moment) r.rest in
+    let config : mid.config ≡ first.config = ap (λ (m : Window). m.config) r.rest in
+    let moment : mid.moment ≡ first.moment = ap (λ (m : Window). m.moment) r.rest in
     let next : suc at ≡ at + 1 = omega arith in
     let before = r.few in
     record {
@@ -119,7 +119,7 @@ rounds_one first mid last at x y r l is items rest stands made numbers room with
           (subst (λ now. (o : Open) → SlotStands mid.config.p x o → last.requests.items ≡ mid.requests.items ++ map asked_of (requests_for mid.number o.block (ranges_asked mid.config now o))) moment made))
           (subst (λ (c : AcqConfig). (o : Open) → SlotStands c.p x o → last.number ≡ number_after mid.number (ranges_asked c first.moment o)) config
           (subst (λ now. (o : Open) → SlotStands mid.config.p x o → last.number ≡ number_after mid.number (ranges_asked mid.config now o)) moment numbers)));
-      rest = rest ∙ ap (λ (m : Machine). record m { slots = last.slots; number = last.number; requests = last.requests }) r.rest;
+      rest = rest ∙ ap (λ (m : Window). record m { slots = last.slots; number = last.number; requests = last.requests }) r.rest;
       room = room;
       within = omega arith;
       few = omega (arith, before, few);
@@ -140,7 +140,7 @@ append_nil : {X : Type 0} (xs : List X) → xs ++ [] ≡ xs
 append_nil [] = refl
 append_nil (x ∷ xs) = ap (λ l. x ∷ l) (append_nil xs)
 
-pub rounds_end : (first last : Machine) (at : ℕ) → RoundsTo first last at → length last.slots.items ≤ at → (os : List Open) → SlotsStand first.config.p first.slots.items os → AsksAll first last os
+pub rounds_end : (first last : Window) (at : ℕ) → RoundsTo first last at → length last.slots.items ≤ at → (os : List Open) → SlotsStand first.config.p first.slots.items os → AsksAll first last os
 rounds_end first last at r l os s =
     let c : AcqConfig = first.config in
     let now : ℕ = first.moment in

@@ -6,13 +6,13 @@ use Rattle.acquisition_machine.specs.Blocks.{Open, Cause, Retirement, due, fill_
 use Rattle.acquisition_machine.specs.Machine.{leave_if, stay_if, leaving, staying, floor_after}
 use Rattle.acq_core.specs.declared.ended.Cause.{Cause as Told}
 use Rattle.acq_core.specs.declared.slot.Slot.{Slot}
-use Rattle.acq_core.specs.declared.machine.Machine.{Machine}
+use Rattle.acq_core.specs.declared.window.Window.{Window}
 use Rattle.acq_core.specs.Standing.{SlotsStand, AreSlots, floor_of, HasRoom}
 use Rattle.acq_core.specs.Ending.{cause_of, cause_if, end_of, told_end, ends_of}
 use Rattle.acq_core.specs.Retiring.{ChangesSlots, RetiresFirst, RetiresAll}
 
 -- how far settling has come from the blocks with which it began
-pub record SettlesTo (first last : Machine) (os : List Open) : Type 0 where
+pub record SettlesTo (first last : Window) (os : List Open) : Type 0 where
   pub left : List Open
   pub slots : SlotsStand first.config.p last.slots.items left
   pub staying : staying first.config first.moment left ≡ staying first.config first.moment os
@@ -23,7 +23,7 @@ pub record SettlesTo (first last : Machine) (os : List Open) : Type 0 where
   pub floor : floor_after (floor_of last.floor) (leaving first.config first.moment left)
       ≡ floor_after (floor_of first.floor) (leaving first.config first.moment os)
 
-pub record Settling (first last : Machine) : Type 0 where
+pub record Settling (first last : Window) : Type 0 where
   pub part : (os : List Open) → SlotsStand first.config.p first.slots.items os → SettlesTo first last os
   pub slots : AreSlots last
   pub changes : ChangesSlots first last
@@ -56,7 +56,7 @@ some_due None cause e = absurd (apart e) where
   apart e = cc
 some_due (Some why) cause e = refl
 
-pub settles_one : (first mid last : Machine) (os left : List Open) (o : Open) (cause : Told) → SlotsStand first.config.p mid.slots.items (o ∷ left) → mid.config ≡ first.config → mid.telling ≡ first.telling → cause_if (due first.config first.moment o) ≡ Some cause
+pub settles_one : (first mid last : Window) (os left : List Open) (o : Open) (cause : Told) → SlotsStand first.config.p mid.slots.items (o ∷ left) → mid.config ≡ first.config → mid.telling ≡ first.telling → cause_if (due first.config first.moment o) ≡ Some cause
     → staying first.config first.moment (o ∷ left) ≡ staying first.config first.moment os
     → mid.fills.items ++ fills first.config.p (leaving first.config first.moment (o ∷ left)) ≡ first.fills.items ++ fills first.config.p (leaving first.config first.moment os)
     → mid.ends.items ++ ends_of first.telling first.config.p (floor_of mid.floor) (leaving first.config first.moment (o ∷ left)) ≡ first.ends.items ++ ends_of first.telling first.config.p (floor_of first.floor) (leaving first.config first.moment os)
@@ -94,7 +94,7 @@ append_nil : {X : Type 0} (xs : List X) → xs ++ [] ≡ xs
 append_nil [] = refl
 append_nil (x ∷ xs) = ap (λ l. x ∷ l) (append_nil xs)
 
-pub settles_end : (first last : Machine) (os left : List Open) → SlotsStand first.config.p last.slots.items left
+pub settles_end : (first last : Window) (os left : List Open) → SlotsStand first.config.p last.slots.items left
     → staying first.config first.moment left ≡ staying first.config first.moment os
     → last.fills.items ++ fills first.config.p (leaving first.config first.moment left) ≡ first.fills.items ++ fills first.config.p (leaving first.config first.moment os)
     → last.ends.items ++ ends_of first.telling first.config.p (floor_of last.floor) (leaving first.config first.moment left) ≡ first.ends.items ++ ends_of first.telling first.config.p (floor_of first.floor) (leaving first.config first.moment os)
@@ -120,17 +120,17 @@ pub no_left : (p : ℕ) (xs : List Slot) → SlotsStand p xs [] → 0 < length x
 no_left p [] s some = absurd (omega arith)
 no_left p (x ∷ xs) s some = s
 
-pub mid_config : (first mid : Machine) → ChangesSlots first mid → mid.config ≡ first.config
-mid_config first mid ch = ap (λ (m : Machine). m.config) ch
+pub mid_config : (first mid : Window) → ChangesSlots first mid → mid.config ≡ first.config
+mid_config first mid ch = ap (λ (m : Window). m.config) ch
 
-pub mid_telling : (first mid : Machine) → ChangesSlots first mid → mid.telling ≡ first.telling
-mid_telling first mid ch = ap (λ (m : Machine). m.telling) ch
+pub mid_telling : (first mid : Window) → ChangesSlots first mid → mid.telling ≡ first.telling
+mid_telling first mid ch = ap (λ (m : Window). m.telling) ch
 
-mid_moment : (first mid : Machine) → ChangesSlots first mid → mid.moment ≡ first.moment
-mid_moment first mid ch = ap (λ (m : Machine). m.moment) ch
+mid_moment : (first mid : Window) → ChangesSlots first mid → mid.moment ≡ first.moment
+mid_moment first mid ch = ap (λ (m : Window). m.moment) ch
 
 -- the lowest of those that are left is due
-step_left : (first mid last : Machine) (os left : List Open) (cause : Told) → SlotsStand first.config.p mid.slots.items left → mid.config ≡ first.config → mid.telling ≡ first.telling → mid.moment ≡ first.moment → 0 < length mid.slots.items
+step_left : (first mid last : Window) (os left : List Open) (cause : Told) → SlotsStand first.config.p mid.slots.items left → mid.config ≡ first.config → mid.telling ≡ first.telling → mid.moment ≡ first.moment → 0 < length mid.slots.items
     → ((o : Open) (rest : List Open) → SlotsStand mid.config.p mid.slots.items (o ∷ rest) → Some cause ≡ cause_if (due mid.config mid.moment o))
     → ((o : Open) (rest : List Open) → SlotsStand mid.config.p mid.slots.items (o ∷ rest) → RetiresFirst mid last cause o rest)
     → staying first.config first.moment left ≡ staying first.config first.moment os
@@ -145,13 +145,13 @@ step_left first mid last os (o ∷ left) cause s config tell moment some is r st
     ap (λ (k : AcqConfig). cause_if (due k first.moment o)) (sym config) ∙ ap (λ m. cause_if (due mid.config m o)) (sym moment) ∙ sym (is o left stands) in
     settles_one first mid last os left o cause s config tell now stay fill end floor (r o left stands)
 
-pub slots_left : (mid last : Machine) (os : List Open) (cause : Told) → SlotsStand mid.config.p mid.slots.items os → last.config ≡ mid.config → 0 < length mid.slots.items
+pub slots_left : (mid last : Window) (os : List Open) (cause : Told) → SlotsStand mid.config.p mid.slots.items os → last.config ≡ mid.config → 0 < length mid.slots.items
     → ((o : Open) (rest : List Open) → SlotsStand mid.config.p mid.slots.items (o ∷ rest) → RetiresFirst mid last cause o rest) → AreSlots last
 slots_left mid last [] cause s config some r = absurd (no_left mid.config.p mid.slots.items s some)
 slots_left mid last (o ∷ os) cause s config some r =
     (os, subst (λ (k : AcqConfig). SlotsStand k.p last.slots.items os) (sym config) (r o os s).slots)
 
-pub settling_one : (first mid last : Machine) (cause : Told) → Settling first mid → 0 < vec_len mid.slots
+pub settling_one : (first mid last : Window) (cause : Told) → Settling first mid → 0 < vec_len mid.slots
     → ((o : Open) (rest : List Open) → SlotsStand mid.config.p mid.slots.items (o ∷ rest) → Some cause ≡ cause_if (due mid.config mid.moment o))
     → ((o : Open) (rest : List Open) → SlotsStand mid.config.p mid.slots.items (o ∷ rest) → RetiresFirst mid last cause o rest)
     → ChangesSlots mid last → HasRoom last → Settling first last
@@ -163,7 +163,7 @@ settling_one first mid last cause s some is r ch room =
           let m = s.part os stands in
           step_left first mid last os m.left cause m.slots (mid_config first mid s.changes) (mid_telling first mid s.changes) (mid_moment first mid s.changes) more is r m.staying m.fills m.ends m.floor;
       slots = slots_left mid last s.slots.0 cause s.slots.1 (mid_config mid last ch) more r;
-      changes = ch ∙ ap (λ (m : Machine). record m { floor = last.floor; slots = last.slots; spare = last.spare; fills = last.fills; ends = last.ends }) s.changes;
+      changes = ch ∙ ap (λ (m : Window). record m { floor = last.floor; slots = last.slots; spare = last.spare; fills = last.fills; ends = last.ends }) s.changes;
       room = room;
     }
 
@@ -173,7 +173,7 @@ none_if (Some why) e = absurd (apart e) where
   apart : Some (cause_of why) ≡ None → ⊥
   apart e = cc
 
-pub settling_end : (first last : Machine) → Settling first last
+pub settling_end : (first last : Window) → Settling first last
     → ((o : Open) (rest : List Open) → SlotsStand last.config.p last.slots.items (o ∷ rest) → None ≡ cause_if (due last.config last.moment o))
     → (os : List Open) → SlotsStand first.config.p first.slots.items os
     → RetiresAll first last (leaving first.config first.moment os) (staying first.config first.moment os)

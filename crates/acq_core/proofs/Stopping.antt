@@ -5,7 +5,7 @@ use Rattle.acquisition_machine.specs.declared.config.AcqConfig.{AcqConfig}
 use Rattle.acquisition_machine.specs.Blocks.{Open, fill_of, fills}
 use Rattle.acquisition_machine.specs.Machine.{State, stop, restart, floor_after, all_stopped, step}
 use Rattle.acq_core.specs.declared.ended.Cause.TheVariants.{Stopped}
-use Rattle.acq_core.specs.declared.machine.Machine.{Machine}
+use Rattle.acq_core.specs.declared.window.Window.{Window}
 use Rattle.acq_core.specs.Standing.{SlotsStand, AreSlots, Acts, floor_of, HasRoom}
 use Rattle.acq_core.specs.Ending.{end_of, told_end, ends_of}
 use Rattle.acq_core.specs.Retiring.{ChangesSlots, RetiresFirst, RetiresAll}
@@ -14,20 +14,20 @@ use Rattle.acq_core.proofs.Acting.{append_nil}
 use Rattle.acq_core.proofs.Settling.{no_left, mid_config, mid_telling, slots_left}
 
 -- how far stopping has come from the blocks with which it began
-pub record StopsTo (first last : Machine) (os : List Open) : Type 0 where
+pub record StopsTo (first last : Window) (os : List Open) : Type 0 where
   pub left : List Open
   pub slots : SlotsStand first.config.p last.slots.items left
   pub fills : last.fills.items ++ fills first.config.p (all_stopped left) ≡ first.fills.items ++ fills first.config.p (all_stopped os)
   pub ends : last.ends.items ++ ends_of first.telling first.config.p (floor_of last.floor) (all_stopped left) ≡ first.ends.items ++ ends_of first.telling first.config.p (floor_of first.floor) (all_stopped os)
   pub floor : floor_after (floor_of last.floor) (all_stopped left) ≡ floor_after (floor_of first.floor) (all_stopped os)
 
-pub record Stopping (first last : Machine) : Type 0 where
+pub record Stopping (first last : Window) : Type 0 where
   pub part : (os : List Open) → SlotsStand first.config.p first.slots.items os → StopsTo first last os
   pub slots : AreSlots last
   pub changes : ChangesSlots first last
   pub room : HasRoom last
 
-stop_left : (first mid last : Machine) (os left : List Open) → SlotsStand first.config.p mid.slots.items left → mid.config ≡ first.config → mid.telling ≡ first.telling → 0 < length mid.slots.items
+stop_left : (first mid last : Window) (os left : List Open) → SlotsStand first.config.p mid.slots.items left → mid.config ≡ first.config → mid.telling ≡ first.telling → 0 < length mid.slots.items
     → ((o : Open) (rest : List Open) → SlotsStand mid.config.p mid.slots.items (o ∷ rest) → RetiresFirst mid last Stopped o rest)
     → mid.fills.items ++ fills first.config.p (all_stopped left) ≡ first.fills.items ++ fills first.config.p (all_stopped os)
     → mid.ends.items ++ ends_of first.telling first.config.p (floor_of mid.floor) (all_stopped left) ≡ first.ends.items ++ ends_of first.telling first.config.p (floor_of first.floor) (all_stopped os)
@@ -50,7 +50,7 @@ stop_left first mid last os (o ∷ left) s config tell some r fill end floor =
       floor = ap (λ k. floor_after k (all_stopped left)) one.floor ∙ floor;
     }
 
-pub stopping_one : (first mid last : Machine) → Stopping first mid → 0 < vec_len mid.slots
+pub stopping_one : (first mid last : Window) → Stopping first mid → 0 < vec_len mid.slots
     → ((o : Open) (rest : List Open) → SlotsStand mid.config.p mid.slots.items (o ∷ rest) → RetiresFirst mid last Stopped o rest)
     → ChangesSlots mid last → HasRoom last → Stopping first last
 stopping_one first mid last s some r ch room =
@@ -61,31 +61,31 @@ stopping_one first mid last s some r ch room =
           let m = s.part os stands in
           stop_left first mid last os m.left m.slots (mid_config first mid s.changes) (mid_telling first mid s.changes) more r m.fills m.ends m.floor;
       slots = slots_left mid last s.slots.0 Stopped s.slots.1 (mid_config mid last ch) more r;
-      changes = ch ∙ ap (λ (m : Machine). record m { floor = last.floor; slots = last.slots; spare = last.spare; fills = last.fills; ends = last.ends }) s.changes;
+      changes = ch ∙ ap (λ (m : Window). record m { floor = last.floor; slots = last.slots; spare = last.spare; fills = last.fills; ends = last.ends }) s.changes;
       room = room;
     }
 
 -- the turn
-pub stop_gives : (a b : Machine) (s : State) → Acts a s → RetiresAll (record a { asked = None }) b (all_stopped s.opens) [] → ChangesSlots (record a { asked = None }) b → Gives a b (step a.config s stop)
+pub stop_gives : (a b : Window) (s : State) → Acts a s → RetiresAll (record a { asked = None }) b (all_stopped s.opens) [] → ChangesSlots (record a { asked = None }) b → Gives a b (step a.config s stop)
 stop_gives a b s acts r ch =
-    let config : b.config ≡ a.config = ap (λ (m : Machine). m.config) ch in
+    let config : b.config ≡ a.config = ap (λ (m : Window). m.config) ch in
     record {
       acts = record {
-        moment = ap (λ (m : Machine). m.moment) ch ∙ acts.moment;
+        moment = ap (λ (m : Window). m.moment) ch ∙ acts.moment;
         floor = r.floor ∙ ap (λ low. floor_after low (all_stopped s.opens)) acts.floor;
         slots = subst (λ (k : AcqConfig). SlotsStand k.p b.slots.items []) (sym config) r.slots;
-        asked = ap (λ (m : Machine). m.asked) ch;
-        counts = ap (λ (m : Machine). m.counts) ch ∙ acts.counts;
-        number = ap (λ (m : Machine). m.number) ch ∙ acts.number;
+        asked = ap (λ (m : Window). m.asked) ch;
+        counts = ap (λ (m : Window). m.counts) ch ∙ acts.counts;
+        number = ap (λ (m : Window). m.number) ch ∙ acts.number;
       };
       fills = r.fills;
       ends = r.ends;
-      requests = ap (λ (m : Machine). m.requests.items) ch ∙ sym (append_nil a.requests.items);
+      requests = ap (λ (m : Window). m.requests.items) ch ∙ sym (append_nil a.requests.items);
       config = config;
-      telling = ap (λ (m : Machine). m.telling) ch;
+      telling = ap (λ (m : Window). m.telling) ch;
     }
 
-pub restart_gives : (a : Machine) (s : State) → Acts a s → Gives a (record a { asked = None; floor = Some 1 }) (step a.config s restart)
+pub restart_gives : (a : Window) (s : State) → Acts a s → Gives a (record a { asked = None; floor = Some 1 }) (step a.config s restart)
 restart_gives a s acts = record {
   acts = record { moment = acts.moment; floor = refl; slots = acts.slots; asked = refl; counts = acts.counts; number = acts.number };
   fills = sym (append_nil a.fills.items);

@@ -8,7 +8,7 @@ use Rattle.acquisition_machine.specs.Blocks.{Open, fill_of}
 use Rattle.acquisition_machine.specs.Machine.{State, bound, is_full, lowest_or, floor_after, displaced_of, rest_of, wants}
 use Rattle.acq_core.specs.declared.ended.Cause.TheVariants.{Displaced}
 use Rattle.acq_core.specs.declared.slot.Slot.{Slot}
-use Rattle.acq_core.specs.declared.machine.Machine.{Machine}
+use Rattle.acq_core.specs.declared.window.Window.{Window}
 use Rattle.acq_core.specs.Standing.{SlotsStand, Acts, floor_of}
 use Rattle.acq_core.specs.Ending.{end_of, told_end}
 use Rattle.acq_core.specs.Retiring.{ChangesSlots, RetiresFirst, RetiresAll}
@@ -22,17 +22,17 @@ length-stand p (x ∷ xs) [] s = absurd s
 length-stand p (x ∷ xs) (o ∷ os) s = let rest = length-stand p xs os s.1 in rw rest refl
 
 -- there are as many slots as open blocks
-pub count-opens : (m : Machine) (s : State) → Acts m s → m.slots.len ≡ length s.opens
+pub count-opens : (m : Window) (s : State) → Acts m s → m.slots.len ≡ length s.opens
 count-opens m s acts = m.slots.ok.0 ∙ length-stand m.config.p m.slots.items s.opens acts.slots
 
-pub none_displaced : (m : Machine) (s : State) → Acts m s → vec_len m.slots < m.config.window → RetiresAll m m (displaced_of (is_full m.config s.opens) s.opens) (rest_of (is_full m.config s.opens) s.opens)
+pub none_displaced : (m : Window) (s : State) → Acts m s → vec_len m.slots < m.config.window → RetiresAll m m (displaced_of (is_full m.config s.opens) s.opens) (rest_of (is_full m.config s.opens) s.opens)
 none_displaced m s acts room =
     let count = count-opens m s acts in
     let free : length s.opens < m.config.window = omega (arith, count) in
     let none : is_full m.config s.opens ≡ false = lt-leb m.config.window (length s.opens) free in
     rw none (record { slots = acts.slots; fills = sym (append_nil m.fills.items); ends = sym (append_nil m.ends.items); floor = refl })
 
-one_displaced_step : (m n : Machine) (os : List Open) → SlotsStand m.config.p m.slots.items os → 0 < length os
+one_displaced_step : (m n : Window) (os : List Open) → SlotsStand m.config.p m.slots.items os → 0 < length os
     → ((o : Open) (rest : List Open) → SlotsStand m.config.p m.slots.items (o ∷ rest) → RetiresFirst m n Displaced o rest)
     → RetiresAll m n (displaced_of true os) (rest_of true os)
 one_displaced_step m n [] s some r = absurd (omega arith)
@@ -45,7 +45,7 @@ one_displaced_step m n (o ∷ os) s some r =
       floor = first.floor;
     }
 
-pub one_displaced : (m n : Machine) (s : State) → Acts m s → m.config.window ≤ vec_len m.slots → 1 ≤ m.config.window
+pub one_displaced : (m n : Window) (s : State) → Acts m s → m.config.window ≤ vec_len m.slots → 1 ≤ m.config.window
     → ((o : Open) (rest : List Open) → SlotsStand m.config.p m.slots.items (o ∷ rest) → RetiresFirst m n Displaced o rest)
     → RetiresAll m n (displaced_of (is_full m.config s.opens) s.opens) (rest_of (is_full m.config s.opens) s.opens)
 one_displaced m n s acts room one r =
@@ -55,23 +55,23 @@ one_displaced m n s acts room one r =
     let full : is_full m.config s.opens ≡ true = le-leb m.config.window (length s.opens) all in
     rw full (one_displaced_step m n s.opens acts.slots some r)
 
-pub wants_answers : (a b : Machine) (s : State) (block : ℕ) → Acts a s → RetiresAll a b (displaced_of (is_full a.config s.opens) s.opens) (rest_of (is_full a.config s.opens) s.opens) → ChangesSlots a b → Answers a (record b { asked = Some block }) (Buffer block) (wants a.config block s)
+pub wants_answers : (a b : Window) (s : State) (block : ℕ) → Acts a s → RetiresAll a b (displaced_of (is_full a.config s.opens) s.opens) (rest_of (is_full a.config s.opens) s.opens) → ChangesSlots a b → Answers a (record b { asked = Some block }) (Buffer block) (wants a.config block s)
 wants_answers a b s block acts r ch =
-    let config : b.config ≡ a.config = ap (λ (m : Machine). m.config) ch in
+    let config : b.config ≡ a.config = ap (λ (m : Window). m.config) ch in
     record {
       gives = record {
         acts = record {
-          moment = ap (λ (m : Machine). m.moment) ch ∙ acts.moment;
+          moment = ap (λ (m : Window). m.moment) ch ∙ acts.moment;
           floor = r.floor ∙ ap (λ low. floor_after low (displaced_of (is_full a.config s.opens) s.opens)) acts.floor;
           slots = subst (λ (k : AcqConfig). SlotsStand k.p b.slots.items (rest_of (is_full a.config s.opens) s.opens)) (sym config) r.slots;
           asked = refl;
-          counts = ap (λ (m : Machine). m.counts) ch ∙ acts.counts;
-          number = ap (λ (m : Machine). m.number) ch ∙ acts.number;
+          counts = ap (λ (m : Window). m.counts) ch ∙ acts.counts;
+          number = ap (λ (m : Window). m.number) ch ∙ acts.number;
         };
         fills = r.fills;
         ends = r.ends;
-        telling = ap (λ (m : Machine). m.telling) ch;
-        requests = ap (λ (m : Machine). m.requests.items) ch ∙ sym (append_nil a.requests.items);
+        telling = ap (λ (m : Window). m.telling) ch;
+        requests = ap (λ (m : Window). m.requests.items) ch ∙ sym (append_nil a.requests.items);
         config = config;
       };
       need = refl;
@@ -79,7 +79,7 @@ wants_answers a b s block acts r ch =
 
 -- ---- the bound
 
-pub bound_room : (m : Machine) (s : State) → Acts m s → vec_len m.slots < m.config.window → floor_of m.floor ≡ bound m.config s
+pub bound_room : (m : Window) (s : State) → Acts m s → vec_len m.slots < m.config.window → floor_of m.floor ≡ bound m.config s
 bound_room m s acts room =
     let count = count-opens m s acts in
     let free : length s.opens < m.config.window = omega (arith, count) in
@@ -91,7 +91,7 @@ lowest_step p low [] os d s some = absurd (omega arith)
 lowest_step p low (x ∷ xs) [] d s some = absurd s
 lowest_step p low (x ∷ xs) (o ∷ os) d s some = s.0.block
 
-pub bound_full : (m : Machine) (s : State) (x : Slot) → Acts m s → m.config.window ≤ vec_len m.slots → 0 < vec_len m.slots → x ≡ get_or m.slots.items 0 x → x.block ≡ bound m.config s
+pub bound_full : (m : Window) (s : State) (x : Slot) → Acts m s → m.config.window ≤ vec_len m.slots → 0 < vec_len m.slots → x ≡ get_or m.slots.items 0 x → x.block ≡ bound m.config s
 bound_full m s x acts room some is =
     let count = count-opens m s acts in
     let all : m.config.window ≤ length s.opens = omega (arith, count) in

@@ -17,7 +17,7 @@ use Rattle.acq_core.specs.declared.slot.Hold.{Hold}
 use Rattle.acq_core.specs.declared.slot.Hold.TheVariants.{Without, With}
 use Rattle.acq_core.specs.declared.slot.Slot.{Slot}
 use Rattle.acq_core.specs.declared.asked.Asked.{Asked}
-use Rattle.acq_core.specs.declared.machine.Machine.{Machine}
+use Rattle.acq_core.specs.declared.window.Window.{Window}
 
 -- both bitmaps have all packet ids
 pub record IsWide (spare : Spare) : Type 0 where
@@ -76,7 +76,7 @@ capped n = record {
 }
 
 -- The receiver's state is that state of the acquisition machine.
-pub record Acts (a : Machine) (s : State) : Type 0 where
+pub record Acts (a : Window) (s : State) : Type 0 where
   pub moment : a.moment ≡ s.now
   pub floor : floor_of a.floor ≡ s.floor
   pub slots : SlotsStand a.config.p a.slots.items s.opens
@@ -85,7 +85,7 @@ pub record Acts (a : Machine) (s : State) : Type 0 where
   pub number : a.number ≡ s.number
 
 -- it is some sound state
-pub record ActsForSome (a : Machine) : Type 0 where
+pub record ActsForSome (a : Window) : Type 0 where
   pub state : State
   pub acts : Acts a state
   pub sound : IsSound a.config state
@@ -106,7 +106,7 @@ pub record IsConfig (c : AcqConfig) : Type 0 where
   pub rounds : c.rounds ≤ 8
 
 -- Whatever comes, no list grows beyond what was taken for it, and each block that opens finds its bitmaps.
-pub record HasRoom (a : Machine) : Type 0 where
+pub record HasRoom (a : Window) : Type 0 where
   pub config : IsConfig a.config
   pub slots : a.config.window ≤ vec_capacity a.slots
   pub spare : a.config.window ≤ vec_capacity a.spare
@@ -119,9 +119,9 @@ pub record HasRoom (a : Machine) : Type 0 where
   pub requests : 8 * a.config.window ≤ vec_capacity a.requests
 
 -- each slot stands for an open block
-abbrev pub AreSlots : Machine → Type 0
+abbrev pub AreSlots : Window → Type 0
 AreSlots a = (os : List Open) × SlotsStand a.config.p a.slots.items os
 
 -- what waits leaves room for the fill of one more block
-abbrev pub HasPlace : Machine → Type 0
+abbrev pub HasPlace : Window → Type 0
 HasPlace a = vec_len a.fills + vec_len a.slots ≤ a.config.window

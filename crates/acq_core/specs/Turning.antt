@@ -6,13 +6,13 @@ use Rattle.acquisition_machine.specs.declared.need.Need.{Need}
 use Rattle.acquisition_machine.specs.declared.need.Need.TheVariants.{Buffer, Done, Ignored}
 use Rattle.acquisition_machine.specs.Blocks.{Open, fills}
 use Rattle.acquisition_machine.specs.Machine.{State, Turn, put, quiet, settles, ignored}
-use Rattle.acq_core.specs.declared.machine.Machine.{Machine}
+use Rattle.acq_core.specs.declared.window.Window.{Window}
 use Rattle.acq_core.specs.Standing.{Acts, asked_of, floor_of}
 use Rattle.acq_core.specs.Ending.{ends_of}
 use Rattle.acq_core.specs.Hearing.{heard_in}
 
 -- The state goes on by this turn, and what it gives waits.
-pub record Gives (old new : Machine) (t : Turn) : Type 0 where
+pub record Gives (old new : Window) (t : Turn) : Type 0 where
   pub acts : Acts new t.after
   pub fills : new.fills.items ≡ old.fills.items ++ fills old.config.p t.retired
   pub ends : new.ends.items ≡ old.ends.items ++ ends_of old.telling old.config.p (floor_of old.floor) t.retired
@@ -21,7 +21,7 @@ pub record Gives (old new : Machine) (t : Turn) : Type 0 where
   pub telling : new.telling ≡ old.telling
 
 -- and the datagram is answered that
-pub record Answers (old new : Machine) (answer : Need) (t : Turn) : Type 0 where
+pub record Answers (old new : Window) (answer : Need) (t : Turn) : Type 0 where
   pub gives : Gives old new t
   pub need : t.need ≡ Some answer
 

@@ -2,11 +2,11 @@ use crate::ended::Ended;
 use crate::ending::forget;
 use crate::giving::give;
 use crate::hearing::hear;
-use crate::machine::Machine;
 use crate::making::start;
 use crate::retiring::{restart, stop};
 use crate::rounds::tick;
 use crate::waiting::{first_request, next_ended, next_fill, next_request};
+use crate::window::Window;
 use acquisition_machine::{AcqConfig, Counts, Need, Retired};
 use gev_types::{Buf, NoMemory};
 use gvcp_aux::Resend;
@@ -19,18 +19,18 @@ use std::marker::Model;
 /// and the commands that ask the camera for missing packets. Only `new` takes memory.
 #[derive(Drop)]
 pub struct Acq {
-    machine: Machine,
+    window: Window,
 }
 
 impl Model for Acq {
-    ghost use Rattle.acq_core.specs.declared.machine.Machine.{Machine};
+    ghost use Rattle.acq_core.specs.declared.window.Window.{Window};
     ghost use Rattle.acq_core.specs.Receiver.{IsReceiver};
 
-    ghost Value = { Machine };
+    ghost Value = { Window };
 
-    ghost view = { λ a. a.machine };
+    ghost view = { λ a. a.window };
 
-    ghost invariant = { λ a. IsReceiver a.machine };
+    ghost invariant = { λ a. IsReceiver a.window };
 }
 
 impl Acq {
@@ -59,8 +59,8 @@ impl Acq {
         ensures opens { IfOk result (λ acq. open_count acq ≡ 0) }
         ensures asked { IfOk result (λ acq. asked_block acq ≡ None) }
     {
-        let machine = start(alloc, config)?;
-        Ok(Acq { machine })
+        let window = start(alloc, config)?;
+        Ok(Acq { window })
     }
 
     /// Takes a datagram, and says what it needs or what became of it.
@@ -76,8 +76,8 @@ impl Acq {
         ensures buffers { KeepsBuffers self.old self.new }
         ensures asked { asked_block self.new ≡ asked_by (Some result) }
     {
-        forget(&mut self.machine);
-        hear(&mut self.machine, bytes)
+        forget(&mut self.window);
+        hear(&mut self.window, bytes)
     }
 
     /// The outcome of the claim for which `datagram` asked: a buffer with the number of its place, or
@@ -90,8 +90,8 @@ impl Acq {
         ensures buffers { TakesGiven (given_as answer) (asked_block self.old) (buffers self.old) (buffers self.new) }
         ensures asked { asked_block self.new ≡ None }
     {
-        forget(&mut self.machine);
-        give(&mut self.machine, answer);
+        forget(&mut self.window);
+        give(&mut self.window, answer);
     }
 
     /// Takes the moment, in milliseconds: blocks that are old retire, and the others ask for what is
@@ -104,8 +104,8 @@ impl Acq {
         ensures buffers { KeepsBuffers self.old self.new }
         ensures asked { asked_block self.new ≡ None }
     {
-        forget(&mut self.machine);
-        tick(&mut self.machine, moment);
+        forget(&mut self.window);
+        tick(&mut self.window, moment);
     }
 
     /// All open blocks retire as they are, the lowest first. What waited before has to be taken.
@@ -119,8 +119,8 @@ impl Acq {
         ensures none_open { open_count self.new ≡ 0 }
         ensures asked { asked_block self.new ≡ None }
     {
-        forget(&mut self.machine);
-        stop(&mut self.machine);
+        forget(&mut self.window);
+        stop(&mut self.window);
     }
 
     /// A new acquisition begins: packets of block 1 and of any later one are taken again. No block may be
@@ -134,8 +134,8 @@ impl Acq {
         ensures none_open { open_count self.new ≡ 0 }
         ensures asked { asked_block self.new ≡ None }
     {
-        forget(&mut self.machine);
-        restart(&mut self.machine);
+        forget(&mut self.window);
+        restart(&mut self.window);
     }
 
     /// The first fill that waits, which waits no longer; None where none does.
@@ -148,7 +148,7 @@ impl Acq {
         ensures telling { is_telling self.new ≡ is_telling self.old }
         ensures rest { KeepsBlocks self.old self.new }
     {
-        next_fill(&mut self.machine)
+        next_fill(&mut self.window)
     }
 
     /// The bytes of the first request that waits, which waits no longer; None where none does.
@@ -162,7 +162,7 @@ impl Acq {
         ensures telling { is_telling self.new ≡ is_telling self.old }
         ensures rest { KeepsBlocks self.old self.new }
     {
-        next_request(&mut self.machine)
+        next_request(&mut self.window)
     }
 
     /// What the first request that waits asks for, and the number of its block's round. It waits on.
@@ -172,7 +172,7 @@ impl Acq {
         ensures round { (q : List Input) → Stands self.now q
             → IfSome result (λ r. r.1 ≡ rounds_of (open_at r.0.block (After (config_of self.now) q).opens)) }
     {
-        first_request(&self.machine)
+        first_request(&self.window)
     }
 
     /// From now on each block that retires is told, by `next_ended`.
@@ -184,7 +184,7 @@ impl Acq {
         ensures ends { waiting_ends self.new ≡ waiting_ends self.old }
         ensures rest { KeepsBlocks self.old self.new }
     {
-        self.machine.telling = true;
+        self.window.telling = true;
     }
 
     /// The first block that retired at the last call and wasn't told yet, those without a buffer included;
@@ -198,21 +198,21 @@ impl Acq {
         ensures telling { is_telling self.new ≡ is_telling self.old }
         ensures rest { KeepsBlocks self.old self.new }
     {
-        next_ended(&mut self.machine)
+        next_ended(&mut self.window)
     }
 
     /// The greatest moment that was told, in milliseconds.
     pub fn now(&self) -> u64
         ensures { (q : List Input) → Stands self.now q → result ≡ (After (config_of self.now) q).now }
     {
-        self.machine.moment
+        self.window.moment
     }
 
     /// What was counted since the receiver was made. Each count stands still at its type's end.
     pub fn counts(&self) -> Counts
         ensures { (q : List Input) → Stands self.now q → result ≡ capped (After (config_of self.now) q).counts }
     {
-        self.machine.counts
+        self.window.counts
     }
 
     /// How many blocks are open, those without a buffer included: at most as many as the window has.
@@ -220,6 +220,6 @@ impl Acq {
         ensures count { result ≡ open_count self.now }
         ensures opens { (q : List Input) → Stands self.now q → result ≡ length (After (config_of self.now) q).opens }
     {
-        self.machine.slots.len() as u8
+        self.window.slots.len() as u8
     }
 }

@@ -9,8 +9,8 @@ ghost use Rattle.acq_core.specs.Standing.{HoldsFor, SlotStands, floor_of};
 ghost use Rattle.acq_core.specs.Ending.{held_of, end_of, told_end};
 
 use crate::ended::{Cause, Ended, Held};
-use crate::machine::Machine;
 use crate::slot::{Hold, Slot};
+use crate::window::Window;
 
 /// What the block gave.
 fn held(hold: &Hold) -> Option<Held>
@@ -46,27 +46,27 @@ fn ended(slot: &Slot, floor: Option<u64>, cause: Cause) -> Ended
 }
 
 /// Tells of the block that retires, if that is wanted.
-pub(crate) fn tell(machine: &mut Machine, slot: &Slot, cause: Cause)
-    requires { vec_len machine.old.ends < vec_capacity machine.old.ends }
+pub(crate) fn tell(window: &mut Window, slot: &Slot, cause: Cause)
+    requires { vec_len window.old.ends < vec_capacity window.old.ends }
     ensures ends { (p : ℕ) (o : Open) → SlotStands p slot.now o
-        → machine.new.ends.items ≡ machine.old.ends.items ++ told_end machine.old.telling (end_of p (floor_of machine.old.floor) cause o) }
-    ensures rest { machine.new ≡ record machine.old { ends = machine.new.ends } }
-    ensures few { vec_len machine.new.ends ≤ vec_len machine.old.ends + 1 }
-    ensures capacity { vec_capacity machine.new.ends ≡ vec_capacity machine.old.ends }
+        → window.new.ends.items ≡ window.old.ends.items ++ told_end window.old.telling (end_of p (floor_of window.old.floor) cause o) }
+    ensures rest { window.new ≡ record window.old { ends = window.new.ends } }
+    ensures few { vec_len window.new.ends ≤ vec_len window.old.ends + 1 }
+    ensures capacity { vec_capacity window.new.ends ≡ vec_capacity window.old.ends }
 {
-    if !machine.telling {
+    if !window.telling {
         return;
     }
-    let end = ended(slot, machine.floor, cause);
-    machine.ends.push_reserved(end);
+    let end = ended(slot, window.floor, cause);
+    window.ends.push_reserved(end);
 }
 
 /// Nothing that retired before is told any more.
-pub(crate) fn forget(machine: &mut Machine)
-    ensures none { machine.new.ends.items ≡ [] }
-    ensures rest { machine.new ≡ record machine.old { ends = machine.new.ends } }
-    ensures fewer { vec_len machine.new.ends ≡ 0 }
-    ensures capacity { vec_capacity machine.new.ends ≡ vec_capacity machine.old.ends }
+pub(crate) fn forget(window: &mut Window)
+    ensures none { window.new.ends.items ≡ [] }
+    ensures rest { window.new ≡ record window.old { ends = window.new.ends } }
+    ensures fewer { vec_len window.new.ends ≡ 0 }
+    ensures capacity { vec_capacity window.new.ends ≡ vec_capacity window.old.ends }
 {
-    machine.ends.clear();
+    window.ends.clear();
 }

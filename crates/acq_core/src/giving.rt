@@ -11,8 +11,8 @@ ghost use Rattle.acq_core.specs.Standing.{HoldsFor, IsWide, Acts, ActsForSome, H
 ghost use Rattle.acq_core.specs.Giving.{given_as};
 ghost use Rattle.acq_core.specs.Turning.{Gives};
 
-use crate::machine::Machine;
 use crate::slot::{Hold, Slot, Spare};
+use crate::window::Window;
 use acquisition_machine::Counts;
 use block_assembly::Assembly;
 use gev_types::Buf;
@@ -90,43 +90,43 @@ fn put_in(slots: &mut Vec<Slot>, at: usize, slot: Slot)
 }
 
 /// Opens this block, for which a buffer was claimed.
-fn open(machine: &mut Machine, block: u64, answer: Option<(u8, Buf)>)
-    requires acts { ActsForSome machine.old }
-    requires room { HasRoom machine.old }
-    requires asked { machine.old.asked ≡ Some block }
-    requires place { HasPlace machine.old }
-    requires forgotten { vec_len machine.old.ends ≡ 0 }
-    ensures gives { (s : State) → Acts machine.old s → IsSound machine.old.config s
-        → Gives machine.old machine.new (step machine.old.config s (claimed (given_as answer))) }
-    ensures room { HasRoom machine.new }
+fn open(window: &mut Window, block: u64, answer: Option<(u8, Buf)>)
+    requires acts { ActsForSome window.old }
+    requires room { HasRoom window.old }
+    requires asked { window.old.asked ≡ Some block }
+    requires place { HasPlace window.old }
+    requires forgotten { vec_len window.old.ends ≡ 0 }
+    ensures gives { (s : State) → Acts window.old s → IsSound window.old.config s
+        → Gives window.old window.new (step window.old.config s (claimed (given_as answer))) }
+    ensures room { HasRoom window.new }
 {
-    count_underrun(&mut machine.counts, &answer);
-    let spare = take_spare(&mut machine.spare);
+    count_underrun(&mut window.counts, &answer);
+    let spare = take_spare(&mut window.spare);
     let slot = Slot {
         block,
-        hold: hold(spare, block, machine.config.p, answer),
-        last: machine.moment,
+        hold: hold(spare, block, window.config.p, answer),
+        last: window.moment,
         rounds: 0,
         round_at: 0,
     };
-    let at = place_for(machine.slots.as_slice(), block);
-    put_in(&mut machine.slots, at, slot);
-    machine.asked = None;
+    let at = place_for(window.slots.as_slice(), block);
+    put_in(&mut window.slots, at, slot);
+    window.asked = None;
 }
 
 /// The outcome of the claim: a buffer and its place, or none.
-pub(crate) fn give(machine: &mut Machine, answer: Option<(u8, Buf)>)
-    requires acts { ActsForSome machine.old }
-    requires room { HasRoom machine.old }
-    requires asked { IsSome machine.old.asked }
-    requires place { HasPlace machine.old }
-    requires forgotten { vec_len machine.old.ends ≡ 0 }
-    ensures gives { (s : State) → Acts machine.old s → IsSound machine.old.config s
-        → Gives machine.old machine.new (step machine.old.config s (claimed (given_as answer))) }
-    ensures room { HasRoom machine.new }
+pub(crate) fn give(window: &mut Window, answer: Option<(u8, Buf)>)
+    requires acts { ActsForSome window.old }
+    requires room { HasRoom window.old }
+    requires asked { IsSome window.old.asked }
+    requires place { HasPlace window.old }
+    requires forgotten { vec_len window.old.ends ≡ 0 }
+    ensures gives { (s : State) → Acts window.old s → IsSound window.old.config s
+        → Gives window.old window.new (step window.old.config s (claimed (given_as answer))) }
+    ensures room { HasRoom window.new }
 {
-    match machine.asked {
-        Some(block) => open(machine, block, answer),
+    match window.asked {
+        Some(block) => open(window, block, answer),
         None => unreachable!(),
     }
 }

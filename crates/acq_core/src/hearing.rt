@@ -15,90 +15,90 @@ ghost use Rattle.acq_core.specs.Turning.{Answers, turn_of, with_heard};
 
 use crate::counting::count;
 use crate::ended::Cause;
-use crate::machine::Machine;
 use crate::retiring::{retire_first, settle};
 use crate::slot::Slot;
-use crate::slots::take;
+use crate::slots::told_at;
+use crate::window::Window;
 use acquisition_machine::{Need, Why};
 use block_image::does_fit;
 use gvsp_wire::{Packet, parse};
 
 /// Nothing of the datagram is kept.
-fn ignore(machine: &mut Machine, why: Why) -> Need
-    requires { HasRoom machine.old }
-    ensures answers { (s : State) → Acts machine.old s → Answers machine.old machine.new result (ignored why s) }
-    ensures room { HasRoom machine.new }
+fn ignore(window: &mut Window, why: Why) -> Need
+    requires { HasRoom window.old }
+    ensures answers { (s : State) → Acts window.old s → Answers window.old window.new result (ignored why s) }
+    ensures room { HasRoom window.new }
 {
-    count(&mut machine.counts, why);
+    count(&mut window.counts, why);
     Need::Ignored(why)
 }
 
 /// The packet was noted in its block, and is answered that.
-fn answer(machine: &mut Machine, need: Need) -> Need
-    requires slots { AreSlots machine.old }
-    requires room { HasRoom machine.old }
+fn answer(window: &mut Window, need: Need) -> Need
+    requires slots { AreSlots window.old }
+    requires room { HasRoom window.old }
     requires no_buffer { (b : ℕ) → need ≢ Need.Buffer b }
-    ensures answers { (s : State) → Acts machine.old s
-        → Answers machine.old machine.new result (turn_of machine.old.config need s) }
-    ensures room { HasRoom machine.new }
+    ensures answers { (s : State) → Acts window.old s
+        → Answers window.old window.new result (turn_of window.old.config need s) }
+    ensures room { HasRoom window.new }
 {
     match need {
         Need::Buffer(_) => need,
         Need::Done => {
-            settle(machine);
+            settle(window);
             need
         }
-        Need::Ignored(why) => ignore(machine, why),
+        Need::Ignored(why) => ignore(window, why),
     }
 }
 
-/// The slot at this place takes the packet of its block.
-fn take_at(machine: &mut Machine, at: usize, packet: &Packet<'_>) -> Need
-    requires acts { ActsForSome machine.old }
-    requires room { HasRoom machine.old }
+/// Tells the slot at this place the packet of its block.
+fn tell_at(window: &mut Window, at: usize, packet: &Packet<'_>) -> Need
+    requires acts { ActsForSome window.old }
+    requires room { HasRoom window.old }
     requires read { IsRead (view packet.now) }
-    requires found { position (λ x. x.block == (head_of (view packet.now)).block) machine.old.slots.items ≡ Some at }
-    ensures need { (s : State) (o : Open) → Acts machine.old s → IsSound machine.old.config s
+    requires found { position (λ x. x.block == (head_of (view packet.now)).block) window.old.slots.items ≡ Some at }
+    ensures need { (s : State) (o : Open) → Acts window.old s → IsSound window.old.config s
         → open_at (head_of (view packet.now)).block s.opens ≡ Some o
-        → result ≡ need_in machine.old.config.p o (view packet.now) }
-    ensures acts { (s : State) (o : Open) → Acts machine.old s → IsSound machine.old.config s
+        → result ≡ need_in window.old.config.p o (view packet.now) }
+    ensures acts { (s : State) (o : Open) → Acts window.old s → IsSound window.old.config s
         → open_at (head_of (view packet.now)).block s.opens ≡ Some o
-        → Acts machine.new (with_heard machine.old.config.p (view packet.now) o s) }
-    ensures rest { machine.new ≡ record machine.old { slots = machine.new.slots } }
+        → Acts window.new (with_heard window.old.config.p (view packet.now) o s) }
+    ensures rest { window.new ≡ record window.old { slots = window.new.slots } }
     ensures no_buffer { (b : ℕ) → result ≢ Need.Buffer b }
-    ensures slots { AreSlots machine.new }
-    ensures room { HasRoom machine.new }
+    ensures slots { AreSlots window.new }
+    ensures room { HasRoom window.new }
 {
-    let p = machine.config.p;
-    let moment = machine.moment;
-    take(&mut machine.slots[at], p, packet, moment)
+    let p = window.config.p;
+    let moment = window.moment;
+    told_at(&mut window.slots[at], p, packet, moment)
 }
 
 /// In a full window the lowest block gives its place.
-fn make_room(machine: &mut Machine)
-    requires acts { ActsForSome machine.old }
-    requires room { HasRoom machine.old }
-    ensures retires { (s : State) → Acts machine.old s
-        → RetiresAll machine.old machine.new
-        (displaced_of (is_full machine.old.config s.opens) s.opens) (rest_of (is_full machine.old.config s.opens) s.opens) }
-    ensures changes { ChangesSlots machine.old machine.new }
-    ensures room { HasRoom machine.new }
+fn make_room(window: &mut Window)
+    requires acts { ActsForSome window.old }
+    requires room { HasRoom window.old }
+    ensures retires { (s : State) → Acts window.old s
+        → RetiresAll window.old window.new
+        (displaced_of (is_full window.old.config s.opens) s.opens) (rest_of (is_full window.old.config s.opens) s.opens) }
+    ensures changes { ChangesSlots window.old window.new }
+    ensures room { HasRoom window.new }
 {
-    if machine.slots.len() < usize::from(machine.config.window) {
+    if window.slots.len() < usize::from(window.config.window) {
         return;
     }
-    retire_first(machine, Cause::Displaced);
+    retire_first(window, Cause::Displaced);
 }
 
 /// A buffer is wanted for a block that isn't open.
-fn want(machine: &mut Machine, block: u64) -> Need
-    requires acts { ActsForSome machine.old }
-    requires room { HasRoom machine.old }
-    ensures answers { (s : State) → Acts machine.old s → Answers machine.old machine.new result (wants machine.old.config block s) }
-    ensures room { HasRoom machine.new }
+fn want(window: &mut Window, block: u64) -> Need
+    requires acts { ActsForSome window.old }
+    requires room { HasRoom window.old }
+    ensures answers { (s : State) → Acts window.old s → Answers window.old window.new result (wants window.old.config block s) }
+    ensures room { HasRoom window.new }
 {
-    make_room(machine);
-    machine.asked = Some(block);
+    make_room(window);
+    window.asked = Some(block);
     Need::Buffer(block)
 }
 
@@ -110,16 +110,16 @@ pub(crate) fn find(slots: &[Slot], block: u64) -> Option<usize>
 }
 
 /// The lowest block that packets may have, or None where block ids are used up.
-fn bound(machine: &Machine) -> Option<u64>
-    ensures { (s : State) → Acts machine.now s → floor_of result ≡ bound machine.now.config s }
+fn bound(window: &Window) -> Option<u64>
+    ensures { (s : State) → Acts window.now s → floor_of result ≡ bound window.now.config s }
 {
-    if machine.slots.is_empty() {
-        return machine.floor;
+    if window.slots.is_empty() {
+        return window.floor;
     }
-    if machine.slots.len() < usize::from(machine.config.window) {
-        return machine.floor;
+    if window.slots.len() < usize::from(window.config.window) {
+        return window.floor;
     }
-    Some(machine.slots[0].block)
+    Some(window.slots[0].block)
 }
 
 /// Whether the block lies below the bound.
@@ -133,35 +133,35 @@ fn is_late(bound: Option<u64>, block: u64) -> bool
 }
 
 /// A packet of the open block whose slot stands at this place.
-fn hear_open(machine: &mut Machine, at: usize, packet: &Packet<'_>) -> Need
-    requires acts { ActsForSome machine.old }
-    requires room { HasRoom machine.old }
+fn hear_open(window: &mut Window, at: usize, packet: &Packet<'_>) -> Need
+    requires acts { ActsForSome window.old }
+    requires room { HasRoom window.old }
     requires read { IsRead (view packet.now) }
-    requires found { position (λ x. x.block == (head_of (view packet.now)).block) machine.old.slots.items ≡ Some at }
-    ensures answers { (s : State) (o : Open) → Acts machine.old s → IsSound machine.old.config s
+    requires found { position (λ x. x.block == (head_of (view packet.now)).block) window.old.slots.items ≡ Some at }
+    ensures answers { (s : State) (o : Open) → Acts window.old s → IsSound window.old.config s
         → open_at (head_of (view packet.now)).block s.opens ≡ Some o
-        → Answers machine.old machine.new result (hears_packet machine.old.config (view packet.now) (Some o) s) }
-    ensures room { HasRoom machine.new }
+        → Answers window.old window.new result (hears_packet window.old.config (view packet.now) (Some o) s) }
+    ensures room { HasRoom window.new }
 {
-    let need = take_at(machine, at, packet);
-    answer(machine, need)
+    let need = tell_at(window, at, packet);
+    answer(window, need)
 }
 
 /// A packet of a block that isn't open.
-fn hear_new(machine: &mut Machine, packet: &Packet<'_>) -> Need
-    requires acts { ActsForSome machine.old }
-    requires room { HasRoom machine.old }
-    ensures answers { (s : State) → Acts machine.old s
-        → Answers machine.old machine.new result (hears_packet machine.old.config (view packet.now) None s) }
-    ensures room { HasRoom machine.new }
+fn hear_new(window: &mut Window, packet: &Packet<'_>) -> Need
+    requires acts { ActsForSome window.old }
+    requires room { HasRoom window.old }
+    ensures answers { (s : State) → Acts window.old s
+        → Answers window.old window.new result (hears_packet window.old.config (view packet.now) None s) }
+    ensures room { HasRoom window.new }
 {
     if packet.is_notice() {
-        return ignore(machine, Why::Notice);
+        return ignore(window, Why::Notice);
     }
-    if !does_fit(machine.config.p, packet) {
-        return ignore(machine, Why::Misfit);
+    if !does_fit(window.config.p, packet) {
+        return ignore(window, Why::Misfit);
     }
-    want(machine, packet.head().block)
+    want(window, packet.head().block)
 }
 
 /// Why a packet below this bound is ignored.
@@ -172,48 +172,48 @@ fn late(bound: Option<u64>) -> Why
 }
 
 /// A packet at or above the bound.
-fn hear_packet(machine: &mut Machine, packet: &Packet<'_>) -> Need
-    requires acts { ActsForSome machine.old }
-    requires room { HasRoom machine.old }
+fn hear_packet(window: &mut Window, packet: &Packet<'_>) -> Need
+    requires acts { ActsForSome window.old }
+    requires room { HasRoom window.old }
     requires read { IsRead (view packet.now) }
-    ensures answers { (s : State) → Acts machine.old s → IsSound machine.old.config s
-        → Answers machine.old machine.new result
-        (hears_packet machine.old.config (view packet.now) (open_at (head_of (view packet.now)).block s.opens) s) }
-    ensures room { HasRoom machine.new }
+    ensures answers { (s : State) → Acts window.old s → IsSound window.old.config s
+        → Answers window.old window.new result
+        (hears_packet window.old.config (view packet.now) (open_at (head_of (view packet.now)).block s.opens) s) }
+    ensures room { HasRoom window.new }
 {
-    match find(machine.slots.as_slice(), packet.head().block) {
-        Some(at) => hear_open(machine, at, packet),
-        None => hear_new(machine, packet),
+    match find(window.slots.as_slice(), packet.head().block) {
+        Some(at) => hear_open(window, at, packet),
+        None => hear_new(window, packet),
     }
 }
 
 /// A packet of the stream.
-fn listen(machine: &mut Machine, packet: &Packet<'_>) -> Need
-    requires acts { ActsForSome machine.old }
-    requires room { HasRoom machine.old }
+fn listen(window: &mut Window, packet: &Packet<'_>) -> Need
+    requires acts { ActsForSome window.old }
+    requires room { HasRoom window.old }
     requires read { IsRead (view packet.now) }
-    ensures answers { (s : State) → Acts machine.old s → IsSound machine.old.config s
-        → Answers machine.old machine.new result (hears machine.old.config (Ok (view packet.now)) s) }
-    ensures room { HasRoom machine.new }
+    ensures answers { (s : State) → Acts window.old s → IsSound window.old.config s
+        → Answers window.old window.new result (hears window.old.config (Ok (view packet.now)) s) }
+    ensures room { HasRoom window.new }
 {
-    let bound = bound(machine);
+    let bound = bound(window);
     if is_late(bound, packet.head().block) {
-        return ignore(machine, late(bound));
+        return ignore(window, late(bound));
     }
-    hear_packet(machine, packet)
+    hear_packet(window, packet)
 }
 
 /// A datagram.
-pub(crate) fn hear(machine: &mut Machine, bytes: &[u8]) -> Need
-    requires acts { ActsForSome machine.old }
-    requires room { HasRoom machine.old }
-    ensures answers { (s : State) → Acts machine.old s → IsSound machine.old.config s
-        → Answers machine.old machine.new result (step machine.old.config s (datagram bytes.now)) }
-    ensures room { HasRoom machine.new }
+pub(crate) fn hear(window: &mut Window, bytes: &[u8]) -> Need
+    requires acts { ActsForSome window.old }
+    requires room { HasRoom window.old }
+    ensures answers { (s : State) → Acts window.old s → IsSound window.old.config s
+        → Answers window.old window.new result (step window.old.config s (datagram bytes.now)) }
+    ensures room { HasRoom window.new }
 {
-    machine.asked = None;
+    window.asked = None;
     match parse(bytes) {
-        Ok(packet) => listen(machine, &packet),
-        Err(error) => ignore(machine, Why::Foreign(error)),
+        Ok(packet) => listen(window, &packet),
+        Err(error) => ignore(window, Why::Foreign(error)),
     }
 }

@@ -15,7 +15,7 @@ mod ending; // which blocks that retire are told
 mod giving; // a claimed buffer, or none, opens a block
 mod hearing; // what a datagram makes of the state
 mod laws; // laws of the definitions, as contracts
-mod machine; // the receiver's state
+mod window; // the receiver's state
 mod making; // a new receiver, with all its memory
 mod retiring; // blocks retire, the lowest first
 mod rounds; // a moment: old blocks retire, others ask

@@ -6,8 +6,8 @@ ghost use Rattle.std.specs.Vec.{vec_len, vec_capacity};
 ghost use Rattle.acquisition_machine.specs.Runs.{first_state};
 ghost use Rattle.acq_core.specs.Standing.{IsWide, IsConfig, Acts, HasRoom};
 
-use crate::machine::Machine;
 use crate::slot::Spare;
+use crate::window::Window;
 use acquisition_machine::{AcqConfig, Counts};
 use block_assembly::PACKET_IDS;
 use gev_types::NoMemory;
@@ -38,7 +38,7 @@ fn pairs(alloc: Global, window: u8) -> Result<Vec<Spare>, NoMemory>
 }
 
 /// The first state: no block is open, and the first may be block 1.
-pub(crate) fn start(alloc: Global, config: AcqConfig) -> Result<Machine, NoMemory>
+pub(crate) fn start(alloc: Global, config: AcqConfig) -> Result<Window, NoMemory>
     requires { IsConfig config }
     ensures config { IfOk result (λ m. m.config ≡ config) }
     ensures acts { IfOk result (λ m. Acts m first_state) }
@@ -49,7 +49,7 @@ pub(crate) fn start(alloc: Global, config: AcqConfig) -> Result<Machine, NoMemor
     ensures requests { IfOk result (λ m. m.requests.items ≡ []) }
 {
     let window = usize::from(config.window);
-    Ok(Machine {
+    Ok(Window {
         config,
         moment: 0,
         floor: Some(1),

@@ -11,91 +11,91 @@ ghost use Rattle.acq_core.specs.Retiring.{ChangesSlots, RetiresFirst, RetiresAll
 
 use crate::ended::Cause;
 use crate::ending::tell;
-use crate::machine::Machine;
 use crate::slots::{due_cause, release};
+use crate::window::Window;
 
 /// The lowest block retires.
-pub(crate) fn retire_first(machine: &mut Machine, cause: Cause)
-    requires some { 0 < vec_len machine.old.slots }
-    requires slots { AreSlots machine.old }
-    requires room { HasRoom machine.old }
-    ensures retires { (o : Open) (os : List Open) → SlotsStand machine.old.config.p machine.old.slots.items (o ∷ os)
-        → RetiresFirst machine.old machine.new cause o os }
-    ensures changes { ChangesSlots machine.old machine.new }
-    ensures fewer { vec_len machine.new.slots < vec_len machine.old.slots }
-    ensures room { HasRoom machine.new }
+pub(crate) fn retire_first(window: &mut Window, cause: Cause)
+    requires some { 0 < vec_len window.old.slots }
+    requires slots { AreSlots window.old }
+    requires room { HasRoom window.old }
+    ensures retires { (o : Open) (os : List Open) → SlotsStand window.old.config.p window.old.slots.items (o ∷ os)
+        → RetiresFirst window.old window.new cause o os }
+    ensures changes { ChangesSlots window.old window.new }
+    ensures fewer { vec_len window.new.slots < vec_len window.old.slots }
+    ensures room { HasRoom window.new }
 {
-    let slot = machine.slots.remove(0);
-    tell(machine, &slot, cause);
-    machine.floor = slot.block.checked_add(1);
+    let slot = window.slots.remove(0);
+    tell(window, &slot, cause);
+    window.floor = slot.block.checked_add(1);
     release(
         slot.hold,
-        machine.config.p,
-        &mut machine.fills,
-        &mut machine.spare,
+        window.config.p,
+        &mut window.fills,
+        &mut window.spare,
     );
 }
 
 /// Why the lowest block has to retire, if it has.
-fn first_due(machine: &Machine) -> Option<Cause>
-    requires { AreSlots machine.now }
-    ensures none { vec_len machine.now.slots ≡ 0 → result ≡ None }
-    ensures some { IsSome result → 0 < vec_len machine.now.slots }
-    ensures due { (o : Open) (os : List Open) → SlotsStand machine.now.config.p machine.now.slots.items (o ∷ os)
-        → result ≡ cause_if (due machine.now.config machine.now.moment o) }
+fn first_due(window: &Window) -> Option<Cause>
+    requires { AreSlots window.now }
+    ensures none { vec_len window.now.slots ≡ 0 → result ≡ None }
+    ensures some { IsSome result → 0 < vec_len window.now.slots }
+    ensures due { (o : Open) (os : List Open) → SlotsStand window.now.config.p window.now.slots.items (o ∷ os)
+        → result ≡ cause_if (due window.now.config window.now.moment o) }
 {
-    if machine.slots.is_empty() {
+    if window.slots.is_empty() {
         return None;
     }
-    due_cause(&machine.slots[0], machine.config, machine.moment)
+    due_cause(&window.slots[0], window.config, window.moment)
 }
 
 /// The lowest block retires, and the next, as long as each is complete or old.
-pub(crate) fn settle(machine: &mut Machine)
-    requires slots { AreSlots machine.old }
-    requires room { HasRoom machine.old }
-    ensures retires { (os : List Open) → SlotsStand machine.old.config.p machine.old.slots.items os
-        → RetiresAll machine.old machine.new
-        (leaving machine.old.config machine.old.moment os) (staying machine.old.config machine.old.moment os) }
-    ensures changes { ChangesSlots machine.old machine.new }
-    ensures room { HasRoom machine.new }
+pub(crate) fn settle(window: &mut Window)
+    requires slots { AreSlots window.old }
+    requires room { HasRoom window.old }
+    ensures retires { (os : List Open) → SlotsStand window.old.config.p window.old.slots.items os
+        → RetiresAll window.old window.new
+        (leaving window.old.config window.old.moment os) (staying window.old.config window.old.moment os) }
+    ensures changes { ChangesSlots window.old window.new }
+    ensures room { HasRoom window.new }
 {
-    while let Some(cause) = first_due(machine) {
-        retire_first(machine, cause);
+    while let Some(cause) = first_due(window) {
+        retire_first(window, cause);
     }
 }
 
 /// All blocks retire, the lowest first.
-fn retire_all(machine: &mut Machine)
-    requires slots { AreSlots machine.old }
-    requires room { HasRoom machine.old }
-    ensures retires { (os : List Open) → SlotsStand machine.old.config.p machine.old.slots.items os
-        → RetiresAll machine.old machine.new (all_stopped os) [] }
-    ensures changes { ChangesSlots machine.old machine.new }
-    ensures room { HasRoom machine.new }
+fn retire_all(window: &mut Window)
+    requires slots { AreSlots window.old }
+    requires room { HasRoom window.old }
+    ensures retires { (os : List Open) → SlotsStand window.old.config.p window.old.slots.items os
+        → RetiresAll window.old window.new (all_stopped os) [] }
+    ensures changes { ChangesSlots window.old window.new }
+    ensures room { HasRoom window.new }
 {
-    while !machine.slots.is_empty() {
-        retire_first(machine, Cause::Stopped);
+    while !window.slots.is_empty() {
+        retire_first(window, Cause::Stopped);
     }
 }
 
 /// The stream stops: all blocks retire as they are.
-pub(crate) fn stop(machine: &mut Machine)
-    requires slots { AreSlots machine.old }
-    requires room { HasRoom machine.old }
-    ensures gives { (s : State) → Acts machine.old s → Gives machine.old machine.new (step machine.old.config s stopped_input) }
-    ensures room { HasRoom machine.new }
+pub(crate) fn stop(window: &mut Window)
+    requires slots { AreSlots window.old }
+    requires room { HasRoom window.old }
+    ensures gives { (s : State) → Acts window.old s → Gives window.old window.new (step window.old.config s stopped_input) }
+    ensures room { HasRoom window.new }
 {
-    machine.asked = None;
-    retire_all(machine);
+    window.asked = None;
+    retire_all(window);
 }
 
 /// Block ids begin again.
-pub(crate) fn restart(machine: &mut Machine)
-    requires { HasRoom machine.old }
-    ensures gives { (s : State) → Acts machine.old s → Gives machine.old machine.new (step machine.old.config s restarted_input) }
-    ensures room { HasRoom machine.new }
+pub(crate) fn restart(window: &mut Window)
+    requires { HasRoom window.old }
+    ensures gives { (s : State) → Acts window.old s → Gives window.old window.new (step window.old.config s restarted_input) }
+    ensures room { HasRoom window.new }
 {
-    machine.asked = None;
-    machine.floor = Some(1);
+    window.asked = None;
+    window.floor = Some(1);
 }

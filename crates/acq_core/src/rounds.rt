@@ -11,9 +11,9 @@ ghost use Rattle.acq_core.specs.Turning.{Gives};
 use crate::asked::Asked;
 use crate::asking::{Ranges, ranges};
 use crate::counting::next;
-use crate::machine::Machine;
 use crate::retiring::settle;
 use crate::slot::Slot;
+use crate::window::Window;
 use acquisition_machine::AcqConfig;
 use arrayvec::ArrayVec;
 use gvcp_aux::Resend;
@@ -78,40 +78,40 @@ fn ask(
 }
 
 /// Each block's round, the lowest first.
-fn ask_all(machine: &mut Machine)
-    requires slots { AreSlots machine.old }
-    requires room { HasRoom machine.old }
-    requires drained { vec_len machine.old.requests ≡ 0 }
-    ensures asks { (os : List Open) → SlotsStand machine.old.config.p machine.old.slots.items os → AsksAll machine.old machine.new os }
-    ensures rest { machine.new ≡ record machine.old { slots = machine.new.slots; number = machine.new.number; requests = machine.new.requests } }
-    ensures room { HasRoom machine.new }
+fn ask_all(window: &mut Window)
+    requires slots { AreSlots window.old }
+    requires room { HasRoom window.old }
+    requires drained { vec_len window.old.requests ≡ 0 }
+    ensures asks { (os : List Open) → SlotsStand window.old.config.p window.old.slots.items os → AsksAll window.old window.new os }
+    ensures rest { window.new ≡ record window.old { slots = window.new.slots; number = window.new.number; requests = window.new.requests } }
+    ensures room { HasRoom window.new }
 {
     let mut at = 0;
-    while at < machine.slots.as_slice().len() {
-        let number = machine.number;
-        machine.number = ask(
-            &mut machine.slots[at],
-            machine.config,
-            machine.moment,
+    while at < window.slots.as_slice().len() {
+        let number = window.number;
+        window.number = ask(
+            &mut window.slots[at],
+            window.config,
+            window.moment,
             number,
-            &mut machine.requests,
+            &mut window.requests,
         );
         at += 1;
     }
 }
 
 /// The moment, if it is later than what was told before.
-pub(crate) fn tick(machine: &mut Machine, moment: u64)
-    requires acts { ActsForSome machine.old }
-    requires room { HasRoom machine.old }
-    requires drained { vec_len machine.old.requests ≡ 0 }
-    ensures gives { (s : State) → Acts machine.old s → Gives machine.old machine.new (step machine.old.config s (moment_input moment)) }
-    ensures room { HasRoom machine.new }
+pub(crate) fn tick(window: &mut Window, moment: u64)
+    requires acts { ActsForSome window.old }
+    requires room { HasRoom window.old }
+    requires drained { vec_len window.old.requests ≡ 0 }
+    ensures gives { (s : State) → Acts window.old s → Gives window.old window.new (step window.old.config s (moment_input moment)) }
+    ensures room { HasRoom window.new }
 {
-    machine.asked = None;
-    machine.moment = machine.moment.max(moment);
-    settle(machine);
-    ask_all(machine);
-    let made = machine.requests.len() as u64;
-    machine.counts.requests = machine.counts.requests.saturating_add(made);
+    window.asked = None;
+    window.moment = window.moment.max(moment);
+    settle(window);
+    ask_all(window);
+    let made = window.requests.len() as u64;
+    window.counts.requests = window.counts.requests.saturating_add(made);
 }

@@ -92,7 +92,7 @@ fn need(verdict: Verdict) -> Need
 }
 
 /// The packet came for the slot's block; gives the answer to it.
-fn hear(slot: &mut Slot, p: u32, packet: &Packet<'_>) -> Need
+fn told(slot: &mut Slot, p: u32, packet: &Packet<'_>) -> Need
     requires stands { IsSlot p slot.old }
     requires read { IsRead (view packet.now) }
     requires of_block { (head_of (view packet.now)).block ≡ slot.old.block }
@@ -106,14 +106,14 @@ fn hear(slot: &mut Slot, p: u32, packet: &Packet<'_>) -> Need
 }
 
 /// Takes a packet of the slot's block at this moment, and answers it.
-pub(crate) fn take(slot: &mut Slot, p: u32, packet: &Packet<'_>, moment: u64) -> Need
+pub(crate) fn told_at(slot: &mut Slot, p: u32, packet: &Packet<'_>, moment: u64) -> Need
     requires stands { IsSlot p slot.old }
     requires read { IsRead (view packet.now) }
     requires of_block { (head_of (view packet.now)).block ≡ slot.old.block }
     ensures need { (o : Open) → SlotStands p slot.old o → result ≡ need_in p o (view packet.now) }
     ensures stands { (o : Open) → SlotStands p slot.old o → SlotStands p slot.new (heard_in moment p o (view packet.now)) }
 {
-    let need = hear(slot, p, packet);
+    let need = told(slot, p, packet);
     if need == Need::Done {
         slot.last = moment;
     }

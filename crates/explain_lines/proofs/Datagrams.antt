@@ -22,7 +22,7 @@ use Rattle.acquisition_machine.specs.Runs.{After as StateAfter}
 use Rattle.acquisition_machine.specs.TurnLaws.{asked_by}
 use Rattle.acquisition_machine.proofs.Joining.{after_from-append}
 use Rattle.acquisition_machine.proofs.Counting.{claims_follow_buffer}
-use Rattle.acq_core.specs.declared.machine.Machine.{Machine}
+use Rattle.acq_core.specs.declared.window.Window.{Window}
 use Rattle.acq_core.specs.Ending.{ends_of}
 use Rattle.acq_core.specs.Standing.{IsConfig}
 use Rattle.acq_core.specs.Receiver.{config_of, is_telling, asked_block, Stands, Takes, KeepsBlocks}
@@ -54,13 +54,13 @@ use Rattle.explain_lines.proofs.Tapes.{tells_both, tells_as}
 
 -- ---- an input
 
-pub gives_by : (m mid : Machine) (i : Input) (q : List Input) → is_telling m ≡ true → waiting_fills m ≡ [] → Takes m mid i → Stands m q → Gives (config_of m) (StateAfter (config_of m) q).floor (turn (config_of m) q i).retired mid
+pub gives_by : (m mid : Window) (i : Input) (q : List Input) → is_telling m ≡ true → waiting_fills m ≡ [] → Takes m mid i → Stands m q → Gives (config_of m) (StateAfter (config_of m) q).floor (turn (config_of m) q i).retired mid
 gives_by m mid i q telling none takes stands = record {
   ends = takes.ends q stands ∙ ap (λ t. ends_of t (config_of m).p (StateAfter (config_of m) q).floor (turn (config_of m) q i).retired) telling;
   fills = takes.fills q stands ∙ ap (λ xs. xs ++ fills (config_of m).p (turn (config_of m) q i).retired) none;
 }
 
-pub gives_some : (m mid : Machine) (i : Input) (q : List Input) → is_telling m ≡ true → waiting_fills m ≡ [] → Takes m mid i → Stands m q → GivesSome mid
+pub gives_some : (m mid : Window) (i : Input) (q : List Input) → is_telling m ≡ true → waiting_fills m ≡ [] → Takes m mid i → Stands m q → GivesSome mid
 gives_some m mid i q telling none takes stands = record {
   config = config_of m;
   floor = (StateAfter (config_of m) q).floor;
@@ -68,7 +68,7 @@ gives_some m mid i q telling none takes stands = record {
   gives = gives_by m mid i q telling none takes stands;
 }
 
-pub retires_by : (mode : Mode) (i : Input) (s new : PlainState) (m mid n : Machine) (a b : FillCounts) (tape after : List Told) → is_telling m ≡ true → waiting_fills m ≡ [] → Takes m mid i → KeepsBlocks mid n → TellsAll mode mid s a tape new b after
+pub retires_by : (mode : Mode) (i : Input) (s new : PlainState) (m mid n : Window) (a b : FillCounts) (tape after : List Told) → is_telling m ≡ true → waiting_fills m ≡ [] → Takes m mid i → KeepsBlocks mid n → TellsAll mode mid s a tape new b after
     → Retires mode i s m a tape new n b after
 retires_by mode i s new m mid n a b tape after telling none takes keeps all = record {
   settled = record { retired = waiting_fills mid; turned = turned m mid n i takes keeps none; all = all.all };
@@ -95,10 +95,10 @@ claimed_notes b now block (Some g) way = ap (λ ns. ns ++ opens block (Some (buf
 
 -- ---- a datagram that wants no buffer
 
-behind_marks : (t : Trace) (s : PlainState) (m : Machine) → IsBehindTrace t s m → KeepsMarks (board_of t) s.board
+behind_marks : (t : Trace) (s : PlainState) (m : Window) → IsBehindTrace t s m → KeepsMarks (board_of t) s.board
 behind_marks t s m behind = marks_as (board_of t) s.board behind.board.board.state
 
-heard_once : (mode : Mode) (s new : PlainState) (m n : Machine) (a b : FillCounts) (bytes : List ℕ) (tape after : List Told) (need : Need) (told : SettlesTold mode bytes s m a tape need new n b after) (t : Trace) → IsBehindTrace t s m
+heard_once : (mode : Mode) (s new : PlainState) (m n : Window) (a b : FillCounts) (bytes : List ℕ) (tape after : List Told) (need : Need) (told : SettlesTold mode bytes s m a tape need new n b after) (t : Trace) → IsBehindTrace t s m
     → TellsPart (config_of m) tape after t (tells t [] (datagram bytes) told.retires.settled.all.events [])
 heard_once mode s new m n a b bytes tape after need told t behind =
     let c : AcqConfig = config_of m in
@@ -113,7 +113,7 @@ heard_once mode s new m n a b bytes tape after need told t behind =
     (tells_both tape told.mid after (need_notes (packet_of bytes) (Some need)) (retired_notes c (board_of t) (gone ++ []) floor rs) told.named
     (told.retires.told t.inputs behind.inputs (board_of t) (behind_marks t s m behind) []))
 
-pub hear_once : (mode : Mode) (s new : PlainState) (m n : Machine) (a b : FillCounts) (bytes : List ℕ) (tape after : List Told) (need : Need) → SettlesTold mode bytes s m a tape need new n b after → asked_by (Some need) ≡ None
+pub hear_once : (mode : Mode) (s new : PlainState) (m n : Window) (a b : FillCounts) (bytes : List ℕ) (tape after : List Told) (need : Need) → SettlesTold mode bytes s m a tape need new n b after → asked_by (Some need) ≡ None
     → Drives (λ t part. HearsIn (config_of m) mode bytes t part × TellsPart (config_of m) tape after t part) 0 s m a [] new n b
 hear_once mode s new m n a b bytes tape after need told none t behind =
     hears_with mode s new m n a b bytes need told.retires.settled told.need_is none (TellsPart (config_of m) tape after) t behind (heard_once mode s new m n a b bytes tape after need told t behind)
@@ -156,7 +156,7 @@ three_drops mode h s mid one get two first last claim xs stands dropped mid_stan
 acts_behind : (b new : Board) (h : List Entry) (es : List Event) → b ≡ After h → Adds b acquirer es new → new ≡ After (h ++ entries_of acquirer es)
 acts_behind b new h es stands adds = adds.after ∙ ap (λ (c : Board). after_from c (entries_of acquirer es)) stands ∙ sym (after-append _ h (entries_of acquirer es))
 
-heard_twice : (mode : Mode) (s given_up given new : PlainState) (m first held n : Machine) (a b k d : FillCounts) (bytes : List ℕ) (block : ℕ) (got : Option Got) (tape one_tape two_tape after : List Told) (need : Need)
+heard_twice : (mode : Mode) (s given_up given new : PlainState) (m first held n : Window) (a b k d : FillCounts) (bytes : List ℕ) (block : ℕ) (got : Option Got) (tape one_tape two_tape after : List Told) (need : Need)
     (settled : SettlesTold mode bytes s m a tape (Buffer block) given_up first b one_tape) (claims : Claims mode given_up first b given held k) → claims.claim ≡ claim_of got → GaveWayFor given_up.board.out got
     → ((before : Board) → KeepsMarks before given.board → Tells one_tape two_tape (claim_notes before block got))
     → (again : SettlesTold mode bytes given held k two_tape need new n d after) → (t : Trace) → IsBehindTrace t s m
@@ -286,7 +286,7 @@ heard_twice mode s given_up given new m first held n a b k d bytes block got tap
         (tells_both two_tape again.mid after (need_notes (packet_of bytes) (Some need)) (retired_notes (config_of held) b_start rest (StateAfter (config_of held) inputs).floor (turn (config_of held) inputs dg).retired) again.named
         (again.retires.told inputs held_stands b_start marks_three []))
 
-pub hear_twice : (mode : Mode) (s given_up given new : PlainState) (m first held n : Machine) (a b k d : FillCounts) (bytes : List ℕ) (block : ℕ) (got : Option Got) (tape one_tape two_tape after : List Told) (need : Need)
+pub hear_twice : (mode : Mode) (s given_up given new : PlainState) (m first held n : Window) (a b k d : FillCounts) (bytes : List ℕ) (block : ℕ) (got : Option Got) (tape one_tape two_tape after : List Told) (need : Need)
     → SettlesTold mode bytes s m a tape (Buffer block) given_up first b one_tape → TellsClaim got mode given_up first b given held k
     → ((before : Board) → KeepsMarks before given.board → Tells one_tape two_tape (claim_notes before block got))
     → SettlesTold mode bytes given held k two_tape need new n d after
@@ -297,11 +297,11 @@ hear_twice mode s given_up given new m first held n a b k d bytes block got tape
 
 -- ---- at rest
 
-pub hear_rests_once : (mode : Mode) (s new : PlainState) (m n : Machine) (a b : FillCounts) (bytes : List ℕ) (tape after : List Told) (need : Need) → IsAtRest s m → SettlesTold mode bytes s m a tape need new n b after → asked_by (Some need) ≡ None → IsAtRest new n
+pub hear_rests_once : (mode : Mode) (s new : PlainState) (m n : Window) (a b : FillCounts) (bytes : List ℕ) (tape after : List Told) (need : Need) → IsAtRest s m → SettlesTold mode bytes s m a tape need new n b after → asked_by (Some need) ≡ None → IsAtRest new n
 hear_rests_once mode s new m n a b bytes tape after need rest told none =
     hear_rests s new m n bytes rest told.retires.settled told.ready told.no_fill told.no_request (told.asked ∙ none) told.away
 
-pub hear_rests_twice : (mode : Mode) (s given_up given new : PlainState) (m first held n : Machine) (a b k d : FillCounts) (bytes : List ℕ) (block : ℕ) (tape one_tape two_tape after : List Told) (need : Need) → IsAtRest s m
+pub hear_rests_twice : (mode : Mode) (s given_up given new : PlainState) (m first held n : Window) (a b k d : FillCounts) (bytes : List ℕ) (block : ℕ) (tape one_tape two_tape after : List Told) (need : Need) → IsAtRest s m
     → SettlesTold mode bytes s m a tape (Buffer block) given_up first b one_tape → Claims mode given_up first b given held k
     → SettlesTold mode bytes given held k two_tape need new n d after → IsAtRest new n
 hear_rests_twice mode s given_up given new m first held n a b k d bytes block tape one_tape two_tape after need rest settled claims again =
@@ -311,7 +311,7 @@ hear_rests_twice mode s given_up given new m first held n a b k d bytes block ta
 
 -- ---- before the ends are told
 
-pub rest_kept : (s : PlainState) (m n : Machine) → IsAtRest s m → KeepsBlocks m n → waiting_fills n ≡ waiting_fills m → waiting_requests n ≡ waiting_requests m → IsAtRest s n
+pub rest_kept : (s : PlainState) (m n : Window) → IsAtRest s m → KeepsBlocks m n → waiting_fills n ≡ waiting_fills m → waiting_requests n ≡ waiting_requests m → IsAtRest s n
 rest_kept s m n rest keeps fills_same requests_same = record {
   ready = rest.ready;
   config = subst IsConfig (sym keeps.config) rest.config;
@@ -323,13 +323,13 @@ rest_kept s m n rest keeps fills_same requests_same = record {
   away = subst (λ (gs : List Given). AreAway s gs) (sym keeps.buffers) rest.away;
 }
 
-pub drives_kept : (Line : AcqConfig → Trace → Part → Type 0) (said : List ℕ) (s new : PlainState) (m n last : Machine) (a b : FillCounts) → KeepsBlocks m n → Drives (Line (config_of n)) 0 s n a said new last b → Drives (Line (config_of m)) 0 s m a said new last b
+pub drives_kept : (Line : AcqConfig → Trace → Part → Type 0) (said : List ℕ) (s new : PlainState) (m n last : Window) (a b : FillCounts) → KeepsBlocks m n → Drives (Line (config_of n)) 0 s n a said new last b → Drives (Line (config_of m)) 0 s m a said new last b
 drives_kept Line said s new m n last a b keeps drives t behind =
     subst (λ (c : AcqConfig). DrivesAt (Line c) 0 a said new last b t) keeps.config (drives t (record { board = behind.board; inputs = keeps.stands t.inputs behind.inputs }))
 
 -- ---- by the answer
 
-pub drives_twice : (mode : Mode) (s given_up given new : PlainState) (m telling first held n : Machine) (a b k d : FillCounts) (bytes : List ℕ) (wants : Need) (block : ℕ) (got : Option Got) (tape one_tape two_tape after : List Told) (need : Need) → KeepsBlocks m telling
+pub drives_twice : (mode : Mode) (s given_up given new : PlainState) (m telling first held n : Window) (a b k d : FillCounts) (bytes : List ℕ) (wants : Need) (block : ℕ) (got : Option Got) (tape one_tape two_tape after : List Told) (need : Need) → KeepsBlocks m telling
     → wants ≡ Buffer block → SettlesTold mode bytes s telling a tape wants given_up first b one_tape → TellsClaim got mode given_up first b given held k
     → ((before : Board) → KeepsMarks before given.board → Tells one_tape two_tape (claim_notes before block got))
     → SettlesTold mode bytes given held k two_tape need new n d after
@@ -338,28 +338,28 @@ drives_twice mode s given_up given new m telling first held n a b k d bytes want
     drives_kept (λ c t part. HearsIn c mode bytes t part × TellsPart c tape after t part) [] s new m telling n a d begun
     (hear_twice mode s given_up given new telling first held n a b k d bytes block got tape one_tape two_tape after need (subst (λ (x : Need). SettlesTold mode bytes s telling a tape x given_up first b one_tape) is settled) claim told again)
 
-pub rests_twice : (mode : Mode) (s given_up given new : PlainState) (m telling first held n : Machine) (a b k d : FillCounts) (bytes : List ℕ) (wants : Need) (block : ℕ) (tape one_tape two_tape after : List Told) (need : Need) → IsAtRest s m → KeepsBlocks m telling → waiting_fills telling ≡ waiting_fills m → waiting_requests telling ≡ waiting_requests m
+pub rests_twice : (mode : Mode) (s given_up given new : PlainState) (m telling first held n : Window) (a b k d : FillCounts) (bytes : List ℕ) (wants : Need) (block : ℕ) (tape one_tape two_tape after : List Told) (need : Need) → IsAtRest s m → KeepsBlocks m telling → waiting_fills telling ≡ waiting_fills m → waiting_requests telling ≡ waiting_requests m
     → wants ≡ Buffer block → SettlesTold mode bytes s telling a tape wants given_up first b one_tape → Claims mode given_up first b given held k
     → SettlesTold mode bytes given held k two_tape need new n d after → IsAtRest new n
 rests_twice mode s given_up given new m telling first held n a b k d bytes wants block tape one_tape two_tape after need rest begun fills_same requests_same is settled claims again =
     hear_rests_twice mode s given_up given new telling first held n a b k d bytes block tape one_tape two_tape after need (rest_kept s m telling rest begun fills_same requests_same)
     (subst (λ (x : Need). SettlesTold mode bytes s telling a tape x given_up first b one_tape) is settled) claims again
 
-pub drives_once : (mode : Mode) (s new : PlainState) (m telling n : Machine) (a b : FillCounts) (bytes : List ℕ) (tape after : List Told) (need : Need) → KeepsBlocks m telling → SettlesTold mode bytes s telling a tape need new n b after → asked_by (Some need) ≡ None
+pub drives_once : (mode : Mode) (s new : PlainState) (m telling n : Window) (a b : FillCounts) (bytes : List ℕ) (tape after : List Told) (need : Need) → KeepsBlocks m telling → SettlesTold mode bytes s telling a tape need new n b after → asked_by (Some need) ≡ None
     → Drives (λ t part. HearsIn (config_of m) mode bytes t part × TellsPart (config_of m) tape after t part) 0 s m a [] new n b
 drives_once mode s new m telling n a b bytes tape after need begun told none =
     drives_kept (λ c t part. HearsIn c mode bytes t part × TellsPart c tape after t part) [] s new m telling n a b begun (hear_once mode s new telling n a b bytes tape after need told none)
 
-pub rests_once : (mode : Mode) (s new : PlainState) (m telling n : Machine) (a b : FillCounts) (bytes : List ℕ) (tape after : List Told) (need : Need) → IsAtRest s m → KeepsBlocks m telling → waiting_fills telling ≡ waiting_fills m → waiting_requests telling ≡ waiting_requests m
+pub rests_once : (mode : Mode) (s new : PlainState) (m telling n : Window) (a b : FillCounts) (bytes : List ℕ) (tape after : List Told) (need : Need) → IsAtRest s m → KeepsBlocks m telling → waiting_fills telling ≡ waiting_fills m → waiting_requests telling ≡ waiting_requests m
     → SettlesTold mode bytes s telling a tape need new n b after → asked_by (Some need) ≡ None → IsAtRest new n
 rests_once mode s new m telling n a b bytes tape after need rest begun fills_same requests_same told none =
     hear_rests_once mode s new telling n a b bytes tape after need (rest_kept s m telling rest begun fills_same requests_same) told none
 
-pub asks_some : (mode : Mode) (s new : PlainState) (m n : Machine) (a b : FillCounts) (bytes : List ℕ) (tape after : List Told) (need : Need) (block : ℕ) → SettlesTold mode bytes s m a tape need new n b after → need ≡ Buffer block → IsSome (asked_block n)
+pub asks_some : (mode : Mode) (s new : PlainState) (m n : Window) (a b : FillCounts) (bytes : List ℕ) (tape after : List Told) (need : Need) (block : ℕ) → SettlesTold mode bytes s m a tape need new n b after → need ≡ Buffer block → IsSome (asked_block n)
 asks_some mode s new m n a b bytes tape after need block told is = subst IsSome (sym (told.asked ∙ ap (λ (x : Need). asked_by (Some x)) is)) refl
 
 -- the receiver tells on behind a claim
-pub telling_again : (mode : Mode) (s given_up given : PlainState) (m telling first held : Machine) (a b k : FillCounts) (bytes : List ℕ) (tape after : List Told) (need : Need) → IsAtRest s m → KeepsBlocks m telling → SettlesTold mode bytes s telling a tape need given_up first b after
+pub telling_again : (mode : Mode) (s given_up given : PlainState) (m telling first held : Window) (a b k : FillCounts) (bytes : List ℕ) (tape after : List Told) (need : Need) → IsAtRest s m → KeepsBlocks m telling → SettlesTold mode bytes s telling a tape need given_up first b after
     → Claims mode given_up first b given held k → IsTelling held
 telling_again mode s given_up given m telling first held a b k bytes tape after need rest begun told claims = record {
   inputs = (rest.inputs ++ datagram bytes ∷ []) ++ claimed (outcome given_up.board (place_of claims.claim)) ∷ [];
@@ -367,5 +367,5 @@ telling_again mode s given_up given m telling first held a b k bytes tape after 
   telling = claims.takes.telling ∙ told.telling;
 }
 
-pub telling_first : (s : PlainState) (m telling : Machine) → IsAtRest s m → KeepsBlocks m telling → is_telling telling ≡ true → IsTelling telling
+pub telling_first : (s : PlainState) (m telling : Window) → IsAtRest s m → KeepsBlocks m telling → is_telling telling ≡ true → IsTelling telling
 telling_first s m telling rest begun now = record { inputs = rest.inputs; stands = begun.stands rest.inputs rest.stands; telling = now }

@@ -16,7 +16,7 @@ use Rattle.acquisition_machine.specs.declared.config.AcqConfig.{AcqConfig}
 use Rattle.acquisition_machine.specs.Machine.{Input, Request, request_bytes, tick}
 use Rattle.acquisition_machine.specs.Runs.{turn}
 use Rattle.acquisition_machine.specs.Runs.{After as StateAfter}
-use Rattle.acq_core.specs.declared.machine.Machine.{Machine}
+use Rattle.acq_core.specs.declared.window.Window.{Window}
 use Rattle.acq_core.specs.Receiver.{config_of, Stands}
 use Rattle.mode_calls.specs.declared.mode.Mode.{Mode}
 use Rattle.acquisition_notes.specs.Notes.{idle, unwidened}
@@ -48,14 +48,14 @@ use Rattle.explain_lines.proofs.Tapes.{tells_all_of}
 
 -- ---- a part
 
-abbrev driven : Running → PlainState → Machine → FillCounts → ℕ → Running
+abbrev driven : Running → PlainState → Window → FillCounts → ℕ → Running
 driven old new_board acq counts count = record old { board = new_board; acq = acq; counts = counts; idle = count }
 
 -- a line of this kind, and the tape stands for its notes
 abbrev Noted : AcqConfig → ScriptLine → (Trace → Part → Type 0) → List Told → Trace → Part → Type 0
 Noted c l Line tape t part = Line t part × AreNoted tape (part_notes c t l part)
 
-pub noted_goes : (l : ScriptLine) (Line : Trace → Part → Type 0) (count : ℕ) (old : Running) (said : List ℕ) (tape : List Told) (new_board : PlainState) (acq : Machine) (counts : FillCounts) → IsReplaying old
+pub noted_goes : (l : ScriptLine) (Line : Trace → Part → Type 0) (count : ℕ) (old : Running) (said : List ℕ) (tape : List Told) (new_board : PlainState) (acq : Window) (counts : FillCounts) → IsReplaying old
     → Drives (Noted (config_of old.acq) l Line tape) count old.board old.acq old.counts said new_board acq counts
     → ((t : Trace) (part : Part) → StandsAt old t → Line t part → Spells (config_of old.acq) t l part)
     → IsAtRest new_board acq → config_of acq ≡ config_of old.acq
@@ -80,7 +80,7 @@ part_told : (c : AcqConfig) (l : ScriptLine) (start tape : List Told) (t : Trace
 part_told c l start tape t part no_idle empty tells =
     subst (λ k. AreNoted tape (idle_notes l k ++ notes_from c (board t) (drops_in t part) (StateAfter c t.inputs) part.inputs)) (sym no_idle) (tells_all_of start tape _ empty tells)
 
-pub drives_noted : (l : ScriptLine) (Line : Trace → Part → Type 0) (c : AcqConfig) (s new : PlainState) (m n : Machine) (a b : FillCounts) (said : List ℕ) (start tape : List Told) → start ≡ []
+pub drives_noted : (l : ScriptLine) (Line : Trace → Part → Type 0) (c : AcqConfig) (s new : PlainState) (m n : Window) (a b : FillCounts) (said : List ℕ) (start tape : List Told) → start ≡ []
     → Drives (λ t part. Line t part × TellsPart c start tape t part) 0 s m a said new n b → Drives (Noted c l Line tape) 0 s m a said new n b
 drives_noted l Line c s new m n a b said start tape empty drives t behind =
     let did : DrivesAt (λ u part. Line u part × TellsPart c start tape u part) 0 a said new n b t = drives t behind in
@@ -100,7 +100,7 @@ drives_noted l Line c s new m n a b said start tape empty drives t behind =
     }
 
 -- a line that hangs on the mode of the trace
-pub told_goes : (l : ScriptLine) (Line : Trace → Part → Type 0) (old : Running) (said : List ℕ) (start tape : List Told) (new_board : PlainState) (acq : Machine) (counts : FillCounts) → IsReplaying old → start ≡ []
+pub told_goes : (l : ScriptLine) (Line : Trace → Part → Type 0) (old : Running) (said : List ℕ) (start tape : List Told) (new_board : PlainState) (acq : Window) (counts : FillCounts) → IsReplaying old → start ≡ []
     → Drives (λ t part. (t.mode ≡ old.mode → Line t part) × TellsPart (config_of old.acq) start tape t part) 0 old.board old.acq old.counts said new_board acq counts
     → ((t : Trace) (part : Part) → Line t part → Spells (config_of old.acq) t l part)
     → IsAtRest new_board acq → config_of acq ≡ config_of old.acq
@@ -142,7 +142,7 @@ stop_means : (w : Wide) (t : Trace) (flags : ℕ) → meaning w t (line.stop fla
 unfolding meaning
 stop_means w t flags = refl
 
-pub stop_tells : (flags : ℕ) (old : Script) (said : List ℕ) (start tape : List Told) (new_board : PlainState) (acq : Machine) (counts : FillCounts) → IsReplaying old.running → start ≡ []
+pub stop_tells : (flags : ℕ) (old : Script) (said : List ℕ) (start tape : List Told) (new_board : PlainState) (acq : Window) (counts : FillCounts) → IsReplaying old.running → start ≡ []
     → Drives (λ t part. StopsIn (config_of old.running.acq) old.running.mode flags t part × TellsPart (config_of old.running.acq) start tape t part) 0 old.running.board old.running.acq old.running.counts said new_board acq counts
     → IsAtRest new_board acq → config_of acq ≡ config_of old.running.acq
     → TellsLine (line.stop flags) old said tape (record old { running = record old.running { board = new_board; acq = acq; counts = counts } })
@@ -170,7 +170,7 @@ tick_says : (c : AcqConfig) (t : Trace) (moment : ℕ) (standard : Bool) (said t
 tick_says c t moment true said text commands is are plain = is ∙ ap (lines_by true) are ∙ standard_lines (turn c t.inputs (tick moment)).requests
 tick_says c t moment false said text commands is are plain = is ∙ plain ∙ sym (said_plain c t (line.tick moment) text)
 
-pub tick_tells : (moment : ℕ) (standard : Bool) (old : Script) (said : List ℕ) (commands : List (List ℕ)) (start tape : List Told) (new_board : PlainState) (acq : Machine) (counts : FillCounts) → IsReplaying old.running → start ≡ [] → standard ≡ old.widening.widened
+pub tick_tells : (moment : ℕ) (standard : Bool) (old : Script) (said : List ℕ) (commands : List (List ℕ)) (start tape : List Told) (new_board : PlainState) (acq : Window) (counts : FillCounts) → IsReplaying old.running → start ≡ [] → standard ≡ old.widening.widened
     → Drives (λ t part. (t.mode ≡ old.running.mode → TickLine (config_of old.running.acq) t moment part) × TellsPart (config_of old.running.acq) start tape t part) 0 old.running.board old.running.acq old.running.counts (lines_by false commands) new_board acq counts
     → IsAtRest new_board acq → config_of acq ≡ config_of old.running.acq → said ≡ lines_by standard commands
     → ((t : Trace) → IsBehindTrace t old.running.board old.running.acq → commands ≡ map request_bytes (turn (config_of old.running.acq) t.inputs (tick moment)).requests)
@@ -185,7 +185,7 @@ tick_tells moment standard old said commands start tape new_board acq counts kee
 
 -- ---- d
 
-running_noted : (c : AcqConfig) (mode : Mode) (s new : PlainState) (m n : Machine) (a b : FillCounts) (digits bytes : List ℕ) (start tape : List Told) → decode_of digits ≡ Ok bytes → s.board.run ≡ 1
+running_noted : (c : AcqConfig) (mode : Mode) (s new : PlainState) (m n : Window) (a b : FillCounts) (digits bytes : List ℕ) (start tape : List Told) → decode_of digits ≡ Ok bytes → s.board.run ≡ 1
     → Drives (λ t part. HearsIn c mode bytes t part × TellsPart c start tape t part) 0 s m a [] new n b
     → Drives (λ t part. (t.mode ≡ mode → DatagramLine c t digits part) × TellsPart c start tape t part) 0 s m a [] new n b
 running_noted c mode s new m n a b digits bytes start tape is running drives t behind =
@@ -206,7 +206,7 @@ running_noted c mode s new m n a b digits bytes start tape is running drives t b
       counted = heard.counted;
     }
 
-pub heard_goes : (old : Running) (digits bytes : List ℕ) (start tape : List Told) (new_board : PlainState) (acq : Machine) (counts : FillCounts) → IsReplaying old → start ≡ [] → old.board.board.run ≡ 1 → decode_of digits ≡ Ok bytes
+pub heard_goes : (old : Running) (digits bytes : List ℕ) (start tape : List Told) (new_board : PlainState) (acq : Window) (counts : FillCounts) → IsReplaying old → start ≡ [] → old.board.board.run ≡ 1 → decode_of digits ≡ Ok bytes
     → Drives (λ t part. HearsIn (config_of old.acq) old.mode bytes t part × TellsPart (config_of old.acq) start tape t part) 0 old.board old.acq old.counts [] new_board acq counts
     → IsAtRest new_board acq → config_of acq ≡ config_of old.acq → GoesTold (line.datagram digits) old [] tape (record old { board = new_board; acq = acq; counts = counts })
 heard_goes old digits bytes start tape new_board acq counts keeps empty running is drives rest config =
@@ -227,7 +227,7 @@ idle_noted c t digits bytes tape part count is long told one no_input =
         ∙ ap (λ r. idle (length_decoded r) ∷ []) is
         ∙ ap (λ k. idle k ∷ []) long
 
-idle_drives : (c : AcqConfig) (mode : Mode) (s : PlainState) (m : Machine) (a : FillCounts) (digits bytes : List ℕ) (tape : List Told) (count : ℕ) → decode_of digits ≡ Ok bytes → length bytes ≡ count → tape ≡ Idle count ∷ [] → s.board.run ≢ 1
+idle_drives : (c : AcqConfig) (mode : Mode) (s : PlainState) (m : Window) (a : FillCounts) (digits bytes : List ℕ) (tape : List Told) (count : ℕ) → decode_of digits ≡ Ok bytes → length bytes ≡ count → tape ≡ Idle count ∷ [] → s.board.run ≢ 1
     → Drives (Noted c (line.datagram digits) (DatagramIn c mode digits) tape) 1 s m a [] s m a
 idle_drives c mode s m a digits bytes tape count is long told stands_still t behind = record {
   part = idles t;
@@ -346,21 +346,21 @@ spelled_length digits bytes is = let ok = decode_of-ok digits bytes is in let tw
 
 -- ---- where there was memory
 
-pub stop_tells_ok : {A E : Type 0} (r : Result A E) (flags : ℕ) (old : Script) (said : List ℕ) (start tape : List Told) (new_board : PlainState) (acq : Machine) (counts : FillCounts) → IsReplaying old.running → start ≡ []
+pub stop_tells_ok : {A E : Type 0} (r : Result A E) (flags : ℕ) (old : Script) (said : List ℕ) (start tape : List Told) (new_board : PlainState) (acq : Window) (counts : FillCounts) → IsReplaying old.running → start ≡ []
     → OnOk r (Drives (λ t part. StopsIn (config_of old.running.acq) old.running.mode flags t part × TellsPart (config_of old.running.acq) start tape t part) 0 old.running.board old.running.acq old.running.counts said new_board acq counts)
     → OnOk r (IsAtRest new_board acq) → OnOk r (config_of acq ≡ config_of old.running.acq)
     → OnOk r (TellsLine (line.stop flags) old said tape (record old { running = record old.running { board = new_board; acq = acq; counts = counts } }))
 stop_tells_ok (Ok v) flags old said start tape new_board acq counts keeps empty drives rest config = stop_tells flags old said start tape new_board acq counts keeps empty drives rest config
 stop_tells_ok (Err e) flags old said start tape new_board acq counts keeps empty drives rest config = tt
 
-pub tick_tells_ok : {A E : Type 0} (r : Result A E) (moment : ℕ) (standard : Bool) (old : Script) (said : List ℕ) (start tape : List Told) (new_board : PlainState) (acq : Machine) (counts : FillCounts) → IsReplaying old.running → start ≡ [] → standard ≡ old.widening.widened
+pub tick_tells_ok : {A E : Type 0} (r : Result A E) (moment : ℕ) (standard : Bool) (old : Script) (said : List ℕ) (start tape : List Told) (new_board : PlainState) (acq : Window) (counts : FillCounts) → IsReplaying old.running → start ≡ [] → standard ≡ old.widening.widened
     → OnOk r (TicksTold old.running.mode moment standard old.running.board old.running.acq old.running.counts start said new_board acq counts tape) → OnOk r (IsAtRest new_board acq)
     → OnOk r (TellsLine (line.tick moment) old said tape (record old { running = record old.running { board = new_board; acq = acq; counts = counts } }))
 tick_tells_ok (Ok v) moment standard old said start tape new_board acq counts keeps empty same told rest =
     tick_tells moment standard old said told.commands start tape new_board acq counts keeps empty same told.drives rest told.config told.said_is told.are
 tick_tells_ok (Err e) moment standard old said start tape new_board acq counts keeps empty same told rest = tt
 
-pub heard_goes_ok : {A E : Type 0} (r : Result A E) (old : Running) (bytes : List ℕ) (start tape : List Told) (new_board : PlainState) (acq : Machine) (counts : FillCounts) → IsReplaying old → start ≡ [] → old.board.board.run ≡ 1
+pub heard_goes_ok : {A E : Type 0} (r : Result A E) (old : Running) (bytes : List ℕ) (start tape : List Told) (new_board : PlainState) (acq : Window) (counts : FillCounts) → IsReplaying old → start ≡ [] → old.board.board.run ≡ 1
     → OnOk r (Drives (λ t part. HearsIn (config_of old.acq) old.mode bytes t part × TellsPart (config_of old.acq) start tape t part) 0 old.board old.acq old.counts [] new_board acq counts)
     → OnOk r (IsAtRest new_board acq) → OnOk r (config_of acq ≡ config_of old.acq)
     → OnOk r ((digits : List ℕ) → decode_of digits ≡ Ok bytes → GoesTold (line.datagram digits) old [] tape (record old { board = new_board; acq = acq; counts = counts }))
@@ -368,7 +368,7 @@ heard_goes_ok (Ok v) old bytes start tape new_board acq counts keeps empty runni
     heard_goes old digits bytes start tape new_board acq counts keeps empty running is drives rest config
 heard_goes_ok (Err e) old bytes start tape new_board acq counts keeps empty running drives rest config = tt
 
-pub heard_wide_ok : {A E : Type 0} (r : Result A E) (old : Running) (bytes : List ℕ) (start tape : List Told) (new_board : PlainState) (acq : Machine) (counts : FillCounts) → IsReplaying old → start ≡ [] → old.board.board.run ≡ 1 → IsBytes bytes
+pub heard_wide_ok : {A E : Type 0} (r : Result A E) (old : Running) (bytes : List ℕ) (start tape : List Told) (new_board : PlainState) (acq : Window) (counts : FillCounts) → IsReplaying old → start ≡ [] → old.board.board.run ≡ 1 → IsBytes bytes
     → OnOk r (Drives (λ t part. HearsIn (config_of old.acq) old.mode bytes t part × TellsPart (config_of old.acq) start tape t part) 0 old.board old.acq old.counts [] new_board acq counts)
     → OnOk r (IsAtRest new_board acq) → OnOk r (config_of acq ≡ config_of old.acq)
     → OnOk r (GoesTold (line.datagram (encode_lower bytes)) old [] tape (record old { board = new_board; acq = acq; counts = counts }))

@@ -20,7 +20,7 @@ use Rattle.acquisition_machine.specs.Machine.{shown}
 use Rattle.acquisition_machine.specs.TurnLaws.{given_of}
 use Rattle.acq_core.specs.declared.ended.Ended.{Ended}
 use Rattle.acq_core.specs.declared.ended.Held.{Held}
-use Rattle.acq_core.specs.declared.machine.Machine.{Machine}
+use Rattle.acq_core.specs.declared.window.Window.{Window}
 use Rattle.acq_core.specs.Ending.{cause_of, held_of, end_of, ends_of}
 use Rattle.acq_core.specs.Receiver.{is_telling, buffers, KeepsBlocks}
 use Rattle.acq_core.specs.Waiting.{waiting_fills, waiting_requests, waiting_resends, waiting_ends}
@@ -98,12 +98,12 @@ none_of None e = refl
 none_of (Some h) e = absurd cc
 
 -- the first block that is told: what is known of it, and what waits behind it
-pub record FirstOf (c : AcqConfig) (floor : ℕ) (end : Ended) (r : Retirement) (rs : List Retirement) (m : Machine) (left : List Ended) : Type 0 where
+pub record FirstOf (c : AcqConfig) (floor : ℕ) (end : Ended) (r : Retirement) (rs : List Retirement) (m : Window) (left : List Ended) : Type 0 where
   pub is : end ≡ end_of c.p floor (cause_of r.cause) r.was
   pub ends : left ≡ ends_of true c.p (r.was.block + 1) rs
   pub fills_are : waiting_fills m ≡ fill_of c.p r.was r.was.given ++ fills c.p rs
 
-first_of : (c : AcqConfig) (floor : ℕ) (end : Ended) (r : Retirement) (rs : List Retirement) (m : Machine) (left : List Ended) → waiting_ends m ≡ end ∷ left → Gives c floor (r ∷ rs) m → FirstOf c floor end r rs m left
+first_of : (c : AcqConfig) (floor : ℕ) (end : Ended) (r : Retirement) (rs : List Retirement) (m : Window) (left : List Ended) → waiting_ends m ≡ end ∷ left → Gives c floor (r ∷ rs) m → FirstOf c floor end r rs m left
 first_of c floor end r rs m left ends gives = record {
   is = same_end end (end_of c.p floor (cause_of r.cause) r.was) left (ends_of true c.p (r.was.block + 1) rs) (sym ends ∙ gives.ends);
   ends = same_ends end (end_of c.p floor (cause_of r.cause) r.was) left (ends_of true c.p (r.was.block + 1) rs) (sym ends ∙ gives.ends);
@@ -111,17 +111,17 @@ first_of c floor end r rs m left ends gives = record {
 }
 
 -- nothing retired where nothing is told
-no_block : (c : AcqConfig) (floor : ℕ) (rs : List Retirement) (m : Machine) → waiting_ends m ≡ [] → Gives c floor rs m → rs ≡ []
+no_block : (c : AcqConfig) (floor : ℕ) (rs : List Retirement) (m : Window) → waiting_ends m ≡ [] → Gives c floor rs m → rs ≡ []
 no_block c floor [] m none gives = refl
 no_block c floor (r ∷ rs) m none gives = absurd (some_ends _ _ (sym gives.ends ∙ none))
 
-no_first : {X : Type 0} (c : AcqConfig) (floor : ℕ) (end : Ended) (m : Machine) (left : List Ended) → waiting_ends m ≡ end ∷ left → Gives c floor [] m → X
+no_first : {X : Type 0} (c : AcqConfig) (floor : ℕ) (end : Ended) (m : Window) (left : List Ended) → waiting_ends m ≡ end ∷ left → Gives c floor [] m → X
 no_first c floor end m left ends gives = absurd (some_ends end left (sym ends ∙ gives.ends))
 
 -- ---- without a buffer
 
 -- what waits behind a block without a buffer
-behind_none : (c : AcqConfig) (floor : ℕ) (end : Ended) (r : Retirement) (rs : List Retirement) (m n : Machine) → end.held ≡ None → FirstOf c floor end r rs m (waiting_ends n) → waiting_fills n ≡ waiting_fills m → (r.was.given ≡ None) × Gives c (r.was.block + 1) rs n
+behind_none : (c : AcqConfig) (floor : ℕ) (end : Ended) (r : Retirement) (rs : List Retirement) (m n : Window) → end.held ≡ None → FirstOf c floor end r rs m (waiting_ends n) → waiting_fills n ≡ waiting_fills m → (r.was.given ≡ None) × Gives c (r.was.block + 1) rs n
 behind_none c floor end r rs m n held first same =
     let none : r.was.given ≡ None = none_given c.p r.was.block r.was r.was.given (sym (ap (λ (e : Ended). e.held) first.is) ∙ held) in (
       none,
@@ -132,7 +132,7 @@ behind_none c floor end r rs m n held first same =
     )
 
 -- and behind one with a buffer
-behind_some : (c : AcqConfig) (floor : ℕ) (end : Ended) (x : Retired) (r : Retirement) (rs : List Retirement) (m n : Machine) → is_some end.held ≡ true → FirstOf c floor end r rs m (waiting_ends n) → waiting_fills m ≡ x ∷ waiting_fills n
+behind_some : (c : AcqConfig) (floor : ℕ) (end : Ended) (x : Retired) (r : Retirement) (rs : List Retirement) (m n : Window) → is_some end.held ≡ true → FirstOf c floor end r rs m (waiting_ends n) → waiting_fills m ≡ x ∷ waiting_fills n
     → (g : Given) × (r.was.given ≡ Some g) × (x.place ≡ g.place) × Gives c (r.was.block + 1) rs n
 behind_some c floor end x r rs m n held first waits =
     let some : (g : Given) × (r.was.given ≡ Some g) = some_given c.p r.was.block r.was r.was.given (sym (ap (λ (e : Ended). is_some e.held) first.is) ∙ held) in
@@ -146,7 +146,7 @@ behind_some c floor end x r rs m n held first waits =
 
 -- ---- all of them
 
-pub tells_all_none : (mode : Mode) (m : Machine) (s : PlainState) (a : FillCounts) (tape : List Told) → waiting_ends m ≡ [] → waiting_fills m ≡ [] → TellsAll mode m s a tape s a tape
+pub tells_all_none : (mode : Mode) (m : Window) (s : PlainState) (a : FillCounts) (tape : List Told) → waiting_ends m ≡ [] → waiting_fills m ≡ [] → TellsAll mode m s a tape s a tape
 tells_all_none mode m s a tape none_end none_fill = record {
   all = record {
     events = [];
@@ -197,13 +197,13 @@ block_notes c b ds rest floor r rs own tape one two end is left gaps owns others
     (tells_as one two own (ended_notes c b ds r.was r.cause r.was.given) is owns)
     (tells_as two end (retired_notes c b rest (r.was.block + 1) rs) (retired_notes c b (after_end ds r.was.given) (r.was.block + 1) rs) (ap (λ es. retired_notes c b es (r.was.block + 1) rs) left) others))
 
-gap_of : (c : AcqConfig) (floor : ℕ) (end : Ended) (r : Retirement) (rs : List Retirement) (m : Machine) (left : List Ended) (tape one : List Told) → FirstOf c floor end r rs m left
+gap_of : (c : AcqConfig) (floor : ℕ) (end : Ended) (r : Retirement) (rs : List Retirement) (m : Window) (left : List Ended) (tape one : List Told) → FirstOf c floor end r rs m left
     → ((low : ℕ) → end.floor ≡ shown low → Tells tape one (gap low end.block)) → Tells tape one (gap floor r.was.block)
 gap_of c floor end r rs m left tape one first gaps =
     tells_as tape one (gap floor end.block) (gap floor r.was.block) (ap (λ (e : Ended). gap floor e.block) first.is) (gaps floor (ap (λ (e : Ended). e.floor) first.is))
 
 -- a block without a buffer, then the others
-pub tells_unbuffered : (mode : Mode) (m n : Machine) (s new : PlainState) (a b : FillCounts) (tape one two after : List Told) (end : Ended)
+pub tells_unbuffered : (mode : Mode) (m n : Window) (s new : PlainState) (a b : FillCounts) (tape one two after : List Told) (end : Ended)
     → waiting_ends m ≡ end ∷ waiting_ends n → waiting_fills n ≡ waiting_fills m → is_some end.held ≡ false
     → ((low : ℕ) → end.floor ≡ shown low → Tells tape one (gap low end.block))
     → ((c : AcqConfig) (b : Board) (low : ℕ) (cause : Cause) (o : Open) → end ≡ end_of c.p low (cause_of cause) o → None ≡ buffer_of b o.given → IsFilledOn b o.given false → Tells one two (own_note c b o cause ∷ []))
@@ -243,7 +243,7 @@ tells_unbuffered mode m n s new a b tape one two after end ends same held gaps d
         (all.told c (r.was.block + 1) rs behind.1 before marks rest)
 
 -- a block with a buffer, then the others
-pub tells_filled : (mode : Mode) (m n : Machine) (s mid new : PlainState) (a b d : FillCounts) (tape one two after : List Told) (end : Ended) (x : Retired)
+pub tells_filled : (mode : Mode) (m n : Window) (s mid new : PlainState) (a b d : FillCounts) (tape one two after : List Told) (end : Ended) (x : Retired)
     → waiting_ends m ≡ end ∷ waiting_ends n → waiting_fills m ≡ x ∷ waiting_fills n → is_some end.held ≡ true → IsAway s (given_of x)
     → ((low : ℕ) → end.floor ≡ shown low → Tells tape one (gap low end.block))
     → TellsFill mode end x s a one mid b two
@@ -307,7 +307,7 @@ tells_filled mode m n s mid new a b d tape one two after end x ends waits held a
 refilled : (mode : Mode) (xs ys : List Retired) (s new : PlainState) (a b : FillCounts) → xs ≡ ys → FillsAll mode xs s a new b → FillsAll mode ys s a new b
 refilled mode xs ys s new a b is all = subst (λ (zs : List Retired). FillsAll mode zs s a new b) is all
 
-still_waits : (mode : Mode) (s now : PlainState) (a b : FillCounts) (m n after : Machine) → FillsOn mode s a now b m n → waiting_fills after ≡ waiting_fills n → waiting_requests after ≡ waiting_requests n → KeepsBlocks n after → FillsOn mode s a now b m after
+still_waits : (mode : Mode) (s now : PlainState) (a b : FillCounts) (m n after : Window) → FillsOn mode s a now b m n → waiting_fills after ≡ waiting_fills n → waiting_requests after ≡ waiting_requests n → KeepsBlocks n after → FillsOn mode s a now b m after
 still_waits mode s now a b m n after on same requests rest = record {
   goes_on = λ new d all. on.goes_on new d (refilled mode (waiting_fills after) (waiting_fills n) now new b d same all);
   away = subst (λ (gs : List Given). AreAway now gs) (sym (ap (λ xs. map given_of xs ++ buffers after) same ∙ ap (λ gs. map given_of (waiting_fills n) ++ gs) rest.buffers)) on.away;
@@ -317,14 +317,14 @@ still_waits mode s now a b m n after on same requests rest = record {
 }
 
 -- What is still to be filled and told, then what was.
-pub record TellsOn (mode : Mode) (s : PlainState) (a : FillCounts) (start : List Told) (now : PlainState) (b : FillCounts) (tape : List Told) (m n : Machine) : Type 0 where
+pub record TellsOn (mode : Mode) (s : PlainState) (a : FillCounts) (start : List Told) (now : PlainState) (b : FillCounts) (tape : List Told) (m n : Window) : Type 0 where
   pub on : FillsOn mode s a now b m n
   pub goes_on : (new : PlainState) (d : FillCounts) (after : List Told) → TellsAll mode n now b tape new d after → TellsAll mode m s a start new d after
   pub gives : GivesSome n
   pub resends : waiting_resends n ≡ waiting_resends m
   pub telling : is_telling n ≡ is_telling m
 
-pub tells_begin : (mode : Mode) (s : PlainState) (a : FillCounts) (tape : List Told) (m : Machine) → IsActor s.board acquirer → GivesSome m → AreAway s (map given_of (waiting_fills m) ++ buffers m) → TellsOn mode s a tape s a tape m m
+pub tells_begin : (mode : Mode) (s : PlainState) (a : FillCounts) (tape : List Told) (m : Window) → IsActor s.board acquirer → GivesSome m → AreAway s (map given_of (waiting_fills m) ++ buffers m) → TellsOn mode s a tape s a tape m m
 tells_begin mode s a tape m actor gives away = record {
   on = record { goes_on = λ new c all. all; away = away; actor = actor; requests = refl; rest = keeps_itself m };
   goes_on = λ new d after all. all;
@@ -333,7 +333,7 @@ tells_begin mode s a tape m actor gives away = record {
   telling = refl;
 }
 
-gives_behind_none : (end : Ended) (m n : Machine) → waiting_ends m ≡ end ∷ waiting_ends n → waiting_fills n ≡ waiting_fills m → is_some end.held ≡ false → GivesSome m → GivesSome n
+gives_behind_none : (end : Ended) (m n : Window) → waiting_ends m ≡ end ∷ waiting_ends n → waiting_fills n ≡ waiting_fills m → is_some end.held ≡ false → GivesSome m → GivesSome n
 gives_behind_none end m n ends same held some = go some.retired some.gives
   where
     go : (rs : List Retirement) → Gives some.config some.floor rs m → GivesSome n
@@ -342,7 +342,7 @@ gives_behind_none end m n ends same held some = go some.retired some.gives
         let behind = behind_none some.config some.floor end r rs m n (none_of end.held held) (first_of some.config some.floor end r rs m (waiting_ends n) ends gives) same in
         record { config = some.config; floor = r.was.block + 1; retired = rs; gives = behind.1 }
 
-gives_behind_some : (end : Ended) (x : Retired) (m n : Machine) → waiting_ends m ≡ end ∷ waiting_ends n → waiting_fills m ≡ x ∷ waiting_fills n → is_some end.held ≡ true → GivesSome m → GivesSome n
+gives_behind_some : (end : Ended) (x : Retired) (m n : Window) → waiting_ends m ≡ end ∷ waiting_ends n → waiting_fills m ≡ x ∷ waiting_fills n → is_some end.held ≡ true → GivesSome m → GivesSome n
 gives_behind_some end x m n ends waits held some = go some.retired some.gives
   where
     go : (rs : List Retirement) → Gives some.config some.floor rs m → GivesSome n
@@ -351,7 +351,7 @@ gives_behind_some end x m n ends waits held some = go some.retired some.gives
         let behind = behind_some some.config some.floor end x r rs m n held (first_of some.config some.floor end r rs m (waiting_ends n) ends gives) waits in
         record { config = some.config; floor = r.was.block + 1; retired = rs; gives = behind.3 }
 
-pub tells_on_unbuffered : (mode : Mode) (s now : PlainState) (a b : FillCounts) (start tape one two : List Told) (m n after : Machine) (end : Ended) → TellsOn mode s a start now b tape m n
+pub tells_on_unbuffered : (mode : Mode) (s now : PlainState) (a b : FillCounts) (start tape one two : List Told) (m n after : Window) (end : Ended) → TellsOn mode s a start now b tape m n
     → waiting_ends n ≡ end ∷ waiting_ends after → waiting_fills after ≡ waiting_fills n → waiting_requests after ≡ waiting_requests n → waiting_resends after ≡ waiting_resends n → is_telling after ≡ is_telling n → KeepsBlocks n after → is_some end.held ≡ false
     → ((low : ℕ) → end.floor ≡ shown low → Tells tape one (gap low end.block))
     → ((c : AcqConfig) (b : Board) (low : ℕ) (cause : Cause) (o : Open) → end ≡ end_of c.p low (cause_of cause) o → None ≡ buffer_of b o.given → IsFilledOn b o.given false → Tells one two (own_note c b o cause ∷ []))
@@ -364,7 +364,7 @@ tells_on_unbuffered mode s now a b start tape one two m n after end on ends same
   telling = telling ∙ on.telling;
 }
 
-pub tells_on_filled : (mode : Mode) (s now next : PlainState) (a b c : FillCounts) (start tape one two : List Told) (m n mid after : Machine) (end : Ended) (x : Retired) → TellsOn mode s a start now b tape m n
+pub tells_on_filled : (mode : Mode) (s now next : PlainState) (a b c : FillCounts) (start tape one two : List Told) (m n mid after : Window) (end : Ended) (x : Retired) → TellsOn mode s a start now b tape m n
     → waiting_ends n ≡ end ∷ waiting_ends mid → waiting_fills mid ≡ waiting_fills n → waiting_requests mid ≡ waiting_requests n → waiting_resends mid ≡ waiting_resends n → is_telling mid ≡ is_telling n → KeepsBlocks n mid → is_some end.held ≡ true
     → waiting_fills mid ≡ x ∷ waiting_fills after → waiting_requests after ≡ waiting_requests mid → waiting_resends after ≡ waiting_resends mid → waiting_ends after ≡ waiting_ends mid → is_telling after ≡ is_telling mid → KeepsBlocks mid after
     → ((low : ℕ) → end.floor ≡ shown low → Tells tape one (gap low end.block))
@@ -383,11 +383,11 @@ tells_on_filled mode s now next a b c start tape one two m n mid after end x on 
       telling = telling_too ∙ telling ∙ on.telling;
     }
   where
-    filled_away : (mode : Mode) (s now : PlainState) (a b : FillCounts) (m n after : Machine) (x : Retired) → FillsOn mode s a now b m n → waiting_fills n ≡ x ∷ waiting_fills after → IsAway now (given_of x)
+    filled_away : (mode : Mode) (s now : PlainState) (a b : FillCounts) (m n after : Window) (x : Retired) → FillsOn mode s a now b m n → waiting_fills n ≡ x ∷ waiting_fills after → IsAway now (given_of x)
     filled_away mode s now a b m n after x fills_so is = first_away s now m n x (waiting_fills after) fills_so is
 
 -- a block with a buffer that waits for none
-pub no_fill_left : {X : Type 0} (end : Ended) (n mid : Machine) → GivesSome n → waiting_ends n ≡ end ∷ waiting_ends mid → waiting_fills mid ≡ waiting_fills n → is_some end.held ≡ true → waiting_fills mid ≡ [] → X
+pub no_fill_left : {X : Type 0} (end : Ended) (n mid : Window) → GivesSome n → waiting_ends n ≡ end ∷ waiting_ends mid → waiting_fills mid ≡ waiting_fills n → is_some end.held ≡ true → waiting_fills mid ≡ [] → X
 no_fill_left end n mid some ends same held none = go some.retired some.gives
   where
     go : {X : Type 0} (rs : List Retirement) → Gives some.config some.floor rs n → X
@@ -398,16 +398,16 @@ no_fill_left end n mid some ends same held none = go some.retired some.gives
         absurd (some_fills (record { place = given.0.place; buf = filling_in some.config.p r.was given.0 }) (fills some.config.p rs)
         (sym (first.fills_are ∙ ap (λ (g : Option Given). fill_of some.config.p r.was g ++ fills some.config.p rs) given.1) ∙ sym same ∙ none))
 
-none_left : (m : Machine) → GivesSome m → waiting_ends m ≡ [] → waiting_fills m ≡ []
+none_left : (m : Window) → GivesSome m → waiting_ends m ≡ [] → waiting_fills m ≡ []
 none_left m some none = some.gives.fills ∙ ap (fills some.config.p) (no_block some.config some.floor some.retired m none some.gives)
 
-pub tells_done : (mode : Mode) (s now : PlainState) (a b : FillCounts) (start tape : List Told) (m n : Machine) → TellsOn mode s a start now b tape m n → waiting_ends n ≡ [] → TellsAll mode m s a start now b tape
+pub tells_done : (mode : Mode) (s now : PlainState) (a b : FillCounts) (start tape : List Told) (m n : Window) → TellsOn mode s a start now b tape m n → waiting_ends n ≡ [] → TellsAll mode m s a start now b tape
 tells_done mode s now a b start tape m n on none = on.goes_on now b tape (tells_all_none mode n now b tape none (none_left n on.gives none))
 
-pub fills_left : (mode : Mode) (s now : PlainState) (a b : FillCounts) (start tape : List Told) (m n : Machine) → TellsOn mode s a start now b tape m n → waiting_ends n ≡ [] → waiting_fills n ≡ []
+pub fills_left : (mode : Mode) (s now : PlainState) (a b : FillCounts) (start tape : List Told) (m n : Window) → TellsOn mode s a start now b tape m n → waiting_ends n ≡ [] → waiting_fills n ≡ []
 fills_left mode s now a b start tape m n on none = none_left n on.gives none
 
-pub away_left : (mode : Mode) (s now : PlainState) (a b : FillCounts) (start tape : List Told) (m n after : Machine) → TellsOn mode s a start now b tape m n → waiting_ends n ≡ [] → KeepsBlocks n after → AreAway now (buffers after)
+pub away_left : (mode : Mode) (s now : PlainState) (a b : FillCounts) (start tape : List Told) (m n after : Window) → TellsOn mode s a start now b tape m n → waiting_ends n ≡ [] → KeepsBlocks n after → AreAway now (buffers after)
 away_left mode s now a b start tape m n after on none rest = away_done s now m n after (none_left n on.gives none) rest on.on
 
 -- where the last call had memory

@@ -17,7 +17,7 @@ use Rattle.acquisition_machine.specs.Runs.{turn, first_state}
 use Rattle.acquisition_machine.specs.Runs.{After as StateAfter}
 use Rattle.acquisition_machine.proofs.Joining.{after_from-append}
 use Rattle.acquisition_machine.proofs.Window.{blocks_are_in_order}
-use Rattle.acq_core.specs.declared.machine.Machine.{Machine}
+use Rattle.acq_core.specs.declared.window.Window.{Window}
 use Rattle.acq_core.specs.Receiver.{config_of, is_telling, asked_block, buffers, Stands, Takes, KeepsBlocks}
 use Rattle.acq_core.specs.Waiting.{waiting_fills, waiting_requests, waiting_resends}
 use Rattle.mode_calls.specs.declared.mode.Mode.{Mode}
@@ -49,7 +49,7 @@ use Rattle.explain_lines.proofs.Datagrams.{retires_by, rest_kept, drives_kept}
 use Rattle.explain_lines.proofs.Noted.{plain_lines}
 
 -- what retires behind the calls of a line
-retired_part : (mode : Mode) (i : Input) (s mid new : PlainState) (m n : Machine) (a b : FillCounts) (tape after : List Told) (calls : List Event) (retires : Retires mode i mid m a tape new n b after) → Called s calls mid → KeepsMarks s.board mid.board
+retired_part : (mode : Mode) (i : Input) (s mid new : PlainState) (m n : Window) (a b : FillCounts) (tape after : List Told) (calls : List Event) (retires : Retires mode i mid m a tape new n b after) → Called s calls mid → KeepsMarks s.board mid.board
     → (t : Trace) → IsBehindTrace t s m
     → Tells tape after (retired_notes (config_of m) (board_of t) (drops_from t.entries false [] (entries_of caller calls ++ entries_of acquirer retires.settled.all.events)) (StateAfter (config_of m) t.inputs).floor (turn (config_of m) t.inputs i).retired)
 retired_part mode i s mid new m n a b tape after calls retires called marks t behind =
@@ -68,7 +68,7 @@ fills_told mode told xs es same filled = subst (λ (k : Mode). FillsInMode k xs 
 
 -- ---- stop
 
-pub stop_drives : (mode : Mode) (s mid new : PlainState) (m telling stopped n : Machine) (a b : FillCounts) (flags : ℕ) (said : List ℕ) (tape after : List Told) → (called : AddsOf s.board caller (Stops flags (Ok tt)) mid.board) → mid.contents ≡ s.contents
+pub stop_drives : (mode : Mode) (s mid new : PlainState) (m telling stopped n : Window) (a b : FillCounts) (flags : ℕ) (said : List ℕ) (tape after : List Told) → (called : AddsOf s.board caller (Stops flags (Ok tt)) mid.board) → mid.contents ≡ s.contents
     → KeepsBlocks m telling → is_telling telling ≡ true → waiting_fills telling ≡ [] → Takes telling stopped stop → TellsAll mode stopped mid a tape new b after → KeepsBlocks stopped n → said ≡ done_text (codes "stop")
     → Drives (λ t part. StopsIn (config_of m) mode flags t part × TellsPart (config_of m) tape after t part) 0 s m a said new n b
 stop_drives mode s mid new m telling stopped n a b flags said tape after called same begun tells_now none takes all keeps is =
@@ -91,7 +91,7 @@ stop_drives mode s mid new m telling stopped n a b flags said tape after called 
     marks : KeepsMarks s.board mid.board
     marks = stop_marks flags called.events caller s.board mid.board called.kind called.adds
 
-pub no_stop_drives : (mode : Mode) (s mid : PlainState) (m : Machine) (a : FillCounts) (c : AcqConfig) (flags : ℕ) (error : GcError) (said : List ℕ) (tape : List Told) → AddsOf s.board caller (Stops flags (Err error)) mid.board → mid.contents ≡ s.contents → said ≡ refused_text (codes "stop") error
+pub no_stop_drives : (mode : Mode) (s mid : PlainState) (m : Window) (a : FillCounts) (c : AcqConfig) (flags : ℕ) (error : GcError) (said : List ℕ) (tape : List Told) → AddsOf s.board caller (Stops flags (Err error)) mid.board → mid.contents ≡ s.contents → said ≡ refused_text (codes "stop") error
     → Drives (λ t part. StopsIn c mode flags t part × TellsPart c tape tape t part) 0 s m a said mid m a
 no_stop_drives mode s mid m a c flags error said tape called same is =
     drives_as (λ t part. StopsIn c mode flags t part × TellsPart c tape tape t part) caller said s mid m a caller_apart
@@ -101,7 +101,7 @@ no_stop_drives mode s mid m a c flags error said tape called same is =
 -- ---- t
 
 -- what was asked for at this moment
-asked_part : (m mid fed : Machine) (moment : ℕ) (tape after : List Told) (t : Trace) → 1 ≤ (config_of m).window → Takes m mid (tick moment) → waiting_resends m ≡ [] → KeepsBlocks mid fed → waiting_resends fed ≡ waiting_resends mid
+asked_part : (m mid fed : Window) (moment : ℕ) (tape after : List Told) (t : Trace) → 1 ≤ (config_of m).window → Takes m mid (tick moment) → waiting_resends m ≡ [] → KeepsBlocks mid fed → waiting_resends fed ≡ waiting_resends mid
     → ((q : List Input) → Stands fed q → Tells tape after (resend_notes (StateAfter (config_of fed) q).opens (waiting_resends fed))) → Stands m t.inputs
     → Tells tape after (round_notes (config_of m) (turn (config_of m) t.inputs (tick moment)).after.now (settled (config_of m) (record (unasked (StateAfter (config_of m) t.inputs)) { now = (turn (config_of m) t.inputs (tick moment)).after.now })).opens)
 asked_part m mid fed moment tape after t some takes none keeps same told stands = tells_as tape after _ _ notes (told q fed_stands)
@@ -132,7 +132,7 @@ asked_part m mid fed moment tape after t some takes none keeps same told stands 
         ∙ notes_asked (step c start (tick moment)).after.opens requests
         ∙ rounds_are_told c start moment (let sound = blocks_are_in_order c t.inputs some in sound.rise)
 
-pub tick_told : (mode : Mode) (moment : ℕ) (standard : Bool) (s new : PlainState) (m telling mid fed n : Machine) (a b : FillCounts) (old said : List ℕ) (tape one after : List Told) → IsAtRest s m
+pub tick_told : (mode : Mode) (moment : ℕ) (standard : Bool) (s new : PlainState) (m telling mid fed n : Window) (a b : FillCounts) (old said : List ℕ) (tape one after : List Told) → IsAtRest s m
     → KeepsBlocks m telling → is_telling telling ≡ true → waiting_fills telling ≡ waiting_fills m → waiting_requests telling ≡ waiting_requests m → Takes telling mid (tick moment) → TellsAll mode mid s a tape new b one
     → KeepsBlocks mid fed → waiting_requests fed ≡ waiting_requests mid → waiting_resends fed ≡ waiting_resends mid → KeepsBlocks fed n
     → ((q : List Input) → Stands fed q → Tells one after (resend_notes (StateAfter (config_of fed) q).opens (waiting_resends fed)))
@@ -178,7 +178,7 @@ tick_told mode moment standard s new m telling mid fed n a b old said tape one a
 
 -- ---- where there was memory
 
-pub tick_told_ok : {A E : Type 0} (r : Result A E) (mode : Mode) (moment : ℕ) (standard : Bool) (s new : PlainState) (m telling mid fed n : Machine) (a b : FillCounts) (old said : List ℕ) (tape one after : List Told) → IsAtRest s m
+pub tick_told_ok : {A E : Type 0} (r : Result A E) (mode : Mode) (moment : ℕ) (standard : Bool) (s new : PlainState) (m telling mid fed n : Window) (a b : FillCounts) (old said : List ℕ) (tape one after : List Told) → IsAtRest s m
     → KeepsBlocks m telling → is_telling telling ≡ true → waiting_fills telling ≡ waiting_fills m → waiting_requests telling ≡ waiting_requests m → Takes telling mid (tick moment) → TellsAll mode mid s a tape new b one
     → KeepsBlocks mid fed → waiting_requests fed ≡ waiting_requests mid → waiting_resends fed ≡ waiting_resends mid → old ≡ []
     → OnOk r (KeepsBlocks fed n)
@@ -188,7 +188,7 @@ tick_told_ok (Ok v) mode moment standard s new m telling mid fed n a b old said 
     tick_told mode moment standard s new m telling mid fed n a b old said tape one after rest begun tells_now fills_same requests_same takes all keeps same same_resends keeps_too asked empty is
 tick_told_ok (Err e) mode moment standard s new m telling mid fed n a b old said tape one after rest begun tells_now fills_same requests_same takes all keeps same same_resends empty keeps_too asked is = tt
 
-pub tick_rests_ok : {A E : Type 0} (r : Result A E) (mode : Mode) (moment : ℕ) (s new : PlainState) (m telling mid fed n : Machine) (a b : FillCounts) (tape one : List Told) → IsAtRest s m
+pub tick_rests_ok : {A E : Type 0} (r : Result A E) (mode : Mode) (moment : ℕ) (s new : PlainState) (m telling mid fed n : Window) (a b : FillCounts) (tape one : List Told) → IsAtRest s m
     → KeepsBlocks m telling → waiting_fills telling ≡ waiting_fills m → waiting_requests telling ≡ waiting_requests m → Takes telling mid (tick moment) → asked_block mid ≡ None → TellsAll mode mid s a tape new b one
     → KeepsBlocks mid fed → waiting_fills fed ≡ [] → AreAway new (buffers fed)
     → OnOk r (KeepsBlocks fed n) → OnOk r (waiting_fills n ≡ waiting_fills fed) → OnOk r (waiting_requests n ≡ []) → OnOk r (IsAtRest new n)

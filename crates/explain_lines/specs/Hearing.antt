@@ -13,7 +13,7 @@ use Rattle.acquisition_machine.specs.Machine.{Input, request_bytes, datagram, ti
 use Rattle.acquisition_machine.specs.Runs.{turn}
 use Rattle.acquisition_machine.specs.Runs.{After as StateAfter}
 use Rattle.acquisition_machine.specs.TurnLaws.{asked_by}
-use Rattle.acq_core.specs.declared.machine.Machine.{Machine}
+use Rattle.acq_core.specs.declared.window.Window.{Window}
 use Rattle.acq_core.specs.Receiver.{config_of, is_telling, asked_block, buffers, Stands}
 use Rattle.acq_core.specs.Waiting.{waiting_fills, waiting_requests}
 use Rattle.mode_calls.specs.declared.mode.Mode.{Mode}
@@ -35,13 +35,13 @@ use Rattle.explain_lines.specs.Dropping.{DropsAs}
 use Rattle.explain_lines.specs.Asking.{lines_by}
 
 -- The receiver is as some inputs leave it, and tells the blocks that retire.
-pub record IsTelling (m : Machine) : Type 0 where
+pub record IsTelling (m : Window) : Type 0 where
   pub inputs : List Input
   pub stands : Stands m inputs
   pub telling : is_telling m ≡ true
 
 -- The input came, the buffers that came back were filled, and the blocks that retired were told.
-pub record Retires (mode : Mode) (i : Input) (s : PlainState) (m : Machine) (a : FillCounts) (tape : List Told) (new : PlainState) (n : Machine) (b : FillCounts) (after : List Told) : Type 0 where
+pub record Retires (mode : Mode) (i : Input) (s : PlainState) (m : Window) (a : FillCounts) (tape : List Told) (new : PlainState) (n : Window) (b : FillCounts) (after : List Told) : Type 0 where
   pub settled : Settled mode i s m a new n b
   pub gone : List (List Item)
   pub dropped : (h : List Entry) → s.board ≡ After h → DropsAs h (entries_of acquirer settled.all.events) gone
@@ -51,7 +51,7 @@ pub record Retires (mode : Mode) (i : Input) (s : PlainState) (m : Machine) (a :
       → Tells tape after (retired_notes (config_of m) before (gone ++ rest) (StateAfter (config_of m) q).floor (turn (config_of m) q i).retired)
 
 -- The datagram came: what it needs was told, and what retired was filled and told.
-pub record SettlesTold (mode : Mode) (bytes : List ℕ) (s : PlainState) (m : Machine) (a : FillCounts) (tape : List Told) (need : Need) (new : PlainState) (n : Machine) (b : FillCounts) (after : List Told) : Type 0 where
+pub record SettlesTold (mode : Mode) (bytes : List ℕ) (s : PlainState) (m : Window) (a : FillCounts) (tape : List Told) (need : Need) (new : PlainState) (n : Window) (b : FillCounts) (after : List Told) : Type 0 where
   pub need_is : (q : List Input) → Stands m q → (turn (config_of m) q (datagram bytes)).need ≡ Some need
   pub mid : List Told
   pub named : Tells tape mid (need_notes (packet_of bytes) (Some need))
@@ -93,7 +93,7 @@ abbrev pub StopsIn : AcqConfig → Mode → ℕ → Trace → Part → Type 0
 StopsIn c mode flags t part = t.mode ≡ mode → StopLine c t flags part
 
 -- The moment was told, what retired was filled and told, and these requests were written and told.
-pub record TicksTold (mode : Mode) (moment : ℕ) (standard : Bool) (s : PlainState) (m : Machine) (a : FillCounts) (tape : List Told) (said : List ℕ) (new : PlainState) (n : Machine) (b : FillCounts) (after : List Told) : Type 0 where
+pub record TicksTold (mode : Mode) (moment : ℕ) (standard : Bool) (s : PlainState) (m : Window) (a : FillCounts) (tape : List Told) (said : List ℕ) (new : PlainState) (n : Window) (b : FillCounts) (after : List Told) : Type 0 where
   pub commands : List (List ℕ)
   pub drives : Drives (λ t part. (t.mode ≡ mode → TickLine (config_of m) t moment part) × TellsPart (config_of m) tape after t part) 0 s m a (lines_by false commands) new n b
   pub said_is : said ≡ lines_by standard commands

@@ -9,7 +9,7 @@ use Rattle.acquisition_machine.specs.declared.config.AcqConfig.{AcqConfig}
 use Rattle.acquisition_machine.specs.declared.retired.Retired.{Retired}
 use Rattle.acquisition_machine.specs.Blocks.{Given, Open, Cause, Retirement, fills}
 use Rattle.acq_core.specs.declared.ended.Ended.{Ended}
-use Rattle.acq_core.specs.declared.machine.Machine.{Machine}
+use Rattle.acq_core.specs.declared.window.Window.{Window}
 use Rattle.acq_core.specs.Ending.{cause_of, end_of, ends_of}
 use Rattle.acq_core.specs.Waiting.{waiting_fills, waiting_ends}
 use Rattle.mode_calls.specs.declared.mode.Mode.{Mode}
@@ -23,11 +23,11 @@ use Rattle.explain_lines.specs.Marks.{KeepsMarks}
 use Rattle.explain_lines.specs.Dropping.{DropsAs}
 
 -- What waits in the receiver is what these blocks gave as they retired, behind this floor.
-pub record Gives (c : AcqConfig) (floor : ℕ) (rs : List Retirement) (m : Machine) : Type 0 where
+pub record Gives (c : AcqConfig) (floor : ℕ) (rs : List Retirement) (m : Window) : Type 0 where
   pub ends : waiting_ends m ≡ ends_of true c.p floor rs
   pub fills : waiting_fills m ≡ fills c.p rs
 
-pub record GivesSome (m : Machine) : Type 0 where
+pub record GivesSome (m : Window) : Type 0 where
   pub config : AcqConfig
   pub floor : ℕ
   pub retired : List Retirement
@@ -41,7 +41,7 @@ pub record TellsFill (mode : Mode) (end : Ended) (x : Retired) (s : PlainState) 
       → Tells tape after (drop_notes before (take (length one.dropped) s.board.out) ++ own_note c before o cause ∷ [])
 
 -- All that waits was filled, and all blocks were told.
-pub record TellsAll (mode : Mode) (m : Machine) (s : PlainState) (a : FillCounts) (tape : List Told) (new : PlainState) (b : FillCounts) (after : List Told) : Type 0 where
+pub record TellsAll (mode : Mode) (m : Window) (s : PlainState) (a : FillCounts) (tape : List Told) (new : PlainState) (b : FillCounts) (after : List Told) : Type 0 where
   pub all : FillsAll mode (waiting_fills m) s a new b
   -- what was dropped for each fill
   pub gone : List (List Item)

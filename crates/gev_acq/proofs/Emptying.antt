@@ -5,7 +5,7 @@ use Rattle.board_machine.specs.declared.events.Event.{Event}
 use Rattle.board_machine.specs.declared.events.Event.TheVariants.{Lay}
 use Rattle.acquisition_machine.specs.declared.retired.Retired.{Retired}
 use Rattle.acquisition_machine.specs.TurnLaws.{given_of}
-use Rattle.acq_core.specs.declared.machine.Machine.{Machine}
+use Rattle.acq_core.specs.declared.window.Window.{Window}
 use Rattle.acq_core.specs.Receiver.{buffers, KeepsBlocks}
 use Rattle.acq_core.specs.Waiting.{waiting_fills, waiting_requests}
 use Rattle.buffer_words.specs.Passes.{Token, gone, down, Enters, Stays, SameHands, Has}
@@ -67,7 +67,7 @@ fills-push mode (x ∷ rs) r es fs each one = (
   ap (λ l. l ++ fs) each.4 ∙ append_assoc each.0 each.1 fs,
 )
 
-pub keeps_then : (a b c : Machine) → KeepsBlocks a b → KeepsBlocks b c → KeepsBlocks a c
+pub keeps_then : (a b c : Window) → KeepsBlocks a b → KeepsBlocks b c → KeepsBlocks a c
 keeps_then a b c first second = record {
   stands = λ q old. second.stands q (first.stands q old);
   buffers = second.buffers ∙ first.buffers;
@@ -76,11 +76,11 @@ keeps_then a b c first second = record {
   config = second.config ∙ first.config;
 }
 
-pub keeps_all : (a : Machine) → KeepsBlocks a a
+pub keeps_all : (a : Window) → KeepsBlocks a a
 keeps_all a = record { stands = λ q old. old; buffers = refl; opens = refl; asked = refl; config = refl }
 
 -- Some of the buffers that waited are filled.
-pub record IsFilling (mode : Mode) (s : Token) (old : Machine) (t : Token) (m : Machine) : Type 0 where
+pub record IsFilling (mode : Mode) (s : Token) (old : Window) (t : Token) (m : Window) : Type 0 where
   pub done : List Retired
   pub parts : waiting_fills old ≡ done ++ waiting_fills m
   pub enters : EntersOf s (FillsRetiredFor mode done) t
@@ -89,7 +89,7 @@ pub record IsFilling (mode : Mode) (s : Token) (old : Machine) (t : Token) (m : 
   pub backs : Backs t (map given_of (waiting_fills m) ++ buffers m)
   pub alone : HoldsAlone s (map given_of (waiting_fills old) ++ buffers old) → HoldsAlone t (map given_of (waiting_fills m) ++ buffers m)
 
-pub filling_begins : (mode : Mode) (s : Token) (m : Machine) → Backs s (map given_of (waiting_fills m) ++ buffers m) → IsFilling mode s m s m
+pub filling_begins : (mode : Mode) (s : Token) (m : Window) → Backs s (map given_of (waiting_fills m) ++ buffers m) → IsFilling mode s m s m
 filling_begins mode s m backs = record {
   done = [];
   parts = refl;
@@ -101,19 +101,19 @@ filling_begins mode s m backs = record {
 }
 
 -- the next one is taken off
-pub next_backs : (t : Token) (m n : Machine) (r : Retired) → waiting_fills m ≡ r ∷ waiting_fills n → KeepsBlocks m n
+pub next_backs : (t : Token) (m n : Window) (r : Retired) → waiting_fills m ≡ r ∷ waiting_fills n → KeepsBlocks m n
     → Backs t (map given_of (waiting_fills m) ++ buffers m) → Backs t (given_of r ∷ (map given_of (waiting_fills n) ++ buffers n))
 next_backs t m n r first keeps backs =
     subst (λ l. Backs t (given_of r ∷ (map given_of (waiting_fills n) ++ l))) (sym keeps.buffers)
     (subst (λ rs. Backs t (map given_of rs ++ buffers m)) first backs)
 
-next_alone : (t : Token) (m n : Machine) (r : Retired) → waiting_fills m ≡ r ∷ waiting_fills n → KeepsBlocks m n
+next_alone : (t : Token) (m n : Window) (r : Retired) → waiting_fills m ≡ r ∷ waiting_fills n → KeepsBlocks m n
     → HoldsAlone t (map given_of (waiting_fills m) ++ buffers m) → HoldsAlone t (given_of r ∷ (map given_of (waiting_fills n) ++ buffers n))
 next_alone t m n r first keeps alone =
     subst (λ l. HoldsAlone t (given_of r ∷ (map given_of (waiting_fills n) ++ l))) (sym keeps.buffers)
     (subst (λ rs. HoldsAlone t (map given_of rs ++ buffers m)) first alone)
 
-pub filling_goes_on : (mode : Mode) (s t u : Token) (old m n : Machine) (r : Retired) → IsFilling mode s old t m → waiting_fills m ≡ r ∷ waiting_fills n
+pub filling_goes_on : (mode : Mode) (s t u : Token) (old m n : Window) (r : Retired) → IsFilling mode s old t m → waiting_fills m ≡ r ∷ waiting_fills n
     → waiting_requests n ≡ waiting_requests m → KeepsBlocks m n → EntersOf t (FillsRetiredFor mode (r ∷ [])) u → Has r.place gone t u → IsFilling mode s old u n
 filling_goes_on mode s t u old m n r so first requests keeps filled hands = record {
   done = so.done ++ r ∷ [];
@@ -128,14 +128,14 @@ filling_goes_on mode s t u old m n r so first requests keeps filled hands = reco
 }
 
 -- all of them are
-pub record AreFilled (mode : Mode) (s : Token) (old : Machine) (t : Token) (m : Machine) : Type 0 where
+pub record AreFilled (mode : Mode) (s : Token) (old : Window) (t : Token) (m : Window) : Type 0 where
   pub enters : EntersOf s (FillsRetiredFor mode (waiting_fills old)) t
   pub requests : waiting_requests m ≡ waiting_requests old
   pub rest : KeepsBlocks old m
   pub backs : Backs t (buffers m)
   pub alone : HoldsAlone s (map given_of (waiting_fills old) ++ buffers old) → HoldsAlone t (buffers m)
 
-pub filling_ends : (mode : Mode) (s t : Token) (old m n : Machine) → IsFilling mode s old t m → waiting_fills m ≡ [] → waiting_requests n ≡ waiting_requests m → KeepsBlocks m n
+pub filling_ends : (mode : Mode) (s t : Token) (old m n : Window) → IsFilling mode s old t m → waiting_fills m ≡ [] → waiting_requests n ≡ waiting_requests m → KeepsBlocks m n
     → AreFilled mode s old t n
 filling_ends mode s t old m n so none requests keeps = record {
   enters = subst (λ rs. EntersOf s (FillsRetiredFor mode rs) t) (sym (so.parts ∙ (ap (λ l. so.done ++ l) none ∙ append-nil so.done))) so.enters;

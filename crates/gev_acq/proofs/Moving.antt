@@ -3,7 +3,7 @@ use Rattle.std.proofs.Common.{◌≡◌, ◌≢◌, ℕ, ◌≤◌, List, [], �
 use Rattle.acquisition_machine.specs.declared.config.AcqConfig.{AcqConfig}
 use Rattle.acquisition_machine.specs.Machine.{Input, tick, request_bytes}
 use Rattle.acquisition_machine.specs.Runs.{turn}
-use Rattle.acq_core.specs.declared.machine.Machine.{Machine}
+use Rattle.acq_core.specs.declared.window.Window.{Window}
 use Rattle.acq_core.specs.Receiver.{config_of, Stands, Takes, KeepsBlocks}
 use Rattle.acq_core.specs.Waiting.{waiting_fills, waiting_requests}
 use Rattle.buffer_words.specs.Rule.{Slot}
@@ -16,7 +16,7 @@ use Rattle.gev_acq.specs.Buffers.{HoldsAlone}
 use Rattle.gev_acq.specs.Turning.{inputs_if, unheard, HearsIf, TicksOnce, ServesTurn}
 use Rattle.gev_acq.proofs.Serves.{serves_then, serves_none, serves_filled}
 
-pub ticks_once : (mode : Mode) (m mid new : Machine) (moment : ℕ) (s t : Token) → waiting_fills m ≡ [] → waiting_requests m ≡ [] → Takes m mid (tick moment)
+pub ticks_once : (mode : Mode) (m mid new : Window) (moment : ℕ) (s t : Token) → waiting_fills m ≡ [] → waiting_requests m ≡ [] → Takes m mid (tick moment)
     → waiting_requests new ≡ waiting_requests mid → KeepsBlocks mid new → EntersOf s (FillsRetiredFor mode (waiting_fills mid)) t
     → TicksOnce mode (config_of m) (Stands m) (Stands new) moment (waiting_requests new) s t
 ticks_once mode m mid new moment s t fills requests takes same keeps filled = record {

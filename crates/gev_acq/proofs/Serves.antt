@@ -9,7 +9,7 @@ use Rattle.acquisition_machine.specs.Blocks.{fills}
 use Rattle.acquisition_machine.specs.Machine.{Input, State, step}
 use Rattle.acquisition_machine.specs.Runs.{first_state, after_from, After, turn}
 use Rattle.acquisition_machine.proofs.Joining.{after_from-append}
-use Rattle.acq_core.specs.declared.machine.Machine.{Machine}
+use Rattle.acq_core.specs.declared.window.Window.{Window}
 use Rattle.acq_core.specs.Receiver.{config_of, Stands, Takes, KeepsBlocks}
 use Rattle.acq_core.specs.Waiting.{waiting_fills}
 use Rattle.buffer_words.specs.Passes.{Token}
@@ -75,7 +75,7 @@ fills_claim_nothing : (mode : Mode) (rs : List Retired) (es : List Event) → Fi
 fills_claim_nothing mode rs es fills = fills_hold mode ClaimNothing rs es (quiet_holds mode) fill_claims_nothing fills
 
 -- One input that is no claim: what retires is filled.
-pub serves_filled : (mode : Mode) (m mid new : Machine) (i : Input) (s t : Token) → ClaimsOf mode i [] → claims_in (i ∷ []) ≡ []
+pub serves_filled : (mode : Mode) (m mid new : Window) (i : Input) (s t : Token) → ClaimsOf mode i [] → claims_in (i ∷ []) ≡ []
     → waiting_fills m ≡ [] → Takes m mid i → KeepsBlocks mid new → EntersOf s (FillsRetiredFor mode (waiting_fills mid)) t
     → ServesOn mode (config_of m) (Stands m) (Stands new) (i ∷ []) s t
 serves_filled mode m mid new i s t quiet none empty takes keeps filled = record {

@@ -2,7 +2,7 @@
 use Rattle.std.specs.Prelude.{◌≡◌, ℕ, ◌≤◌, List, [], Option}
 use Rattle.client_machine.specs.Machine.{Client, HasSubmittedNone}
 use Rattle.acq_core.specs.Receiver.{config_of, buffers, Stands}
-use Rattle.acq_core.specs.declared.machine.Machine.{Machine}
+use Rattle.acq_core.specs.declared.window.Window.{Window}
 use Rattle.acq_core.specs.Waiting.{waiting_fills, waiting_requests}
 use Rattle.camera_machine.specs.Camera.{Camera, new_camera}
 use Rattle.acquisition_machine.specs.declared.config.AcqConfig.{AcqConfig}
@@ -38,7 +38,7 @@ abbrev pub reader_side : Told → Client → Outside
 reader_side t client = record { received = t.stream.received; heard = t.control.received; sent = t.control.sent; told = t.host_clock; client = client }
 
 -- The camera, the receiver, the client and the journal are new, and the journal has room for so many turns.
-pub record AreNew (seed turns : ℕ) (camera : Camera) (receiver : Machine) (client : Client) (journal : List Turn) (room : ℕ) (lines : List ℕ) : Type 0 where
+pub record AreNew (seed turns : ℕ) (camera : Camera) (receiver : Window) (client : Client) (journal : List Turn) (room : ℕ) (lines : List ℕ) : Type 0 where
   pub camera_is : camera ≡ live_camera seed
   pub config : config_of receiver ≡ live_config
   pub stands : Stands receiver []

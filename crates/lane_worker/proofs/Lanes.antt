@@ -3,7 +3,7 @@ use Rattle.std.proofs.Common.{◌≡◌, ◌≢◌, ℕ, true, false, List, [], 
 use Rattle.std.proofs.lemmas.List.{append-nil, map-append}
 use Rattle.acquisition_machine.specs.declared.config.AcqConfig.{AcqConfig}
 use Rattle.acquisition_machine.specs.Machine.{Input, stop}
-use Rattle.acq_core.specs.declared.machine.Machine.{Machine}
+use Rattle.acq_core.specs.declared.window.Window.{Window}
 use Rattle.acq_core.specs.Receiver.{KeepsBlocks}
 use Rattle.acq_core.specs.Waiting.{waiting_fills, waiting_requests}
 use Rattle.buffer_words.specs.Passes.{Token}
@@ -26,14 +26,14 @@ puts-push [] r s t u none one = (u, subst (λ x. Puts r x u) none one, refl)
 puts-push (x ∷ rs) r s t u each one = (each.0, each.1, puts-push rs r each.0 t u each.2 one)
 
 -- Some of the requests that waited are given.
-pub record IsPutting (e : LaneEnd) (old : Machine) (f : LaneEnd) (m : Machine) : Type 0 where
+pub record IsPutting (e : LaneEnd) (old : Window) (f : LaneEnd) (m : Window) : Type 0 where
   pub done : List (List ℕ)
   pub parts : waiting_requests old ≡ done ++ waiting_requests m
   pub puts : PutsRequests done e f
   pub fills : waiting_fills m ≡ waiting_fills old
   pub rest : KeepsBlocks old m
 
-pub putting_begins : (e : LaneEnd) (m : Machine) → IsPutting e m e m
+pub putting_begins : (e : LaneEnd) (m : Window) → IsPutting e m e m
 putting_begins e m = record {
   done = [];
   parts = refl;
@@ -42,7 +42,7 @@ putting_begins e m = record {
   rest = keeps_all m;
 }
 
-pub putting_goes_on : (e : LaneEnd) (old : Machine) (f : LaneEnd) (m : Machine) (g : LaneEnd) (k : Machine) (request : List ℕ)
+pub putting_goes_on : (e : LaneEnd) (old : Window) (f : LaneEnd) (m : Window) (g : LaneEnd) (k : Window) (request : List ℕ)
     → IsPutting e old f m → waiting_requests m ≡ request ∷ waiting_requests k → waiting_fills k ≡ waiting_fills m → KeepsBlocks m k → PutsOne request f g
     → IsPutting e old g k
 putting_goes_on e old f m g k request so first fills keeps one = record {
@@ -58,7 +58,7 @@ putting_goes_on e old f m g k request so first fills keeps one = record {
   rest = keeps_then old m k so.rest keeps;
 }
 
-pub putting_ends : (e : LaneEnd) (old : Machine) (f : LaneEnd) (m : Machine) → IsPutting e old f m → waiting_requests m ≡ [] → PutsRequests (waiting_requests old) e f
+pub putting_ends : (e : LaneEnd) (old : Window) (f : LaneEnd) (m : Window) → IsPutting e old f m → waiting_requests m ≡ [] → PutsRequests (waiting_requests old) e f
 putting_ends e old f m so none = subst (λ l. PutsRequests l e f) (sym (so.parts ∙ (ap (λ l. so.done ++ l) none ∙ append-nil so.done))) so.puts
 
 -- ---- one cell more

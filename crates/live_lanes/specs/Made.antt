@@ -6,7 +6,7 @@ use Rattle.buffer_words.specs.Passes.{Token, own, IsEmptyHanded, Enters}
 use Rattle.client_machine.specs.Machine.{Client, HasSubmittedNone}
 use Rattle.camera_machine.specs.Camera.{Camera}
 use Rattle.acq_core.specs.Receiver.{config_of, buffers, Stands}
-use Rattle.acq_core.specs.declared.machine.Machine.{Machine}
+use Rattle.acq_core.specs.declared.window.Window.{Window}
 use Rattle.acq_core.specs.Waiting.{waiting_fills, waiting_requests}
 use Rattle.gev_lanes.specs.declared.parts.LaneQueues.{LaneQueues}
 use Rattle.gev_lanes.specs.declared.parts.ReaderLane.{ReaderLane}
@@ -17,7 +17,7 @@ use Rattle.lane_crew.specs.declared.lane_tools.LaneTools.{LaneTools}
 use Rattle.live_lanes.specs.declared.lane_parts.LaneParts.{LaneParts}
 
 -- A receiver that took nothing yet.
-pub record IsNewReceiver (receiver : Machine) : Type 0 where
+pub record IsNewReceiver (receiver : Window) : Type 0 where
   pub config : config_of receiver ≡ live_config
   pub stands : Stands receiver []
   pub fills : waiting_fills receiver ≡ []

@@ -9,7 +9,7 @@ use Rattle.board_model.specs.Plain.{PlainState}
 use Rattle.acquisition_machine.specs.declared.retired.Retired.{Retired}
 use Rattle.acquisition_machine.specs.Machine.{Input, tick, stop}
 use Rattle.acquisition_machine.specs.Runs.{turn}
-use Rattle.acq_core.specs.declared.machine.Machine.{Machine}
+use Rattle.acq_core.specs.declared.window.Window.{Window}
 use Rattle.acq_core.specs.Standing.{IsConfig}
 use Rattle.acq_core.specs.Receiver.{config_of, asked_block, buffers, KeepsBlocks}
 use Rattle.acq_core.specs.Waiting.{waiting_fills, waiting_requests}
@@ -30,21 +30,21 @@ use Rattle.picture_lines.specs.Telling.{Feeds, SettlesNoting}
 use Rattle.picture_lines.specs.Noting.{Notes, DrivesNoting}
 use Rattle.picture_lines.proofs.Following.{noted_one}
 
-pub turned_by : (m fed n : Machine) (i : Input) (was places : List (Option Look)) → Feeds m fed i was places → KeepsBlocks fed n → Turned m n i (waiting_fills fed)
+pub turned_by : (m fed n : Window) (i : Input) (was places : List (Option Look)) → Feeds m fed i was places → KeepsBlocks fed n → Turned m n i (waiting_fills fed)
 turned_by m fed n i was places feeds keeps = record {
   stands = λ q stands. keeps.stands (q ++ i ∷ []) (feeds.stands q stands);
   fills = λ q stands. feeds.fills q stands;
   config = keeps.config ∙ feeds.config;
 }
 
-pub settles_by : (mode : Mode) (s new : PlainState) (m fed n : Machine) (a b : FillCounts) (i : Input) (was places : List (Option Look)) → Feeds m fed i was places → KeepsBlocks fed n → FillsAll mode (waiting_fills fed) s a new b
+pub settles_by : (mode : Mode) (s new : PlainState) (m fed n : Window) (a b : FillCounts) (i : Input) (was places : List (Option Look)) → Feeds m fed i was places → KeepsBlocks fed n → FillsAll mode (waiting_fills fed) s a new b
     → SettlesNoting mode i s m a was new n b places
 settles_by mode s new m fed n a b i was places feeds keeps all = record {
   settled = record { retired = waiting_fills fed; turned = turned_by m fed n i was places feeds keeps; all = all };
   looks = λ q stands. feeds.looks q stands;
 }
 
-rests_by : (s new : PlainState) (m n : Machine) (i : Input) (xs : List Retired) → IsAtRest s m → Turned m n i xs → IsReady new → waiting_fills n ≡ [] → waiting_requests n ≡ [] → asked_block n ≡ None → AreAway new (buffers n) → IsAtRest new n
+rests_by : (s new : PlainState) (m n : Window) (i : Input) (xs : List Retired) → IsAtRest s m → Turned m n i xs → IsReady new → waiting_fills n ≡ [] → waiting_requests n ≡ [] → asked_block n ≡ None → AreAway new (buffers n) → IsAtRest new n
 rests_by s new m n i xs rest turned ready no_fill no_request asked away = record {
   ready = ready;
   config = subst IsConfig (sym turned.config) rest.config;
@@ -62,7 +62,7 @@ told_so mode told xs es same filled = subst (λ (k : Mode). FillsInMode k xs es)
 
 -- ---- stop
 
-pub stops_so : (mode : Mode) (s mid new : PlainState) (m fed n : Machine) (a b : FillCounts) (flags : ℕ) (was places : List (Option Look)) → IsAtRest s m → AddsOf s.board caller (Stops flags (Ok tt)) mid.board → mid.contents ≡ s.contents
+pub stops_so : (mode : Mode) (s mid new : PlainState) (m fed n : Window) (a b : FillCounts) (flags : ℕ) (was places : List (Option Look)) → IsAtRest s m → AddsOf s.board caller (Stops flags (Ok tt)) mid.board → mid.contents ≡ s.contents
     → Feeds m fed stop was places → FillsAll mode (waiting_fills fed) mid a new b → KeepsBlocks fed n → waiting_fills n ≡ [] → waiting_requests n ≡ [] → asked_block n ≡ None → AreAway new (buffers n)
     → DrivesNoting (StopsIn (config_of m) mode flags) s m a was new n b places
 stops_so mode s mid new m fed n a b flags was places rest called same feeds all keeps no_fill no_request asked away = record {
@@ -81,7 +81,7 @@ stops_so mode s mid new m fed n a b flags was places rest called same feeds all 
   config = keeps.config ∙ feeds.config;
 }
 
-pub stops_not : (mode : Mode) (s mid : PlainState) (m : Machine) (a : FillCounts) (flags : ℕ) (error : GcError) (was : List (Option Look)) → IsAtRest s m → AddsOf s.board caller (Stops flags (Err error)) mid.board → mid.contents ≡ s.contents
+pub stops_not : (mode : Mode) (s mid : PlainState) (m : Window) (a : FillCounts) (flags : ℕ) (error : GcError) (was : List (Option Look)) → IsAtRest s m → AddsOf s.board caller (Stops flags (Err error)) mid.board → mid.contents ≡ s.contents
     → DrivesNoting (StopsIn (config_of m) mode flags) s m a was mid m a was
 stops_not mode s mid m a flags error was rest called same = record {
   drives = λ t behind. (
@@ -99,7 +99,7 @@ stops_not mode s mid m a flags error was rest called same = record {
 
 -- ---- t
 
-pub ticks_so : (mode : Mode) (s new : PlainState) (m fed filled_at n : Machine) (a b : FillCounts) (moment : ℕ) (was places : List (Option Look)) → IsAtRest s m → Feeds m fed (tick moment) was places → FillsAll mode (waiting_fills fed) s a new b
+pub ticks_so : (mode : Mode) (s new : PlainState) (m fed filled_at n : Window) (a b : FillCounts) (moment : ℕ) (was places : List (Option Look)) → IsAtRest s m → Feeds m fed (tick moment) was places → FillsAll mode (waiting_fills fed) s a new b
     → KeepsBlocks fed filled_at → KeepsBlocks filled_at n → waiting_fills n ≡ [] → waiting_requests n ≡ [] → asked_block n ≡ None → AreAway new (buffers n)
     → DrivesNoting (TicksIn (config_of m) mode moment) s m a was new n b places
 ticks_so mode s new m fed filled_at n a b moment was places rest feeds all keeps keeps_too no_fill no_request asked away = record {

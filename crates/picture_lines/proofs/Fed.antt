@@ -8,7 +8,7 @@ use Rattle.acquisition_machine.specs.Machine.{Input}
 use Rattle.acquisition_machine.specs.Runs.{After, turn}
 use Rattle.acquisition_machine.specs.TurnLaws.{given_of}
 use Rattle.acq_core.specs.declared.ended.Held.{Held}
-use Rattle.acq_core.specs.declared.machine.Machine.{Machine}
+use Rattle.acq_core.specs.declared.window.Window.{Window}
 use Rattle.acq_core.specs.Ending.{held_of, ends_of}
 use Rattle.acq_core.specs.Receiver.{config_of, is_telling, buffers, Takes, KeepsBuffers, KeepsBlocks}
 use Rattle.acq_core.specs.Waiting.{waiting_fills, waiting_ends}
@@ -32,7 +32,7 @@ ends_tell p floor (r ∷ rs) places =
     ends_tell p (r.was.block + 1) rs (with_held (held_of p r.was.block r.was.given r.was.heard) places) ∙ ap (noted_all p rs) (one_noted p r.was r.was.given places)
 
 -- The ends were asked for, the input came, and what it ended was noted.
-pub feeds : (m told mid n : Machine) (i : Input) (was places : List (Option Look)) → waiting_fills m ≡ [] → KeepsBlocks m told → waiting_fills told ≡ waiting_fills m → is_telling told ≡ true → Takes told mid i
+pub feeds : (m told mid n : Window) (i : Input) (was places : List (Option Look)) → waiting_fills m ≡ [] → KeepsBlocks m told → waiting_fills told ≡ waiting_fills m → is_telling told ≡ true → Takes told mid i
     → places ≡ with_ends (waiting_ends mid) was → waiting_fills n ≡ waiting_fills mid → KeepsBlocks mid n → Feeds m n i was places
 feeds m told mid n i was places none asks same telling takes noted_so same_too keeps = record {
   stands = λ q stands. keeps.stands (q ++ i ∷ []) (takes.stands q (asks.stands q stands));
@@ -48,7 +48,7 @@ feeds m told mid n i was places none asks same telling takes noted_so same_too k
   config = keeps.config ∙ takes.config ∙ asks.config;
 }
 
-pub buffers_stay : (m told mid n : Machine) → KeepsBlocks m told → waiting_fills told ≡ waiting_fills m → KeepsBuffers told mid → waiting_fills n ≡ waiting_fills mid → KeepsBlocks mid n → KeepsBuffers m n
+pub buffers_stay : (m told mid n : Window) → KeepsBlocks m told → waiting_fills told ≡ waiting_fills m → KeepsBuffers told mid → waiting_fills n ≡ waiting_fills mid → KeepsBlocks mid n → KeepsBuffers m n
 buffers_stay m told mid n asks same keeps_all same_too keeps =
     ap (λ xs. map given_of xs ++ buffers n) same_too ∙ ap (λ gs. map given_of (waiting_fills mid) ++ gs) keeps.buffers
     ∙ keeps_all

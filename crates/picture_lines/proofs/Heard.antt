@@ -10,7 +10,7 @@ use Rattle.acquisition_machine.specs.Blocks.{Given}
 use Rattle.acquisition_machine.specs.Machine.{Input, datagram, claimed}
 use Rattle.acquisition_machine.specs.Runs.{turn}
 use Rattle.acquisition_machine.specs.TurnLaws.{asked_by}
-use Rattle.acq_core.specs.declared.machine.Machine.{Machine}
+use Rattle.acq_core.specs.declared.window.Window.{Window}
 use Rattle.acq_core.specs.Receiver.{config_of, asked_block, buffers, Stands}
 use Rattle.acq_core.specs.Waiting.{waiting_fills, waiting_requests}
 use Rattle.mode_calls.specs.declared.mode.Mode.{Mode}
@@ -28,7 +28,7 @@ use Rattle.picture_lines.specs.Noting.{noted_by, Notes, DrivesNoting}
 use Rattle.picture_lines.proofs.Following.{noted_one, noted_twice}
 
 -- a datagram that wants no buffer
-pub hears_once : (mode : Mode) (s new : PlainState) (m n : Machine) (a b : FillCounts) (bytes : List ℕ) (need : Need) (was places : List (Option Look)) → IsAtRest s m → SettlesNoting mode (datagram bytes) s m a was new n b places
+pub hears_once : (mode : Mode) (s new : PlainState) (m n : Window) (a b : FillCounts) (bytes : List ℕ) (need : Need) (was places : List (Option Look)) → IsAtRest s m → SettlesNoting mode (datagram bytes) s m a was new n b places
     → ((q : List Input) → Stands m q → (turn (config_of m) q (datagram bytes)).need ≡ Some need) → asked_by (Some need) ≡ None
     → IsReady new → waiting_fills n ≡ [] → waiting_requests n ≡ [] → asked_block n ≡ None → AreAway new (buffers n)
     → DrivesNoting (HearsIn (config_of m) mode bytes) s m a was new n b places
@@ -43,7 +43,7 @@ hears_once mode s new m n a b bytes need was places rest settles answer none rea
 }
 
 -- a datagram that wants a buffer
-pub hears_again : (mode : Mode) (s given_up given new : PlainState) (m first held n : Machine) (a b k c : FillCounts) (bytes : List ℕ) (block : ℕ) (was mid places : List (Option Look)) → IsAtRest s m
+pub hears_again : (mode : Mode) (s given_up given new : PlainState) (m first held n : Window) (a b k c : FillCounts) (bytes : List ℕ) (block : ℕ) (was mid places : List (Option Look)) → IsAtRest s m
     → SettlesNoting mode (datagram bytes) s m a was given_up first b mid → Claims mode given_up first b given held k → SettlesNoting mode (datagram bytes) given held k mid new n c places
     → ((q : List Input) → Stands m q → (turn (config_of m) q (datagram bytes)).need ≡ Some (Buffer block))
     → IsReady new → waiting_fills n ≡ [] → waiting_requests n ≡ [] → asked_block n ≡ None → AreAway new (buffers n)

@@ -10,7 +10,7 @@ use Rattle.board_machine.specs.Machine.{Board}
 use Rattle.board_model.specs.Plain.{PlainState}
 use Rattle.acquisition_machine.specs.declared.config.AcqConfig.{AcqConfig}
 use Rattle.acquisition_machine.specs.Machine.{Input}
-use Rattle.acq_core.specs.declared.machine.Machine.{Machine}
+use Rattle.acq_core.specs.declared.window.Window.{Window}
 use Rattle.acq_core.specs.Receiver.{config_of, Stands}
 use Rattle.frame_pictures.specs.declared.look.Look.{Look}
 use Rattle.script_trace.specs.Trace.{Trace, Part, board, grown}
@@ -28,7 +28,7 @@ use Rattle.script_replay.proofs.Replaying.{leads_on, still, drives_with}
 use Rattle.picture_lines.specs.Noting.{Notes, DrivesNoting, AddsNoting, GoesNoting}
 
 -- the same part, of which something else is known
-drives_as_too : (Line Other : Trace → Part → Type 0) (idle : ℕ) (a : FillCounts) (said : List ℕ) (new : PlainState) (n : Machine) (b : FillCounts) (t : Trace) → (did : DrivesAt Line idle a said new n b t) → Other t did.part → DrivesAt Other idle a said new n b t
+drives_as_too : (Line Other : Trace → Part → Type 0) (idle : ℕ) (a : FillCounts) (said : List ℕ) (new : PlainState) (n : Window) (b : FillCounts) (t : Trace) → (did : DrivesAt Line idle a said new n b t) → Other t did.part → DrivesAt Other idle a said new n b t
 drives_as_too Line Other idle a said new n b t did other = record {
   part = did.part;
   spells = other;
@@ -44,11 +44,11 @@ drives_as_too Line Other idle a said new n b t did other = record {
   counted = did.counted;
 }
 
-abbrev driven : Running → PlainState → Machine → FillCounts → ℕ → Running
+abbrev driven : Running → PlainState → Window → FillCounts → ℕ → Running
 driven old board acq counts idle = record old { board = board; acq = acq; counts = counts; idle = idle }
 
 -- The line adds its part, and this many datagrams are idle by it.
-adds_noting : (l : ScriptLine) (idle : ℕ) (old : Running) (was : List (Option Look)) (new_board : PlainState) (acq : Machine) (counts : FillCounts) (places : List (Option Look)) (t : Trace) (n : ℕ) → n ≡ min (old.idle + idle) (2 ^ 64 - 1) → StandsAt old t
+adds_noting : (l : ScriptLine) (idle : ℕ) (old : Running) (was : List (Option Look)) (new_board : PlainState) (acq : Window) (counts : FillCounts) (places : List (Option Look)) (t : Trace) (n : ℕ) → n ≡ min (old.idle + idle) (2 ^ 64 - 1) → StandsAt old t
     → (said : List ℕ) × DrivesAt (λ u part. (u.mode ≡ old.mode → Spells (config_of old.acq) u l part) × Notes (config_of old.acq) was places u part) idle old.counts said new_board acq counts t
     → AddsNoting (config_of old.acq) l was (driven old new_board acq counts n) places t
 adds_noting l idle old was new_board acq counts places t n is stands (said, did) =
@@ -80,7 +80,7 @@ goes_noting l old was new places keeps adds config rest same =
     }
 
 -- A line that counts no datagram as idle.
-pub drive_noting : (l : ScriptLine) (old : Running) (was : List (Option Look)) (new_board : PlainState) (acq : Machine) (counts : FillCounts) (places : List (Option Look)) → IsReplaying old
+pub drive_noting : (l : ScriptLine) (old : Running) (was : List (Option Look)) (new_board : PlainState) (acq : Window) (counts : FillCounts) (places : List (Option Look)) → IsReplaying old
     → DrivesNoting (λ t part. t.mode ≡ old.mode → Spells (config_of old.acq) t l part) old.board old.acq old.counts was new_board acq counts places
     → GoesNoting l old was (record old { board = new_board; acq = acq; counts = counts }) places
 drive_noting l old was new_board acq counts places keeps did =
@@ -89,7 +89,7 @@ drive_noting l old was new_board acq counts places keeps did =
     did.config did.rest refl
 
 -- a datagram that is heard is the line's
-pub heard_noting : (digits bytes : List ℕ) (old : Running) (was : List (Option Look)) (new_board : PlainState) (acq : Machine) (counts : FillCounts) (places : List (Option Look)) → IsReplaying old → old.board.board.run ≡ 1 → decode_of digits ≡ Ok bytes
+pub heard_noting : (digits bytes : List ℕ) (old : Running) (was : List (Option Look)) (new_board : PlainState) (acq : Window) (counts : FillCounts) (places : List (Option Look)) → IsReplaying old → old.board.board.run ≡ 1 → decode_of digits ≡ Ok bytes
     → DrivesNoting (HearsIn (config_of old.acq) old.mode bytes) old.board old.acq old.counts was new_board acq counts places
     → GoesNoting (line.datagram digits) old was (record old { board = new_board; acq = acq; counts = counts }) places
 heard_noting digits bytes old was new_board acq counts places keeps running is did =

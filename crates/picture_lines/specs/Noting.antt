@@ -6,7 +6,7 @@ use Rattle.board_model.specs.Plain.{PlainState}
 use Rattle.acquisition_machine.specs.declared.config.AcqConfig.{AcqConfig}
 use Rattle.acquisition_machine.specs.Machine.{Input}
 use Rattle.acquisition_machine.specs.Runs.{After, retired_from}
-use Rattle.acq_core.specs.declared.machine.Machine.{Machine}
+use Rattle.acq_core.specs.declared.window.Window.{Window}
 use Rattle.acq_core.specs.Receiver.{config_of}
 use Rattle.frame_pictures.specs.declared.look.Look.{Look}
 use Rattle.script_trace.specs.Trace.{Trace, Part}
@@ -29,7 +29,7 @@ abbrev pub Notes : AcqConfig → List (Option Look) → List (Option Look) → T
 Notes c was places t part = places ≡ noted_by c t.inputs part.inputs was
 
 -- The line adds a part with some report, and the looks are those with what retired by it.
-pub record DrivesNoting (Line : Trace → Part → Type 0) (s : PlainState) (m : Machine) (a : FillCounts) (was : List (Option Look)) (new : PlainState) (n : Machine) (b : FillCounts) (places : List (Option Look)) : Type 0 where
+pub record DrivesNoting (Line : Trace → Part → Type 0) (s : PlainState) (m : Window) (a : FillCounts) (was : List (Option Look)) (new : PlainState) (n : Window) (b : FillCounts) (places : List (Option Look)) : Type 0 where
   pub drives : (t : Trace) → IsBehindTrace t s m → (said : List ℕ) × DrivesAt (λ u part. Line u part × Notes (config_of m) was places u part) 0 a said new n b t
   pub rest : IsAtRest new n
   pub config : config_of n ≡ config_of m

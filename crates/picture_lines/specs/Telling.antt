@@ -6,7 +6,7 @@ use Rattle.acquisition_machine.specs.Machine.{Input}
 use Rattle.acquisition_machine.specs.Runs.{turn}
 use Rattle.acq_core.specs.declared.ended.Held.{Held}
 use Rattle.acq_core.specs.declared.ended.Ended.{Ended}
-use Rattle.acq_core.specs.declared.machine.Machine.{Machine}
+use Rattle.acq_core.specs.declared.window.Window.{Window}
 use Rattle.acq_core.specs.Ending.{ends_of}
 use Rattle.acq_core.specs.Receiver.{config_of, Stands}
 use Rattle.acq_core.specs.Waiting.{waiting_fills}
@@ -33,13 +33,13 @@ EndsTellLooks = (p floor : ℕ) (rs : List Retirement) (places : List (Option Lo
 
 -- An input came to a receiver in which nothing waited: its fills wait, and the looks of the blocks that retired were
 -- noted.
-pub record Feeds (m n : Machine) (i : Input) (was places : List (Option Look)) : Type 0 where
+pub record Feeds (m n : Window) (i : Input) (was places : List (Option Look)) : Type 0 where
   pub stands : (q : List Input) → Stands m q → Stands n (q ++ i ∷ [])
   pub fills : (q : List Input) → Stands m q → waiting_fills n ≡ fills (config_of m).p (turn (config_of m) q i).retired
   pub looks : (q : List Input) → Stands m q → places ≡ noted_all (config_of m).p (turn (config_of m) q i).retired was
   pub config : config_of n ≡ config_of m
 
 -- The same, and the buffers that came back were filled.
-pub record SettlesNoting (mode : Mode) (i : Input) (s : PlainState) (m : Machine) (a : FillCounts) (was : List (Option Look)) (new : PlainState) (n : Machine) (b : FillCounts) (places : List (Option Look)) : Type 0 where
+pub record SettlesNoting (mode : Mode) (i : Input) (s : PlainState) (m : Window) (a : FillCounts) (was : List (Option Look)) (new : PlainState) (n : Window) (b : FillCounts) (places : List (Option Look)) : Type 0 where
   pub settled : Settled mode i s m a new n b
   pub looks : (q : List Input) → Stands m q → places ≡ noted_all (config_of m).p (turn (config_of m) q i).retired was

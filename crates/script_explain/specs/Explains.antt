@@ -9,7 +9,7 @@ use Rattle.script_runs.specs.declared.ran.Ran.TheVariants.{GoesOn, Ended}
 use Rattle.acquisition_machine.specs.declared.config.AcqConfig.{AcqConfig}
 use Rattle.acquisition_machine.specs.Machine.{Input}
 use Rattle.acquisition_machine.specs.Runs.{After}
-use Rattle.acq_core.specs.declared.machine.Machine.{Machine}
+use Rattle.acq_core.specs.declared.window.Window.{Window}
 use Rattle.acq_core.specs.Receiver.{config_of, Stands}
 use Rattle.acquisition_notes.specs.Notes.{Note}
 use Rattle.acquisition_notes.specs.Texts.{words_line, notes_text}
@@ -67,7 +67,7 @@ pub record ToldBy (ran : Ran) (text : List ℕ) (old : Script) (said : List ℕ)
 -- ---- what is written of it
 
 -- the moment that this receiver was told
-abbrev pub IsMoment : Machine → ℕ → Type 0
+abbrev pub IsMoment : Window → ℕ → Type 0
 IsMoment m moment = (q : List Input) → Stands m q → moment ≡ (After (config_of m) q).now
 
 -- The notes are written and counted, and the report behind them.

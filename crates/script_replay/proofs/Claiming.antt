@@ -26,7 +26,7 @@ use Rattle.acquisition_machine.specs.Machine.{Input, datagram, claimed}
 use Rattle.acquisition_machine.specs.Runs.{turn}
 use Rattle.acquisition_machine.specs.TurnLaws.{asked_by, answer_again, TakesGiven}
 use Rattle.acquisition_machine.proofs.Once.{asks_once}
-use Rattle.acq_core.specs.declared.machine.Machine.{Machine}
+use Rattle.acq_core.specs.declared.window.Window.{Window}
 use Rattle.acq_core.specs.Giving.{given_as}
 use Rattle.acq_core.specs.Standing.{IsConfig}
 use Rattle.acq_core.specs.Receiver.{config_of, asked_block, buffers, Stands, Takes, KeepsBlocks}
@@ -152,7 +152,7 @@ same_claim place block was_dropped dropped is = ap (λ b. Some (place, b)) (go w
     go false = refl
 
 -- there was no place
-pub claims_none : (mode : Mode) (s new : PlainState) (m n : Machine) (a : FillCounts) → AddsOf s.board acquirer (ClaimsFor mode None) new.board → new.contents ≡ s.contents → Takes m n (claimed None) → TellsClaim None mode s m a new n a
+pub claims_none : (mode : Mode) (s new : PlainState) (m n : Window) (a : FillCounts) → AddsOf s.board acquirer (ClaimsFor mode None) new.board → new.contents ≡ s.contents → Takes m n (claimed None) → TellsClaim None mode s m a new n a
 claims_none mode s new m n a called same takes =
     let keeps : Keeps s.board new.board = claims_keep mode None called.events s.board new.board called.kind called.adds in
     record {
@@ -187,7 +187,7 @@ pub none_away : (mode : Mode) (s new : PlainState) (gs : List Given) → AddsOf 
 none_away mode s new gs called same away = none_all s new gs (claims_keep mode None called.events s.board new.board called.kind called.adds) same away
 
 -- a place was claimed, and its buffer lifted
-pub claims_some : (mode : Mode) (s mid new : PlainState) (m n : Machine) (a b : FillCounts) (place : ℕ) (was_dropped : Bool) (buf : Filling) (dropped : Option ℕ) → AddsOf s.board acquirer (ClaimsFor mode (Some (place, was_dropped))) mid.board → mid.contents ≡ s.contents
+pub claims_some : (mode : Mode) (s mid new : PlainState) (m n : Window) (a b : FillCounts) (place : ℕ) (was_dropped : Bool) (buf : Filling) (dropped : Option ℕ) → AddsOf s.board acquirer (ClaimsFor mode (Some (place, was_dropped))) mid.board → mid.contents ≡ s.contents
     → InHand mid.board acquirer place → HasBuf mid place → length buf.bytes ≡ (word_at mid.board place).size → new.board ≡ mid.board → new.contents ≡ set mid.contents place nothing
     → Takes m n (claimed (given_as (Some (place, buf)))) → b ≡ counted_claim a was_dropped
     → (was_dropped ≡ true → WasFirst s place mid) → lying mid.contents place ≡ Some buf → dropped ≡ (if was_dropped then Some buf.rec.block else None)
@@ -225,7 +225,7 @@ given_away s new g (Some b) before after takes beside apart mine away =
     (away_more new g takes.front takes.back mine (subst (λ (gs : List Given). AreApart g.place gs) takes.were apart)
     (subst (λ (gs : List Given). AreAway new gs) takes.were (beside_all s new g.place before beside apart away)))
 
-pub some_away : (mode : Mode) (s mid new : PlainState) (m n : Machine) (place : ℕ) (was_dropped : Bool) (buf : Filling) → IsReady s → AddsOf s.board acquirer (ClaimsFor mode (Some (place, was_dropped))) mid.board → mid.contents ≡ s.contents
+pub some_away : (mode : Mode) (s mid new : PlainState) (m n : Window) (place : ℕ) (was_dropped : Bool) (buf : Filling) → IsReady s → AddsOf s.board acquirer (ClaimsFor mode (Some (place, was_dropped))) mid.board → mid.contents ≡ s.contents
     → InHand mid.board acquirer place → HasBuf mid place → length buf.bytes ≡ (word_at mid.board place).size → new.board ≡ mid.board → new.contents ≡ set mid.contents place nothing
     → TakesGiven (given_as (Some (place, buf))) (asked_block m) (buffers m) (buffers n) → AreAway s (buffers m) → AreAway new (buffers n)
 some_away mode s mid new m n place was_dropped buf ready called same has lies size board_same gone takes away =
@@ -234,7 +234,7 @@ some_away mode s mid new m n place was_dropped buf ready called same has lies si
     (all_apart s place (buffers m) (λ i mine. claims_apart mode s.board i place was_dropped called.events (well_owned s ready) called.kind called.adds.runs mine) away)
     (claimed_away mid new place buf has lies size board_same gone) away
 
-pub claims_ready : {mode : Mode} {a b : FillCounts} (s new : PlainState) (m n : Machine) → Claims mode s m a new n b → IsReady s → IsReady new
+pub claims_ready : {mode : Mode} {a b : FillCounts} (s new : PlainState) (m n : Window) → Claims mode s m a new n b → IsReady s → IsReady new
 claims_ready s new m n claims ready = record {
   actors = λ k low. claims.actors k (ready.actors k low);
   history = ready.history ++ entries_of acquirer claims.events;
@@ -244,7 +244,7 @@ claims_ready s new m n claims ready = record {
 -- ---- a datagram
 
 -- what an input left, where its buffers were filled
-pub settled_by : (mode : Mode) (s new : PlainState) (m mid n : Machine) (a b : FillCounts) (i : Input) → Takes m mid i → KeepsBlocks mid n → waiting_fills m ≡ [] → FillsAll mode (waiting_fills mid) s a new b → Settled mode i s m a new n b
+pub settled_by : (mode : Mode) (s new : PlainState) (m mid n : Window) (a b : FillCounts) (i : Input) → Takes m mid i → KeepsBlocks mid n → waiting_fills m ≡ [] → FillsAll mode (waiting_fills mid) s a new b → Settled mode i s m a new n b
 settled_by mode s new m mid n a b i takes keeps none all = record { retired = waiting_fills mid; turned = turned m mid n i takes keeps none; all = all }
 
 -- where the trace is in this mode, a datagram is heard so
@@ -256,7 +256,7 @@ abbrev pub HearsAnd : AcqConfig → Mode → List ℕ → (Trace → Part → Ty
 HearsAnd c mode bytes Also t part = HearsIn c mode bytes t part × Also t part
 
 -- A datagram that wants no buffer.
-pub hears_with : (mode : Mode) (s new : PlainState) (m n : Machine) (a b : FillCounts) (bytes : List ℕ) (need : Need) (settled : Settled mode (datagram bytes) s m a new n b) → ((q : List Input) → Stands m q → (turn (config_of m) q (datagram bytes)).need ≡ Some need) → asked_by (Some need) ≡ None
+pub hears_with : (mode : Mode) (s new : PlainState) (m n : Window) (a b : FillCounts) (bytes : List ℕ) (need : Need) (settled : Settled mode (datagram bytes) s m a new n b) → ((q : List Input) → Stands m q → (turn (config_of m) q (datagram bytes)).need ≡ Some need) → asked_by (Some need) ≡ None
     → (Also : Trace → Part → Type 0) (t : Trace) → IsBehindTrace t s m → Also t (tells t [] (datagram bytes) settled.all.events []) → DrivesAt (HearsAnd (config_of m) mode bytes Also) 0 a [] new n b t
 hears_with mode s new m n a b bytes need settled answer none Also t behind also =
     settles_with mode s s new m n a b [] (datagram bytes) settled.retired [] [] (HearsAnd (config_of m) mode bytes Also) t settled.all
@@ -268,7 +268,7 @@ hears_with mode s new m n a b bytes need settled answer none Also t behind also 
     (none_called s) settled.turned refl behind
 
 -- the first of two facts of a part
-pub drives_first : (Line Also : Trace → Part → Type 0) (idle : ℕ) (a : FillCounts) (said : List ℕ) (new : PlainState) (n : Machine) (b : FillCounts) (t : Trace) → DrivesAt (λ u part. Line u part × Also u part) idle a said new n b t → DrivesAt Line idle a said new n b t
+pub drives_first : (Line Also : Trace → Part → Type 0) (idle : ℕ) (a : FillCounts) (said : List ℕ) (new : PlainState) (n : Window) (b : FillCounts) (t : Trace) → DrivesAt (λ u part. Line u part × Also u part) idle a said new n b t → DrivesAt Line idle a said new n b t
 drives_first Line Also idle a said new n b t did = record {
   part = did.part;
   spells = did.spells.0;
@@ -284,7 +284,7 @@ drives_first Line Also idle a said new n b t did = record {
   counted = did.counted;
 }
 
-pub hears_at : (mode : Mode) (s new : PlainState) (m n : Machine) (a b : FillCounts) (bytes : List ℕ) (need : Need) → Settled mode (datagram bytes) s m a new n b → ((q : List Input) → Stands m q → (turn (config_of m) q (datagram bytes)).need ≡ Some need) → asked_by (Some need) ≡ None
+pub hears_at : (mode : Mode) (s new : PlainState) (m n : Window) (a b : FillCounts) (bytes : List ℕ) (need : Need) → Settled mode (datagram bytes) s m a new n b → ((q : List Input) → Stands m q → (turn (config_of m) q (datagram bytes)).need ≡ Some need) → asked_by (Some need) ≡ None
     → Drives (HearsIn (config_of m) mode bytes) 0 s m a [] new n b
 hears_at mode s new m n a b bytes need settled answer none t behind =
     drives_first (HearsIn (config_of m) mode bytes) (λ u part. ⊤) 0 a [] new n b t
@@ -307,7 +307,7 @@ heard_part t bytes events got = record {
 }
 
 -- A datagram that wants a buffer.
-pub hears_twice_with : (mode : Mode) (s given_up given new : PlainState) (m first held n : Machine) (a b k c : FillCounts) (bytes : List ℕ) (block : ℕ) (settled : Settled mode (datagram bytes) s m a given_up first b) (claims : Claims mode given_up first b given held k)
+pub hears_twice_with : (mode : Mode) (s given_up given new : PlainState) (m first held n : Window) (a b k c : FillCounts) (bytes : List ℕ) (block : ℕ) (settled : Settled mode (datagram bytes) s m a given_up first b) (claims : Claims mode given_up first b given held k)
     (again : Settled mode (datagram bytes) given held k new n c) → ((q : List Input) → Stands m q → (turn (config_of m) q (datagram bytes)).need ≡ Some (Buffer block))
     → (Also : Trace → Part → Type 0) (t : Trace) → IsBehindTrace t s m → Also t (heard_part t bytes (settled.all.events ++ (claims.events ++ again.all.events)) (place_of claims.claim))
     → DrivesAt (HearsAnd (config_of m) mode bytes Also) 0 a [] new n c t
@@ -404,7 +404,7 @@ hears_twice_with mode s given_up given new m first held n a b k c bytes block se
       is = refl;
     }
 
-pub hears_twice : (mode : Mode) (s given_up given new : PlainState) (m first held n : Machine) (a b k c : FillCounts) (bytes : List ℕ) (block : ℕ) → Settled mode (datagram bytes) s m a given_up first b → Claims mode given_up first b given held k
+pub hears_twice : (mode : Mode) (s given_up given new : PlainState) (m first held n : Window) (a b k c : FillCounts) (bytes : List ℕ) (block : ℕ) → Settled mode (datagram bytes) s m a given_up first b → Claims mode given_up first b given held k
     → Settled mode (datagram bytes) given held k new n c → ((q : List Input) → Stands m q → (turn (config_of m) q (datagram bytes)).need ≡ Some (Buffer block))
     → Drives (HearsIn (config_of m) mode bytes) 0 s m a [] new n c
 hears_twice mode s given_up given new m first held n a b k c bytes block settled claims again answer t behind =
@@ -412,7 +412,7 @@ hears_twice mode s given_up given new m first held n a b k c bytes block settled
     (hears_twice_with mode s given_up given new m first held n a b k c bytes block settled claims again answer (λ u part. ⊤) t behind tt)
 
 -- after the outcome was told, the datagram asks for no buffer
-pub asks_no_more : {mode : Mode} {a b k : FillCounts} (s given_up given : PlainState) (m first held : Machine) (bytes : List ℕ) (block : ℕ) (q : List Input) (again : Need) → IsConfig (config_of m) → Stands m q → Settled mode (datagram bytes) s m a given_up first b → Claims mode given_up first b given held k
+pub asks_no_more : {mode : Mode} {a b k : FillCounts} (s given_up given : PlainState) (m first held : Window) (bytes : List ℕ) (block : ℕ) (q : List Input) (again : Need) → IsConfig (config_of m) → Stands m q → Settled mode (datagram bytes) s m a given_up first b → Claims mode given_up first b given held k
     → ((r : List Input) → Stands m r → (turn (config_of m) r (datagram bytes)).need ≡ Some (Buffer block))
     → ((r : List Input) → Stands held r → (turn (config_of held) r (datagram bytes)).need ≡ Some again) → asked_by (Some again) ≡ None
 asks_no_more s given_up given m first held bytes block q again config stands settled claims answer answer_too =
@@ -431,7 +431,7 @@ asks_no_more s given_up given m first held bytes block q again config stands set
     none_again None = refl
     none_again (Some g) = refl
 
-pub hear_rests : {mode : Mode} {a b : FillCounts} (s new : PlainState) (m n : Machine) (bytes : List ℕ) → IsAtRest s m → Settled mode (datagram bytes) s m a new n b → IsReady new → waiting_fills n ≡ [] → waiting_requests n ≡ [] → asked_block n ≡ None → AreAway new (buffers n) → IsAtRest new n
+pub hear_rests : {mode : Mode} {a b : FillCounts} (s new : PlainState) (m n : Window) (bytes : List ℕ) → IsAtRest s m → Settled mode (datagram bytes) s m a new n b → IsReady new → waiting_fills n ≡ [] → waiting_requests n ≡ [] → asked_block n ≡ None → AreAway new (buffers n) → IsAtRest new n
 hear_rests s new m n bytes rest settled ready no_fill no_request asked away = record {
   ready = ready;
   config = subst IsConfig (sym settled.turned.config) rest.config;
@@ -443,7 +443,7 @@ hear_rests s new m n bytes rest settled ready no_fill no_request asked away = re
   away = away;
 }
 
-pub hear_rests_again : {mode : Mode} {a b k c : FillCounts} (s given_up given new : PlainState) (m first held n : Machine) (bytes : List ℕ) → IsAtRest s m → Settled mode (datagram bytes) s m a given_up first b → Claims mode given_up first b given held k → Settled mode (datagram bytes) given held k new n c
+pub hear_rests_again : {mode : Mode} {a b k c : FillCounts} (s given_up given new : PlainState) (m first held n : Window) (bytes : List ℕ) → IsAtRest s m → Settled mode (datagram bytes) s m a given_up first b → Claims mode given_up first b given held k → Settled mode (datagram bytes) given held k new n c
     → IsReady new → waiting_fills n ≡ [] → waiting_requests n ≡ [] → asked_block n ≡ None → AreAway new (buffers n) → IsAtRest new n
 hear_rests_again s given_up given new m first held n bytes rest settled claims again ready no_fill no_request asked away = record {
   ready = ready;

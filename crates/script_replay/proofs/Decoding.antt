@@ -8,7 +8,7 @@ use Rattle.board_machine.specs.Machine.{Board}
 use Rattle.board_model.specs.Plain.{PlainState}
 use Rattle.acquisition_machine.specs.declared.config.AcqConfig.{AcqConfig}
 use Rattle.acquisition_machine.specs.Machine.{Input}
-use Rattle.acq_core.specs.declared.machine.Machine.{Machine}
+use Rattle.acq_core.specs.declared.window.Window.{Window}
 use Rattle.acq_core.specs.Receiver.{Stands}
 use Rattle.mode_calls.specs.declared.mode.Mode.{Mode}
 use Rattle.script_trace.specs.Trace.{Trace, Part, board}
@@ -26,7 +26,7 @@ pub ok_value : (r : Result (List ℕ) FromHexError) → IsOk r → (bytes : List
 ok_value (Ok bytes) h = (bytes, refl)
 ok_value (Err e) h = cc
 
-pub idle_drives : (c : AcqConfig) (mode : Mode) (s : PlainState) (m : Machine) (a : FillCounts) (digits : List ℕ) → IsOk (decode_of digits) → s.board.run ≢ 1 → Drives (DatagramIn c mode digits) 1 s m a [] s m a
+pub idle_drives : (c : AcqConfig) (mode : Mode) (s : PlainState) (m : Window) (a : FillCounts) (digits : List ℕ) → IsOk (decode_of digits) → s.board.run ≢ 1 → Drives (DatagramIn c mode digits) 1 s m a [] s m a
 idle_drives c mode s m a digits spelled stands_still t behind = record {
   part = idles t;
   spells = λ same. (is.0, is.1, subst (λ (runs : Bool). HearsIfRunning c t is.0 runs (idles t)) (sym still) refl);
@@ -51,7 +51,7 @@ idle_drives c mode s m a digits spelled stands_still t behind = record {
     still : ((board t).run == 1) ≡ false
     still = ne_eqb (board t).run 1 (λ e. stands_still (ap (λ (b : Board). b.run) behind.board.board.state ∙ e))
 
-pub running_drives : (c : AcqConfig) (mode : Mode) (s new : PlainState) (m n : Machine) (a b : FillCounts) (digits bytes : List ℕ) → decode_of digits ≡ Ok bytes → s.board.run ≡ 1
+pub running_drives : (c : AcqConfig) (mode : Mode) (s new : PlainState) (m n : Window) (a b : FillCounts) (digits bytes : List ℕ) → decode_of digits ≡ Ok bytes → s.board.run ≡ 1
     → Drives (HearsIn c mode bytes) 0 s m a [] new n b → Drives (DatagramIn c mode digits) 0 s m a [] new n b
 running_drives c mode s new m n a b digits bytes is running drives t behind = record {
   part = heard.part;

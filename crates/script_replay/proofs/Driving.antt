@@ -21,7 +21,7 @@ use Rattle.acquisition_machine.specs.Blocks.{Given, fills}
 use Rattle.acquisition_machine.specs.Machine.{Input, Request, request_bytes, tick, stop, restart}
 use Rattle.acquisition_machine.specs.Runs.{turn}
 use Rattle.acquisition_machine.specs.TurnLaws.{given_of}
-use Rattle.acq_core.specs.declared.machine.Machine.{Machine}
+use Rattle.acq_core.specs.declared.window.Window.{Window}
 use Rattle.acq_core.specs.Standing.{IsConfig}
 use Rattle.acq_core.specs.Receiver.{config_of, asked_block, buffers, Stands, Takes, KeepsBuffers, KeepsBlocks}
 use Rattle.acq_core.specs.Waiting.{waiting_fills, waiting_requests}
@@ -50,7 +50,7 @@ pub record Called (s : PlainState) (calls : List Event) (mid : PlainState) : Typ
 pub none_called : (s : PlainState) → Called s [] s
 none_called s = record { adds = adds_none s.board caller; quiet = tt; left = λ h left. subst (λ (g : List Entry). IsLeftBy s g) (sym (append-nil h)) left }
 
-pub turned : (m mid n : Machine) (i : Input) → Takes m mid i → KeepsBlocks mid n → waiting_fills m ≡ [] → Turned m n i (waiting_fills mid)
+pub turned : (m mid n : Window) (i : Input) → Takes m mid i → KeepsBlocks mid n → waiting_fills m ≡ [] → Turned m n i (waiting_fills mid)
 turned m mid n i takes keeps none = record {
   stands = λ q stands. keeps.stands (q ++ i ∷ []) (takes.stands q stands);
   fills = λ q stands. takes.fills q stands ∙ ap (λ xs. xs ++ fills (config_of m).p (turn (config_of m) q i).retired) none;
@@ -58,7 +58,7 @@ turned m mid n i takes keeps none = record {
 }
 
 -- The line settles, and these are its fills.
-pub settles_with : (mode : Mode) (s mid new : PlainState) (m n : Machine) (a b : FillCounts) (calls : List Event) (i : Input) (xs : List Retired) (text said : List ℕ) (Line : Trace → Part → Type 0) (t : Trace) (all : FillsAll mode xs mid a new b)
+pub settles_with : (mode : Mode) (s mid new : PlainState) (m n : Window) (a b : FillCounts) (calls : List Event) (i : Input) (xs : List Retired) (text said : List ℕ) (Line : Trace → Part → Type 0) (t : Trace) (all : FillsAll mode xs mid a new b)
     → (FillsInMode mode (retired_by (config_of m) t.inputs i) all.events → Line t (tells t calls i all.events text))
     → Called s calls mid → Turned m n i xs → said ≡ text → IsBehindTrace t s m → DrivesAt Line 0 a said new n b t
 settles_with mode s mid new m n a b calls i xs text said Line t all spells called goes is behind = record {
@@ -91,7 +91,7 @@ settles_with mode s mid new m n a b calls i xs text said Line t all spells calle
     second = subst (λ (b : Board). RunsFrom b (entries_of acquirer all.events)) (called.adds.after ∙ ap (λ (b : Board). after_from b (entries_of caller calls)) behind.board.board.state) all.adds.runs
 
 -- The line settles.
-pub settles_at : (mode : Mode) (s mid new : PlainState) (m n : Machine) (a b : FillCounts) (calls : List Event) (i : Input) (xs : List Retired) (text said : List ℕ) (Line : Trace → Part → Type 0) (t : Trace)
+pub settles_at : (mode : Mode) (s mid new : PlainState) (m n : Window) (a b : FillCounts) (calls : List Event) (i : Input) (xs : List Retired) (text said : List ℕ) (Line : Trace → Part → Type 0) (t : Trace)
     → ((es : List Event) → FillsInMode mode (retired_by (config_of m) t.inputs i) es → Line t (tells t calls i es text))
     → Called s calls mid → FillsAll mode xs mid a new b → Turned m n i xs → said ≡ text → IsBehindTrace t s m → DrivesAt Line 0 a said new n b t
 settles_at mode s mid new m n a b calls i xs text said Line t spells called all goes is behind =
@@ -100,11 +100,11 @@ settles_at mode s mid new m n a b calls i xs text said Line t spells called all 
 -- ---- at rest again
 
 -- what waits after an input, with what stays, is the acquisition's
-pub away_before : (s : PlainState) (m mid : Machine) → waiting_fills m ≡ [] → KeepsBuffers m mid → AreAway s (buffers m) → AreAway s (map given_of (waiting_fills mid) ++ buffers mid)
+pub away_before : (s : PlainState) (m mid : Window) → waiting_fills m ≡ [] → KeepsBuffers m mid → AreAway s (buffers m) → AreAway s (map given_of (waiting_fills mid) ++ buffers mid)
 away_before s m mid none keeps away =
     subst (λ (gs : List Given). AreAway s gs) (sym (keeps ∙ ap (λ xs. map given_of xs ++ buffers m) none)) away
 
-pub rests : {mode : Mode} {a b : FillCounts} (xs : List Retired) (s new : PlainState) (m mid n : Machine) (i : Input) → IsAtRest s m → Takes m mid i → KeepsBlocks mid n → asked_block mid ≡ None → IsReady s → FillsAll mode xs s a new b → waiting_fills n ≡ [] → waiting_requests n ≡ [] → AreAway new (buffers n) → IsAtRest new n
+pub rests : {mode : Mode} {a b : FillCounts} (xs : List Retired) (s new : PlainState) (m mid n : Window) (i : Input) → IsAtRest s m → Takes m mid i → KeepsBlocks mid n → asked_block mid ≡ None → IsReady s → FillsAll mode xs s a new b → waiting_fills n ≡ [] → waiting_requests n ≡ [] → AreAway new (buffers n) → IsAtRest new n
 rests xs s new m mid n i rest takes keeps asked ready all no_fill no_request away = record {
   ready = ready_after xs s new all ready;
   config = subst IsConfig (sym (keeps.config ∙ takes.config)) rest.config;
@@ -149,7 +149,7 @@ pub away_called : (s mid : PlainState) (Kind : List Event → Type 0) (gs : List
 away_called s mid Kind [] ready called same away = away
 away_called s mid Kind (g ∷ gs) ready called same away = (away_one s mid Kind g ready called same away.0, away.1, away_called s mid Kind gs ready called same away.2)
 
-pub rest_called : (s mid : PlainState) (m : Machine) (Kind : List Event → Type 0) → ((es : List Event) → Kind es → AreQuiet es) → IsAtRest s m → AddsOf s.board caller Kind mid.board → mid.contents ≡ s.contents → IsAtRest mid m
+pub rest_called : (s mid : PlainState) (m : Window) (Kind : List Event → Type 0) → ((es : List Event) → Kind es → AreQuiet es) → IsAtRest s m → AddsOf s.board caller Kind mid.board → mid.contents ≡ s.contents → IsAtRest mid m
 rest_called s mid m Kind quiet rest called same = record {
   ready = quiet_ready s mid caller Kind caller_apart quiet rest.ready called same;
   config = rest.config;
@@ -166,7 +166,7 @@ none_of [] e = refl
 none_of (x ∷ xs) e = absurd (omega (arith, e))
 
 -- a line that doesn't come to the acquisition
-pub drives_as : (Line : Trace → Part → Type 0) (k : ℕ) (said : List ℕ) (s new : PlainState) (m : Machine) (a : FillCounts) → acquirer ≢ k → Acts Line k 0 s said new → Drives Line 0 s m a said new m a
+pub drives_as : (Line : Trace → Part → Type 0) (k : ℕ) (said : List ℕ) (s new : PlainState) (m : Window) (a : FillCounts) → acquirer ≢ k → Acts Line k 0 s said new → Drives Line 0 s m a said new m a
 drives_as Line k said s new m a apart acts_so t behind = record {
   part = acts t k did.events said;
   spells = did.spells;
@@ -198,19 +198,19 @@ TicksIn c mode moment t part = t.mode ≡ mode → TickLine c t moment part
 fills_told : (mode told : Mode) (xs : List Retired) (es : List Event) → told ≡ mode → FillsInMode mode xs es → FillsInMode told xs es
 fills_told mode told xs es same filled = subst (λ (k : Mode). FillsInMode k xs es) (sym same) filled
 
-pub stop_drives : (mode : Mode) (s mid new : PlainState) (m stopped_at n : Machine) (a b : FillCounts) (flags : ℕ) (said : List ℕ) → IsAtRest s m → (called : AddsOf s.board caller (Stops flags (Ok tt)) mid.board) → mid.contents ≡ s.contents
+pub stop_drives : (mode : Mode) (s mid new : PlainState) (m stopped_at n : Window) (a b : FillCounts) (flags : ℕ) (said : List ℕ) → IsAtRest s m → (called : AddsOf s.board caller (Stops flags (Ok tt)) mid.board) → mid.contents ≡ s.contents
     → Takes m stopped_at stop → FillsAll mode (waiting_fills stopped_at) mid a new b → KeepsBlocks stopped_at n → said ≡ done_text (codes "stop") → Drives (StopsIn (config_of m) mode flags) 0 s m a said new n b
 stop_drives mode s mid new m stopped_at n a b flags said rest called same takes all keeps is t behind =
     settles_at mode s mid new m n a b called.events stop (waiting_fills stopped_at) (done_text (codes "stop")) said (StopsIn (config_of m) mode flags) t
     (λ es filled same. (Ok tt, called.events, called.kind, record { events = es; filled = fills_told mode t.mode (retired_by (config_of m) t.inputs stop) es same filled; is = refl }))
     (called_by s mid (Stops flags (Ok tt)) (stop_quiet flags (Ok tt)) called same) all (turned m stopped_at n stop takes keeps rest.no_fill) is behind
 
-pub no_stop_drives : (mode : Mode) (s mid : PlainState) (m : Machine) (a : FillCounts) (c : AcqConfig) (flags : ℕ) (error : GcError) (said : List ℕ) → AddsOf s.board caller (Stops flags (Err error)) mid.board → mid.contents ≡ s.contents → said ≡ refused_text (codes "stop") error → Drives (StopsIn c mode flags) 0 s m a said mid m a
+pub no_stop_drives : (mode : Mode) (s mid : PlainState) (m : Window) (a : FillCounts) (c : AcqConfig) (flags : ℕ) (error : GcError) (said : List ℕ) → AddsOf s.board caller (Stops flags (Err error)) mid.board → mid.contents ≡ s.contents → said ≡ refused_text (codes "stop") error → Drives (StopsIn c mode flags) 0 s m a said mid m a
 no_stop_drives mode s mid m a c flags error said called same is =
     drives_as (StopsIn c mode flags) caller said s mid m a caller_apart
     (quiet_acts s mid caller (Stops flags (Err error)) (StopsIn c mode flags) (refused_text (codes "stop") error) said caller_apart (stop_quiet flags (Err error)) (λ t es kind in_mode. (Err error, es, kind, refl)) called same is)
 
-pub stop_rests : {mode : Mode} {a b : FillCounts} (s mid new : PlainState) (m stopped_at n : Machine) (flags : ℕ) → IsAtRest s m → AddsOf s.board caller (Stops flags (Ok tt)) mid.board → mid.contents ≡ s.contents → Takes m stopped_at stop → KeepsBlocks stopped_at n → asked_block stopped_at ≡ None
+pub stop_rests : {mode : Mode} {a b : FillCounts} (s mid new : PlainState) (m stopped_at n : Window) (flags : ℕ) → IsAtRest s m → AddsOf s.board caller (Stops flags (Ok tt)) mid.board → mid.contents ≡ s.contents → Takes m stopped_at stop → KeepsBlocks stopped_at n → asked_block stopped_at ≡ None
     → FillsAll mode (waiting_fills stopped_at) mid a new b → waiting_fills n ≡ [] → waiting_requests n ≡ [] → AreAway new (buffers n) → IsAtRest new n
 stop_rests s mid new m stopped_at n flags rest called same takes keeps asked all no_fill no_request away =
     rests (waiting_fills stopped_at) mid new m stopped_at n stop (rest_called s mid m (Stops flags (Ok tt)) (stop_quiet flags (Ok tt)) rest called same) takes keeps asked
@@ -224,7 +224,7 @@ not_running b new called =
     let runs : RunsFrom b (entries_of caller (LookOut called.kind.output false ∷ Start (Ok tt) ∷ [])) = subst (λ (es : List Event). RunsFrom b (entries_of caller es)) called.kind.is called.adds.runs in
     runs.1.0.meets
 
-pub start_drives : (s mid : PlainState) (m n : Machine) (a : FillCounts) (said : List ℕ) → IsAtRest s m → (called : AddsOf s.board caller (Starts (Ok tt)) mid.board) → mid.contents ≡ s.contents → Takes m n restart → waiting_fills n ≡ waiting_fills m → said ≡ done_text (codes "start")
+pub start_drives : (s mid : PlainState) (m n : Window) (a : FillCounts) (said : List ℕ) → IsAtRest s m → (called : AddsOf s.board caller (Starts (Ok tt)) mid.board) → mid.contents ≡ s.contents → Takes m n restart → waiting_fills n ≡ waiting_fills m → said ≡ done_text (codes "start")
     → Drives StartLine 0 s m a said mid n a
 start_drives s mid m n a said rest called same takes none is t behind =
     settles_at OldestFirst s mid mid m n a a called.events restart (waiting_fills n) (done_text (codes "start")) said StartLine t
@@ -232,12 +232,12 @@ start_drives s mid m n a said rest called same takes none is t behind =
     (called_by s mid (Starts (Ok tt)) (start_quiet (Ok tt)) called same) (subst (λ (xs : List Retired). FillsAll OldestFirst xs mid a mid a) (sym (none ∙ rest.no_fill)) (fills_none OldestFirst mid a))
     (turned m n n restart takes (keeps_itself n) rest.no_fill) is behind
 
-pub no_start_drives : (s mid : PlainState) (m : Machine) (a : FillCounts) (error : GcError) (said : List ℕ) → AddsOf s.board caller (Starts (Err error)) mid.board → mid.contents ≡ s.contents → said ≡ refused_text (codes "start") error → Drives StartLine 0 s m a said mid m a
+pub no_start_drives : (s mid : PlainState) (m : Window) (a : FillCounts) (error : GcError) (said : List ℕ) → AddsOf s.board caller (Starts (Err error)) mid.board → mid.contents ≡ s.contents → said ≡ refused_text (codes "start") error → Drives StartLine 0 s m a said mid m a
 no_start_drives s mid m a error said called same is =
     drives_as StartLine caller said s mid m a caller_apart
     (quiet_acts s mid caller (Starts (Err error)) StartLine (refused_text (codes "start") error) said caller_apart (start_quiet (Err error)) (λ t es kind. (Err error, es, kind, refl)) called same is)
 
-pub start_rests : (s mid : PlainState) (m n : Machine) → IsAtRest s m → AddsOf s.board caller (Starts (Ok tt)) mid.board → mid.contents ≡ s.contents → Takes m n restart → waiting_fills n ≡ waiting_fills m → waiting_requests n ≡ waiting_requests m → buffers n ≡ [] → asked_block n ≡ None → IsAtRest mid n
+pub start_rests : (s mid : PlainState) (m n : Window) → IsAtRest s m → AddsOf s.board caller (Starts (Ok tt)) mid.board → mid.contents ≡ s.contents → Takes m n restart → waiting_fills n ≡ waiting_fills m → waiting_requests n ≡ waiting_requests m → buffers n ≡ [] → asked_block n ≡ None → IsAtRest mid n
 start_rests s mid m n rest called same takes fills_same requests_same none asked = record {
   ready = quiet_ready s mid caller (Starts (Ok tt)) caller_apart (start_quiet (Ok tt)) rest.ready called same;
   config = subst IsConfig (sym takes.config) rest.config;
@@ -255,7 +255,7 @@ lines-are : (rs : List Request) → lines_of (map request_bytes rs) ≡ requests
 lines-are [] = refl
 lines-are (r ∷ rs) = ap (λ text. request_line (request_bytes r) ++ text) (lines-are rs)
 
-pub tick_drives : (mode : Mode) (s new : PlainState) (m mid fed n : Machine) (a b : FillCounts) (moment : ℕ) (old said : List ℕ) → IsAtRest s m → Takes m mid (tick moment) → FillsAll mode (waiting_fills mid) s a new b → KeepsBlocks mid fed → waiting_requests fed ≡ waiting_requests mid → KeepsBlocks fed n
+pub tick_drives : (mode : Mode) (s new : PlainState) (m mid fed n : Window) (a b : FillCounts) (moment : ℕ) (old said : List ℕ) → IsAtRest s m → Takes m mid (tick moment) → FillsAll mode (waiting_fills mid) s a new b → KeepsBlocks mid fed → waiting_requests fed ≡ waiting_requests mid → KeepsBlocks fed n
     → old ≡ [] → said ≡ old ++ lines_of (waiting_requests fed) → Drives (TicksIn (config_of m) mode moment) 0 s m a said new n b
 tick_drives mode s new m mid fed n a b moment old said rest takes all keeps same keeps_too empty is t behind =
     settles_at mode s s new m n a b [] (tick moment) (waiting_fills mid) (requests_text (turn (config_of m) t.inputs (tick moment)).requests) said (TicksIn (config_of m) mode moment) t

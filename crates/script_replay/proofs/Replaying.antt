@@ -22,7 +22,7 @@ use Rattle.script_trace.specs.StreamLines.{StartLine, sets_mode, ModeIfRunning}
 use Rattle.board_model.specs.Plain.{PlainState}
 use Rattle.acquisition_machine.specs.declared.config.AcqConfig.{AcqConfig}
 use Rattle.acquisition_machine.specs.Machine.{Input}
-use Rattle.acq_core.specs.declared.machine.Machine.{Machine}
+use Rattle.acq_core.specs.declared.window.Window.{Window}
 use Rattle.acq_core.specs.Receiver.{config_of, open_count, Stands}
 use Rattle.acq_core.proofs.Receiving.{receivers_show}
 use Rattle.script_trace.specs.Trace.{Trace, Part, board, caller, acquirer, acts, only_says, grown}
@@ -182,11 +182,11 @@ call_goes l old said board keeps acts_so ready lifted =
 
 -- ---- lines that drive the acquisition
 
-abbrev driven : Running → PlainState → Machine → FillCounts → ℕ → Running
+abbrev driven : Running → PlainState → Window → FillCounts → ℕ → Running
 driven old board acq counts idle = record old { board = board; acq = acq; counts = counts; idle = idle }
 
 -- with what else is known of its part
-pub drives_with : (l : ScriptLine) (Line Also : Trace → Part → Type 0) (idle : ℕ) (old : Running) (said : List ℕ) (new_board : PlainState) (acq : Machine) (counts : FillCounts) (t : Trace) → StandsAt old t
+pub drives_with : (l : ScriptLine) (Line Also : Trace → Part → Type 0) (idle : ℕ) (old : Running) (said : List ℕ) (new_board : PlainState) (acq : Window) (counts : FillCounts) (t : Trace) → StandsAt old t
     → ((part : Part) → Line t part → Spells (config_of old.acq) t l part) → DrivesAt (λ u part. Line u part × Also u part) idle old.counts said new_board acq counts t
     → (at : AddsAt (config_of old.acq) l said (driven old new_board acq counts (min (old.idle + idle) (2 ^ 64 - 1))) t) × Also t at.part
 drives_with l Line Also idle old said new_board acq counts t stands spells did =
@@ -210,7 +210,7 @@ drives_with l Line Also idle old said new_board acq counts t stands spells did =
       did.spells.1,
     )
 
-drives_also : (Line : Trace → Part → Type 0) (idle : ℕ) (a : FillCounts) (said : List ℕ) (new : PlainState) (n : Machine) (b : FillCounts) (t : Trace) → DrivesAt Line idle a said new n b t → DrivesAt (λ u part. Line u part × ⊤) idle a said new n b t
+drives_also : (Line : Trace → Part → Type 0) (idle : ℕ) (a : FillCounts) (said : List ℕ) (new : PlainState) (n : Window) (b : FillCounts) (t : Trace) → DrivesAt Line idle a said new n b t → DrivesAt (λ u part. Line u part × ⊤) idle a said new n b t
 drives_also Line idle a said new n b t did = record {
   part = did.part;
   spells = (did.spells, tt);
@@ -226,13 +226,13 @@ drives_also Line idle a said new n b t did = record {
   counted = did.counted;
 }
 
-drives_add : (l : ScriptLine) (Line : Trace → Part → Type 0) (idle : ℕ) (old : Running) (said : List ℕ) (new_board : PlainState) (acq : Machine) (counts : FillCounts) (t : Trace) → StandsAt old t
+drives_add : (l : ScriptLine) (Line : Trace → Part → Type 0) (idle : ℕ) (old : Running) (said : List ℕ) (new_board : PlainState) (acq : Window) (counts : FillCounts) (t : Trace) → StandsAt old t
     → ((part : Part) → Line t part → Spells (config_of old.acq) t l part) → DrivesAt Line idle old.counts said new_board acq counts t
     → AddsAt (config_of old.acq) l said (driven old new_board acq counts (min (old.idle + idle) (2 ^ 64 - 1))) t
 drives_add l Line idle old said new_board acq counts t stands spells did =
     (drives_with l Line (λ u part. ⊤) idle old said new_board acq counts t stands spells (drives_also Line idle old.counts said new_board acq counts t did)).0
 
-pub drives_go : (l : ScriptLine) (Line : Trace → Part → Type 0) (idle : ℕ) (old : Running) (said : List ℕ) (new_board : PlainState) (acq : Machine) (counts : FillCounts) → IsReplaying old
+pub drives_go : (l : ScriptLine) (Line : Trace → Part → Type 0) (idle : ℕ) (old : Running) (said : List ℕ) (new_board : PlainState) (acq : Window) (counts : FillCounts) → IsReplaying old
     → Drives Line idle old.board old.acq old.counts said new_board acq counts
     → ((t : Trace) (part : Part) → StandsAt old t → Line t part → Spells (config_of old.acq) t l part)
     → IsAtRest new_board acq → config_of acq ≡ config_of old.acq
@@ -243,7 +243,7 @@ drives_go l Line idle old said new_board acq counts keeps drives spells rest con
     config rest refl)
 
 -- A line that isn't a datagram, and hangs on the mode of the trace.
-pub drive_goes : (l : ScriptLine) (old : Running) (said : List ℕ) (new_board : PlainState) (acq : Machine) (counts : FillCounts) → IsReplaying old
+pub drive_goes : (l : ScriptLine) (old : Running) (said : List ℕ) (new_board : PlainState) (acq : Window) (counts : FillCounts) → IsReplaying old
     → Drives (λ t part. t.mode ≡ old.mode → Spells (config_of old.acq) t l part) 0 old.board old.acq old.counts said new_board acq counts
     → IsAtRest new_board acq → config_of acq ≡ config_of old.acq
     → Goes l old said (record old { board = new_board; acq = acq; counts = counts })
@@ -252,7 +252,7 @@ drive_goes l old said new_board acq counts keeps drives rest config =
     (λ t part stands spells. spells (sym stands.mode)) rest config old.idle (still old.idle keeps.trace.idle keeps.stands.idle)
 
 -- A start.
-pub start_goes : (old : Running) (said : List ℕ) (new_board : PlainState) (acq : Machine) → IsReplaying old
+pub start_goes : (old : Running) (said : List ℕ) (new_board : PlainState) (acq : Window) → IsReplaying old
     → Drives StartLine 0 old.board old.acq old.counts said new_board acq old.counts
     → IsAtRest new_board acq → config_of acq ≡ config_of old.acq
     → Goes line.start old said (record old { board = new_board; acq = acq })

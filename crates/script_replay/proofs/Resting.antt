@@ -24,7 +24,7 @@ use Rattle.board_machine.proofs.Others.{others_run}
 use Rattle.board_model.specs.Plain.{PlainState, lying, nothing}
 use Rattle.board_model.specs.Holdings.{emptied, fresh, with_empty_records}
 use Rattle.acquisition_machine.specs.Blocks.{Given}
-use Rattle.acq_core.specs.declared.machine.Machine.{Machine}
+use Rattle.acq_core.specs.declared.window.Window.{Window}
 use Rattle.acq_core.specs.Receiver.{buffers}
 use Rattle.script_trace.specs.Trace.{Trace, board, acquirer}
 use Rattle.script_replay.specs.Boards.{IsLeftBy, IsReady}
@@ -55,7 +55,7 @@ stay_away s new k es (g ∷ gs) apart owned runs after keeps away =
     (stays_away s new k es g apart owned runs after keeps away.0, away.1, stay_away s new k es gs apart owned runs after keeps away.2)
 
 -- A line that is acts of another actor, and keeps what is lifted, leaves the acquisition at rest.
-pub rest_by : (k : ℕ) (es : List Event) (s new : PlainState) (m : Machine) (t : Trace) → acquirer ≢ k → IsLeftBy s t.entries → RunsFrom (board t) (entries_of k es) → IsLeftBy new (t.entries ++ entries_of k es) → IsReady new → KeepsLifted s new → IsAtRest s m → IsAtRest new m
+pub rest_by : (k : ℕ) (es : List Event) (s new : PlainState) (m : Window) (t : Trace) → acquirer ≢ k → IsLeftBy s t.entries → RunsFrom (board t) (entries_of k es) → IsLeftBy new (t.entries ++ entries_of k es) → IsReady new → KeepsLifted s new → IsAtRest s m → IsAtRest new m
 rest_by k es s new m t apart left runs_so left_new ready keeps rest = record {
   ready = ready;
   config = rest.config;

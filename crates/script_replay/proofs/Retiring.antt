@@ -29,7 +29,7 @@ use Rattle.board_model.proofs.CallsHands.{filled, laid}
 use Rattle.acquisition_machine.specs.declared.retired.Retired.{Retired}
 use Rattle.acquisition_machine.specs.Blocks.{Given}
 use Rattle.acquisition_machine.specs.TurnLaws.{given_of}
-use Rattle.acq_core.specs.declared.machine.Machine.{Machine}
+use Rattle.acq_core.specs.declared.window.Window.{Window}
 use Rattle.acq_core.specs.Receiver.{buffers, KeepsBlocks}
 use Rattle.acq_core.specs.Waiting.{waiting_fills, waiting_requests}
 use Rattle.buffer_modes.specs.Steps.{KeepsHeld}
@@ -313,7 +313,7 @@ ready_after xs s new all ready = record {
 
 -- ---- the loop
 
-pub keeps_twice : (a b c : Machine) → KeepsBlocks a b → KeepsBlocks b c → KeepsBlocks a c
+pub keeps_twice : (a b c : Window) → KeepsBlocks a b → KeepsBlocks b c → KeepsBlocks a c
 keeps_twice a b c first second = record {
   stands = λ q stands. second.stands q (first.stands q stands);
   buffers = second.buffers ∙ first.buffers;
@@ -322,11 +322,11 @@ keeps_twice a b c first second = record {
   config = second.config ∙ first.config;
 }
 
-pub keeps_itself : (a : Machine) → KeepsBlocks a a
+pub keeps_itself : (a : Window) → KeepsBlocks a a
 keeps_itself a = record { stands = λ q stands. stands; buffers = refl; opens = refl; asked = refl; config = refl }
 
 -- What is still to be filled, then what was.
-pub record FillsOn (mode : Mode) (s : PlainState) (a : FillCounts) (now : PlainState) (b : FillCounts) (m n : Machine) : Type 0 where
+pub record FillsOn (mode : Mode) (s : PlainState) (a : FillCounts) (now : PlainState) (b : FillCounts) (m n : Window) : Type 0 where
   pub goes_on : (new : PlainState) (c : FillCounts) → FillsAll mode (waiting_fills n) now b new c → FillsAll mode (waiting_fills m) s a new c
   pub away : AreAway now (map given_of (waiting_fills n) ++ buffers n)
   pub actor : IsActor now.board acquirer
@@ -334,10 +334,10 @@ pub record FillsOn (mode : Mode) (s : PlainState) (a : FillCounts) (now : PlainS
   pub rest : KeepsBlocks m n
 
 -- nothing waits any longer
-pub fills_done : (mode : Mode) (s now : PlainState) (a b : FillCounts) (m n : Machine) → waiting_fills n ≡ [] → FillsOn mode s a now b m n → FillsAll mode (waiting_fills m) s a now b
+pub fills_done : (mode : Mode) (s now : PlainState) (a b : FillCounts) (m n : Window) → waiting_fills n ≡ [] → FillsOn mode s a now b m n → FillsAll mode (waiting_fills m) s a now b
 fills_done mode s now a b m n none on = on.goes_on now b (subst (λ (xs : List Retired). FillsAll mode xs now b now b) (sym none) (fills_none mode now b))
 
-pub away_done : {mode : Mode} {a b : FillCounts} (s now : PlainState) (m n after : Machine) → waiting_fills n ≡ [] → KeepsBlocks n after → FillsOn mode s a now b m n → AreAway now (buffers after)
+pub away_done : {mode : Mode} {a b : FillCounts} (s now : PlainState) (m n after : Window) → waiting_fills n ≡ [] → KeepsBlocks n after → FillsOn mode s a now b m n → AreAway now (buffers after)
 away_done s now m n after none rest on = subst (λ (gs : List Given). AreAway now gs) (ap (λ xs. map given_of xs ++ buffers n) none ∙ sym rest.buffers) on.away
 
 -- the acquisition's other buffers behind one fill
@@ -346,7 +346,7 @@ rest_away_by mode x s new a b gs counts apart away =
     rest_away x (with_board s counts.mid) new gs counts.one apart
     (away_held s counts.mid gs (drops_keep mode s.board counts.mid counts.dropped counts.front counts.drops counts.adds) away)
 
-pub fills_on : (mode : Mode) (s now next : PlainState) (a b c : FillCounts) (m n after : Machine) (x : Retired) → FillsOn mode s a now b m n → waiting_fills n ≡ x ∷ waiting_fills after → waiting_requests after ≡ waiting_requests n → KeepsBlocks n after → CountsOne mode x now b next c → FillsOn mode s a next c m after
+pub fills_on : (mode : Mode) (s now next : PlainState) (a b c : FillCounts) (m n after : Window) (x : Retired) → FillsOn mode s a now b m n → waiting_fills n ≡ x ∷ waiting_fills after → waiting_requests after ≡ waiting_requests n → KeepsBlocks n after → CountsOne mode x now b next c → FillsOn mode s a next c m after
 fills_on mode s now next a b c m n after x on is requests rest counts = record {
   goes_on = λ new d all. on.goes_on new d (subst (λ (xs : List Retired). FillsAll mode xs now b new d) (sym is) (fills_more mode x (waiting_fills after) now next new b c d away.0 counts all));
   away = rest_away_by mode x now next b c (map given_of (waiting_fills after) ++ buffers after) counts away.1 away.2;
@@ -358,7 +358,7 @@ fills_on mode s now next a b c m n after x on is requests rest counts = record {
     away : AreAway now (given_of x ∷ map given_of (waiting_fills after) ++ buffers after)
     away = subst (λ (gs : List Given). AreAway now gs) (ap (λ xs. map given_of xs ++ buffers n) is ∙ ap (λ gs. given_of x ∷ map given_of (waiting_fills after) ++ gs) (sym rest.buffers)) on.away
 
-pub first_away : {mode : Mode} {a b : FillCounts} (s now : PlainState) (m n : Machine) (x : Retired) (xs : List Retired) → FillsOn mode s a now b m n → waiting_fills n ≡ x ∷ xs → IsAway now (given_of x)
+pub first_away : {mode : Mode} {a b : FillCounts} (s now : PlainState) (m n : Window) (x : Retired) (xs : List Retired) → FillsOn mode s a now b m n → waiting_fills n ≡ x ∷ xs → IsAway now (given_of x)
 first_away s now m n x xs on is =
     let away : AreAway now (given_of x ∷ map given_of xs ++ buffers n) = subst (λ (gs : List Given). AreAway now gs) (ap (λ ys. map given_of ys ++ buffers n) is) on.away in
     away.0

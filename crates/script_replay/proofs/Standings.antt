@@ -7,7 +7,7 @@ use Rattle.gentl_handles.specs.Handles.{Handles}
 use Rattle.board_model.specs.Plain.{PlainState}
 use Rattle.acquisition_machine.specs.declared.config.AcqConfig.{AcqConfig}
 use Rattle.acquisition_machine.specs.Blocks.{Given}
-use Rattle.acq_core.specs.declared.machine.Machine.{Machine}
+use Rattle.acq_core.specs.declared.window.Window.{Window}
 use Rattle.acq_core.specs.Standing.{IsConfig}
 use Rattle.acq_core.specs.Receiver.{config_of, asked_block, buffers, Stands}
 use Rattle.acq_core.specs.Waiting.{waiting_fills, waiting_requests}
@@ -23,7 +23,7 @@ use Rattle.script_replay.specs.Counting.{no_fills}
 use Rattle.script_replay.specs.Replays.{IsReplaying, DoneAt, Begins, RanBy, StandsFor, RunsAs}
 
 -- what stands behind a header
-pub begun : (board : PlainState) (acq : Machine) (tree : Handles) (stream : Handle) (config : AcqConfig) → IsConfig config → IsLeftBy board opening.entries → IsReady board
+pub begun : (board : PlainState) (acq : Window) (tree : Handles) (stream : Handle) (config : AcqConfig) → IsConfig config → IsLeftBy board opening.entries → IsReady board
     → Stands acq [] → config_of acq ≡ config → waiting_fills acq ≡ [] → waiting_requests acq ≡ [] → buffers acq ≡ [] → asked_block acq ≡ None → tree ≡ first_handles → stream.serial ≡ 4
     → IsReplaying (record { board = board; acq = acq; tree = tree; stream = stream; counts = no_fills; taken = 0; idle = 0; mode = OldestFirst; told_mode = false })
 begun board acq tree stream config is_config left ready stands same fills requests none asked handles serial = record {

@@ -19,7 +19,7 @@ use Rattle.board_model.specs.Plain.{PlainState}
 use Rattle.acquisition_machine.specs.declared.config.AcqConfig.{AcqConfig}
 use Rattle.acquisition_machine.specs.Machine.{Request, request_bytes, tick}
 use Rattle.acquisition_machine.specs.Runs.{turn}
-use Rattle.acq_core.specs.declared.machine.Machine.{Machine}
+use Rattle.acq_core.specs.declared.window.Window.{Window}
 use Rattle.acq_core.specs.Receiver.{config_of, Takes, KeepsBlocks}
 use Rattle.acq_core.specs.Waiting.{waiting_fills, waiting_requests}
 use Rattle.script_trace.specs.Trace.{Trace, board, grown}
@@ -202,7 +202,7 @@ refused_does l bytes old e n is counted replaying = record {
 
 -- ---- bytes that are heard
 
-pub heard_goes : (old : Running) (bytes : List ℕ) (new_board : PlainState) (acq : Machine) (counts : FillCounts) → IsReplaying old → old.board.board.run ≡ 1 → IsBytes bytes
+pub heard_goes : (old : Running) (bytes : List ℕ) (new_board : PlainState) (acq : Window) (counts : FillCounts) → IsReplaying old → old.board.board.run ≡ 1 → IsBytes bytes
     → Drives (HearsIn (config_of old.acq) old.mode bytes) 0 old.board old.acq old.counts [] new_board acq counts
     → IsAtRest new_board acq → config_of acq ≡ config_of old.acq → Goes (line.datagram (encode_lower bytes)) old [] (record old { board = new_board; acq = acq; counts = counts })
 heard_goes old bytes new_board acq counts keeps runs small drives rest config =
@@ -215,10 +215,10 @@ standard_lines-are : (rs : List Request) → standard_lines_of (map request_byte
 standard_lines-are [] = refl
 standard_lines-are (r ∷ rs) = ap (λ text. request_line (standard_form (request_bytes r)) ++ text) (standard_lines-are rs)
 
-abbrev driven : Running → PlainState → Machine → FillCounts → Running
+abbrev driven : Running → PlainState → Window → FillCounts → Running
 driven old new_board acq counts = record old { board = new_board; acq = acq; counts = counts }
 
-pub standard_tick : (moment : ℕ) (old : Script) (new_board : PlainState) (mid fed acq : Machine) (counts : FillCounts) (before said : List ℕ) → IsReplaying old.running → old.widening.widened ≡ true
+pub standard_tick : (moment : ℕ) (old : Script) (new_board : PlainState) (mid fed acq : Window) (counts : FillCounts) (before said : List ℕ) → IsReplaying old.running → old.widening.widened ≡ true
     → Takes old.running.acq mid (tick moment) → FillsAll old.running.mode (waiting_fills mid) old.running.board old.running.counts new_board counts → KeepsBlocks mid fed → waiting_requests fed ≡ waiting_requests mid → KeepsBlocks fed acq
     → IsAtRest new_board acq → before ≡ [] → said ≡ before ++ standard_lines_of (waiting_requests fed)
     → DoesLine (line.tick moment) old said (record old { running = driven old.running new_board acq counts })

@@ -17,7 +17,7 @@ use Rattle.acquisition_machine.specs.declared.retired.Retired.{Retired}
 use Rattle.acquisition_machine.specs.Blocks.{Given, fills}
 use Rattle.acquisition_machine.specs.Machine.{Input, claimed}
 use Rattle.acquisition_machine.specs.Runs.{turn}
-use Rattle.acq_core.specs.declared.machine.Machine.{Machine}
+use Rattle.acq_core.specs.declared.window.Window.{Window}
 use Rattle.acq_core.specs.Standing.{IsConfig}
 use Rattle.acq_core.specs.Receiver.{config_of, asked_block, buffers, Stands, Takes}
 use Rattle.acq_core.specs.Waiting.{waiting_fills, waiting_requests}
@@ -53,7 +53,7 @@ AreAway s (g ∷ gs) = IsAway s g × AreApart g.place gs × AreAway s gs
 
 -- Between two lines nothing waits in the receiver, it awaits no claim, and the buffers of its open blocks
 -- are the acquisition's.
-pub record IsAtRest (s : PlainState) (m : Machine) : Type 0 where
+pub record IsAtRest (s : PlainState) (m : Window) : Type 0 where
   pub ready : IsReady s
   pub config : IsConfig (config_of m)
   pub inputs : List Input
@@ -115,13 +115,13 @@ pub record FillsAll (mode : Mode) (xs : List Retired) (s : PlainState) (a : Fill
   pub counted : b ≡ counted_in a (entries_of acquirer events)
 
 -- An input came to a receiver in which nothing waited, and these buffers were taken out.
-pub record Turned (m n : Machine) (i : Input) (xs : List Retired) : Type 0 where
+pub record Turned (m n : Window) (i : Input) (xs : List Retired) : Type 0 where
   pub stands : (q : List Input) → Stands m q → Stands n (q ++ i ∷ [])
   pub fills : (q : List Input) → Stands m q → xs ≡ fills (config_of m).p (turn (config_of m) q i).retired
   pub config : config_of n ≡ config_of m
 
 -- An input came, and the buffers that came back were filled.
-pub record Settled (mode : Mode) (i : Input) (s : PlainState) (m : Machine) (a : FillCounts) (new : PlainState) (n : Machine) (b : FillCounts) : Type 0 where
+pub record Settled (mode : Mode) (i : Input) (s : PlainState) (m : Window) (a : FillCounts) (new : PlainState) (n : Window) (b : FillCounts) : Type 0 where
   pub retired : List Retired
   pub turned : Turned m n i retired
   pub all : FillsAll mode retired s a new b
@@ -130,7 +130,7 @@ pub record Settled (mode : Mode) (i : Input) (s : PlainState) (m : Machine) (a :
 
 -- A place was claimed by the mode and its buffer lifted out, or there was none; and the receiver was told the
 -- outcome. A place that was dropped for this is counted.
-pub record Claims (mode : Mode) (s : PlainState) (m : Machine) (a : FillCounts) (new : PlainState) (n : Machine) (b : FillCounts) : Type 0 where
+pub record Claims (mode : Mode) (s : PlainState) (m : Window) (a : FillCounts) (new : PlainState) (n : Window) (b : FillCounts) : Type 0 where
   pub claim : Option (ℕ × Bool)
   pub events : List Event
   pub got : ClaimsFor mode claim events
@@ -149,13 +149,13 @@ lines_of [] = []
 lines_of (r ∷ rs) = request_line r ++ lines_of rs
 
 -- The board and the receiver are what the trace leaves.
-pub record IsBehindTrace (t : Trace) (s : PlainState) (m : Machine) : Type 0 where
+pub record IsBehindTrace (t : Trace) (s : PlainState) (m : Window) : Type 0 where
   pub board : IsLeftBy s t.entries
   pub inputs : Stands m t.inputs
 
 -- The line adds a part with this report, which counts so many datagrams as idle and hands no buffer out,
 -- the trace with it leaves the new board and receiver, and its fills and drops are counted.
-pub record DrivesAt (Line : Trace → Part → Type 0) (idle : ℕ) (a : FillCounts) (said : List ℕ) (new : PlainState) (n : Machine) (b : FillCounts) (t : Trace) : Type 0 where
+pub record DrivesAt (Line : Trace → Part → Type 0) (idle : ℕ) (a : FillCounts) (said : List ℕ) (new : PlainState) (n : Window) (b : FillCounts) (t : Trace) : Type 0 where
   pub part : Part
   pub spells : Line t part
   pub runs : RunsFrom (board t) part.entries
@@ -170,5 +170,5 @@ pub record DrivesAt (Line : Trace → Part → Type 0) (idle : ℕ) (a : FillCou
   pub counted : b ≡ counted_in a part.entries
 
 -- So it is at every trace that left the old ones.
-abbrev pub Drives : (Trace → Part → Type 0) → ℕ → PlainState → Machine → FillCounts → List ℕ → PlainState → Machine → FillCounts → Type 0
+abbrev pub Drives : (Trace → Part → Type 0) → ℕ → PlainState → Window → FillCounts → List ℕ → PlainState → Window → FillCounts → Type 0
 Drives Line idle s m a said new n b = (t : Trace) → IsBehindTrace t s m → DrivesAt Line idle a said new n b t

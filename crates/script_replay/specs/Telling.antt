@@ -3,7 +3,7 @@ use Rattle.std.specs.Prelude.{◌≡◌, ⊤, ℕ, Bool, List, ◌∷◌, length
 use Rattle.board_machine.specs.Machine.{Item}
 use Rattle.board_model.specs.Plain.{PlainState}
 use Rattle.acquisition_machine.specs.declared.retired.Retired.{Retired}
-use Rattle.acq_core.specs.declared.machine.Machine.{Machine}
+use Rattle.acq_core.specs.declared.window.Window.{Window}
 use Rattle.mode_calls.specs.declared.mode.Mode.{Mode}
 use Rattle.buffer_modes.specs.declared.gone.Gone.{Gone}
 use Rattle.buffer_modes.specs.Gone.{gone_of}
@@ -31,7 +31,7 @@ GaveWayFor out None = ⊤
 GaveWayFor out (Some g) = GaveWay out g.place g.dropped
 
 -- The claim is told.
-pub record TellsClaim (got : Option Got) (mode : Mode) (s : PlainState) (m : Machine) (a : FillCounts) (new : PlainState) (n : Machine) (b : FillCounts) : Type 0 where
+pub record TellsClaim (got : Option Got) (mode : Mode) (s : PlainState) (m : Window) (a : FillCounts) (new : PlainState) (n : Window) (b : FillCounts) : Type 0 where
   pub claims : Claims mode s m a new n b
   pub is : claims.claim ≡ claim_of got
   pub gave_way : GaveWayFor s.board.out got

@@ -5,7 +5,7 @@ use Rattle.gev_report.specs.ReplayLines.{request_line}
 use Rattle.acquisition_machine.specs.declared.config.AcqConfig.{AcqConfig}
 use Rattle.acquisition_machine.specs.Machine.{tick}
 use Rattle.board_model.specs.Plain.{PlainState}
-use Rattle.acq_core.specs.declared.machine.Machine.{Machine}
+use Rattle.acq_core.specs.declared.window.Window.{Window}
 use Rattle.acq_core.specs.Receiver.{config_of, Takes, KeepsBlocks}
 use Rattle.acq_core.specs.Waiting.{waiting_fills, waiting_requests}
 use Rattle.mode_calls.specs.declared.mode.Mode.{Mode}
@@ -35,9 +35,9 @@ pub record DoesBytes (l : ScriptLine) (bytes : List ℕ) (old new : Script) : Ty
   pub keeps : IsReplaying new.running
 
 -- The moment was told, what retired was filled, and each request was written in the standard form.
-pub record TicksStandard (mode : Mode) (moment : ℕ) (s : PlainState) (m : Machine) (a : FillCounts) (before said : List ℕ) (new : PlainState) (n : Machine) (b : FillCounts) : Type 0 where
-  pub mid : Machine
-  pub fed : Machine
+pub record TicksStandard (mode : Mode) (moment : ℕ) (s : PlainState) (m : Window) (a : FillCounts) (before said : List ℕ) (new : PlainState) (n : Window) (b : FillCounts) : Type 0 where
+  pub mid : Window
+  pub fed : Window
   pub takes : Takes m mid (tick moment)
   pub all : FillsAll mode (waiting_fills mid) s a new b
   pub keeps : KeepsBlocks mid fed

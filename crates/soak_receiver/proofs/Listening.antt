@@ -16,7 +16,7 @@ use Rattle.acquisition_machine.specs.Blocks.{Given, fills}
 use Rattle.acquisition_machine.specs.Machine.{Input, step, datagram, tick, request_bytes}
 use Rattle.acquisition_machine.specs.Runs.{turn}
 use Rattle.acquisition_machine.specs.TurnLaws.{asked_by}
-use Rattle.acq_core.specs.declared.machine.Machine.{Machine}
+use Rattle.acq_core.specs.declared.window.Window.{Window}
 use Rattle.acq_core.specs.Receiver.{config_of, asked_block, Takes, KeepsBlocks, buffers}
 use Rattle.acq_core.specs.Waiting.{waiting_fills, waiting_requests}
 use Rattle.mode_calls.specs.declared.mode.Mode.{Mode}
@@ -94,11 +94,11 @@ pub open_at : (old : Running) (t : Trace) → IsHosting old → StandsAt old t �
 open_at old t hosting stands = subst IsOpen stands.behind.board.board.state hosting.opened
 
 -- what hearing leaves
-abbrev pub driven : Running → PlainState → Machine → FillCounts → Running
+abbrev pub driven : Running → PlainState → Window → FillCounts → Running
 driven old new_board acq counts = record old { board = new_board; acq = acq; counts = counts }
 
 -- a line that is driven where waiting buffers stay is driven in the mode of a host
-drives_in : (l : ScriptLine) (old : Running) (said : List ℕ) (new_board : PlainState) (acq : Machine) (counts : FillCounts) → IsHosting old
+drives_in : (l : ScriptLine) (old : Running) (said : List ℕ) (new_board : PlainState) (acq : Window) (counts : FillCounts) → IsHosting old
     → Drives (λ t part. t.mode ≡ OldestFirst → Spells (config_of old.acq) t l part) 0 old.board old.acq old.counts said new_board acq counts
     → Drives (λ t part. t.mode ≡ old.mode → Spells (config_of old.acq) t l part) 0 old.board old.acq old.counts said new_board acq counts
 drives_in l old said new_board acq counts hosting drives =
@@ -108,21 +108,21 @@ drives_in l old said new_board acq counts hosting drives =
 mode_at : (old : Running) (t : Trace) → IsHosting old → StandsAt old t → t.mode ≡ OldestFirst
 mode_at old t hosting stands = sym stands.mode ∙ hosting.oldest_first
 
-heard_goes : (old : Running) (bytes : List ℕ) (new_board : PlainState) (acq : Machine) (counts : FillCounts) → IsHosting old → IsBytes bytes
+heard_goes : (old : Running) (bytes : List ℕ) (new_board : PlainState) (acq : Window) (counts : FillCounts) → IsHosting old → IsBytes bytes
     → Drives (HearsIn (config_of old.acq) OldestFirst bytes) 0 old.board old.acq old.counts [] new_board acq counts
     → IsAtRest new_board acq → config_of acq ≡ config_of old.acq → Goes (heard_line bytes) old [] (driven old new_board acq counts)
 heard_goes old bytes new_board acq counts hosting small drives rest config =
     drive_goes (heard_line bytes) old [] new_board acq counts hosting.keeps
     (drives_in (heard_line bytes) old [] new_board acq counts hosting (running_drives (config_of old.acq) OldestFirst old.board new_board old.acq acq old.counts counts (encode_lower bytes) bytes (decode_of-encode_lower bytes small) hosting.opened.running drives)) rest config
 
-pub heard_moves : (old : Running) (bytes : List ℕ) (new_board : PlainState) (acq : Machine) (counts : FillCounts) → IsHosting old → IsBytes bytes
+pub heard_moves : (old : Running) (bytes : List ℕ) (new_board : PlainState) (acq : Window) (counts : FillCounts) → IsHosting old → IsBytes bytes
     → Drives (HearsIn (config_of old.acq) OldestFirst bytes) 0 old.board old.acq old.counts [] new_board acq counts
     → IsAtRest new_board acq → config_of acq ≡ config_of old.acq → Moves (heard_line bytes ∷ []) (λ r. hears r bytes) old (driven old new_board acq counts)
 heard_moves old bytes new_board acq counts hosting small drives rest config =
     moves_by (heard_line bytes) (λ r. hears r bytes) old (driven old new_board acq counts) [] hosting (heard_goes old bytes new_board acq counts hosting small drives rest config)
     (λ t part r stands adds new_stands. datagram_left t (encode_lower bytes) bytes part r (mode_at old t hosting stands) (open_at old t hosting stands) (decode_of-encode_lower bytes small) adds.spells adds.runs)
 
-pub heard_hosting : (old : Running) (bytes : List ℕ) (new_board : PlainState) (acq : Machine) (counts : FillCounts) → IsHosting old → IsBytes bytes
+pub heard_hosting : (old : Running) (bytes : List ℕ) (new_board : PlainState) (acq : Window) (counts : FillCounts) → IsHosting old → IsBytes bytes
     → Drives (HearsIn (config_of old.acq) OldestFirst bytes) 0 old.board old.acq old.counts [] new_board acq counts
     → IsAtRest new_board acq → config_of acq ≡ config_of old.acq → IsHosting (driven old new_board acq counts)
 heard_hosting old bytes new_board acq counts hosting small drives rest config =
@@ -132,7 +132,7 @@ heard_hosting old bytes new_board acq counts hosting small drives rest config =
 -- ---- a moment
 
 -- The receiver was told the moment, what retired was filled, and no request waits any more.
-pub record IsTold (moment : ℕ) (old : Running) (new_board : PlainState) (mid fed acq : Machine) (counts : FillCounts) : Type 0 where
+pub record IsTold (moment : ℕ) (old : Running) (new_board : PlainState) (mid fed acq : Window) (counts : FillCounts) : Type 0 where
   pub takes : Takes old.acq mid (tick moment)
   pub all : FillsAll OldestFirst (waiting_fills mid) old.board old.counts new_board counts
   pub keeps : KeepsBlocks mid fed
@@ -140,7 +140,7 @@ pub record IsTold (moment : ℕ) (old : Running) (new_board : PlainState) (mid f
   pub keeps_too : KeepsBlocks fed acq
   pub rest : IsAtRest new_board acq
 
-moment_goes : (moment : ℕ) (old : Running) (new_board : PlainState) (mid fed acq : Machine) (counts : FillCounts) → IsHosting old → IsTold moment old new_board mid fed acq counts
+moment_goes : (moment : ℕ) (old : Running) (new_board : PlainState) (mid fed acq : Window) (counts : FillCounts) → IsHosting old → IsTold moment old new_board mid fed acq counts
     → Goes (line.tick moment) old (lines_of (waiting_requests fed)) (driven old new_board acq counts)
 moment_goes moment old new_board mid fed acq counts hosting is =
     drive_goes (line.tick moment) old (lines_of (waiting_requests fed)) new_board acq counts hosting.keeps
@@ -148,27 +148,27 @@ moment_goes moment old new_board mid fed acq counts hosting is =
     (tick_drives OldestFirst old.board new_board old.acq mid fed acq old.counts counts moment [] (lines_of (waiting_requests fed)) hosting.keeps.rest is.takes is.all is.keeps is.requests is.keeps_too refl refl))
     is.rest (is.keeps_too.config ∙ (is.keeps.config ∙ is.takes.config))
 
-pub moment_moves : (moment : ℕ) (old : Running) (new_board : PlainState) (mid fed acq : Machine) (counts : FillCounts) → IsHosting old → IsTold moment old new_board mid fed acq counts
+pub moment_moves : (moment : ℕ) (old : Running) (new_board : PlainState) (mid fed acq : Window) (counts : FillCounts) → IsHosting old → IsTold moment old new_board mid fed acq counts
     → Moves (line.tick moment ∷ []) (λ r. told (tick moment) r) old (driven old new_board acq counts)
 moment_moves moment old new_board mid fed acq counts hosting is =
     moves_by (line.tick moment) (λ r. told (tick moment) r) old (driven old new_board acq counts) (lines_of (waiting_requests fed)) hosting (moment_goes moment old new_board mid fed acq counts hosting is)
     (λ t part r stands adds new_stands. settles_left t (tick moment) _ part r (mode_at old t hosting stands) adds.spells adds.runs)
 
-pub moment_hosting : (moment : ℕ) (old : Running) (new_board : PlainState) (mid fed acq : Machine) (counts : FillCounts) → IsHosting old → IsTold moment old new_board mid fed acq counts
+pub moment_hosting : (moment : ℕ) (old : Running) (new_board : PlainState) (mid fed acq : Window) (counts : FillCounts) → IsHosting old → IsTold moment old new_board mid fed acq counts
     → IsHosting (driven old new_board acq counts)
 moment_hosting moment old new_board mid fed acq counts hosting is =
     hosting_by (line.tick moment) (line.tick moment ∷ []) (λ r. told (tick moment) r) old (driven old new_board acq counts) (lines_of (waiting_requests fed)) hosting (moment_goes moment old new_board mid fed acq counts hosting is) refl refl
     (moment_moves moment old new_board mid fed acq counts hosting is) (told_open (tick moment))
 
 -- the requests of the moment are those that waited
-pub moment_asks : (moment : ℕ) (old : Running) (mid fed : Machine) (before after : List (List ℕ)) → IsHosting old → Takes old.acq mid (tick moment) → waiting_requests fed ≡ waiting_requests mid
+pub moment_asks : (moment : ℕ) (old : Running) (mid fed : Window) (before after : List (List ℕ)) → IsHosting old → Takes old.acq mid (tick moment) → waiting_requests fed ≡ waiting_requests mid
     → after ≡ before ++ waiting_requests fed → Asks moment old before after
 moment_asks moment old mid fed before after hosting takes same added t stands =
     added ∙ ap (λ rs. before ++ rs) (same ∙ (takes.requests t.inputs stands.behind.inputs
     ∙ (ap (λ rs. rs ++ map request_bytes (turn (config_of old.acq) t.inputs (tick moment)).requests) hosting.keeps.rest.no_request
     ∙ ap (λ (c : AcqConfig). map request_bytes (turn c t.inputs (tick moment)).requests) hosting.config)))
 
-pub is_told : (moment : ℕ) (old : Running) (new_board : PlainState) (mid fed acq : Machine) (counts : FillCounts) → IsHosting old → Takes old.acq mid (tick moment) → asked_block mid ≡ None
+pub is_told : (moment : ℕ) (old : Running) (new_board : PlainState) (mid fed acq : Window) (counts : FillCounts) → IsHosting old → Takes old.acq mid (tick moment) → asked_block mid ≡ None
     → FillsAll OldestFirst (waiting_fills mid) old.board old.counts new_board counts → KeepsBlocks mid fed → waiting_requests fed ≡ waiting_requests mid → waiting_fills fed ≡ [] → AreAway new_board (buffers fed)
     → KeepsBlocks fed acq → waiting_fills acq ≡ waiting_fills fed → waiting_requests acq ≡ [] → IsTold moment old new_board mid fed acq counts
 is_told moment old new_board mid fed acq counts hosting takes asked all keeps same no_fill away keeps_too fills_same no_request = record {

@@ -11,7 +11,7 @@ use Rattle.acquisition_machine.specs.Runs.{After}
 use Rattle.acquisition_machine.specs.TurnLaws.{with_given, held, given_of, HasOneMore, TakesGiven}
 use Rattle.acquisition_machine.proofs.Order.{all_append, all_front, all_back}
 use Rattle.acquisition_machine.proofs.Window.{blocks_are_in_order}
-use Rattle.acq_core.specs.declared.machine.Machine.{Machine}
+use Rattle.acq_core.specs.declared.window.Window.{Window}
 use Rattle.acq_core.specs.Standing.{IsConfig}
 use Rattle.acq_core.specs.Waiting.{waiting_fills, waiting_requests}
 use Rattle.acq_core.specs.Receiver.{config_of, asked_block, buffers, Stands}
@@ -24,11 +24,11 @@ HasSize size g = g.size ≡ size
 abbrev pub IsSized : ℕ → Filling → Type 0
 IsSized size f = length f.bytes ≡ size
 
-window_is : (old new : Machine) → config_of new ≡ config_of old → (config_of new).window ≡ (config_of old).window
+window_is : (old new : Window) → config_of new ≡ config_of old → (config_of new).window ≡ (config_of old).window
 window_is old new e = ap (λ (c : AcqConfig). c.window) e
 
 -- what the acquisition has stays what it was
-pub has_kept : (size : ℕ) (old new : Machine) (spare : List Filling) → about new ≡ about old → config_of new ≡ config_of old → HasBuffers size old spare → HasBuffers size new spare
+pub has_kept : (size : ℕ) (old new : Window) (spare : List Filling) → about new ≡ about old → config_of new ≡ config_of old → HasBuffers size old spare → HasBuffers size new spare
 has_kept size old new spare e same h = record {
   count = ap (λ (gs : List Given). length spare + length gs) e ∙ (h.count ∙ sym (window_is old new same));
   spare_sized = h.spare_sized;
@@ -37,12 +37,12 @@ has_kept size old new spare e same h = record {
 }
 
 -- the first fill that waits, and the others
-about_first : (old new : Machine) (f : Retired) → waiting_fills old ≡ f ∷ waiting_fills new → buffers new ≡ buffers old → about old ≡ given_of f ∷ about new
+about_first : (old new : Window) (f : Retired) → waiting_fills old ≡ f ∷ waiting_fills new → buffers new ≡ buffers old → about old ≡ given_of f ∷ about new
 about_first old new f e b =
     ap (λ (ws : List Retired). map given_of ws ++ buffers old) e ∙ ap (λ (gs : List Given). given_of f ∷ (map given_of (waiting_fills new) ++ gs)) (sym b)
 
 -- a fill's buffer comes back
-pub has_taken : (size : ℕ) (old new : Machine) (spare : List Filling) (f : Retired) → waiting_fills old ≡ f ∷ waiting_fills new → buffers new ≡ buffers old → config_of new ≡ config_of old
+pub has_taken : (size : ℕ) (old new : Window) (spare : List Filling) (f : Retired) → waiting_fills old ≡ f ∷ waiting_fills new → buffers new ≡ buffers old → config_of new ≡ config_of old
     → HasBuffers size old spare → HasBuffers size new (spare ++ f.buf ∷ [])
 has_taken size old new spare f e b same h =
     let first = about_first old new f e b in
@@ -57,20 +57,20 @@ has_taken size old new spare f e b same h =
     }
 
 -- there is room for a fill's buffer
-pub room_for_one : (size : ℕ) (old new : Machine) (spare : List Filling) (f : Retired) → waiting_fills old ≡ f ∷ waiting_fills new → buffers new ≡ buffers old
+pub room_for_one : (size : ℕ) (old new : Window) (spare : List Filling) (f : Retired) → waiting_fills old ≡ f ∷ waiting_fills new → buffers new ≡ buffers old
     → HasBuffers size old spare → length spare < 4
 room_for_one size old new spare f e b h =
     let longer : length (about old) ≡ length (about new) + 1 = ap (λ (gs : List Given). length gs) (about_first old new f e b) ∙ omega arith in
     let few = h.config.window_few in
     omega (arith, h.count, longer, few)
 
-pub few_wait : (size : ℕ) (m : Machine) (spare : List Filling) → HasBuffers size m spare → length (waiting_fills m) ≤ 4
+pub few_wait : (size : ℕ) (m : Window) (spare : List Filling) → HasBuffers size m spare → length (waiting_fills m) ≤ 4
 few_wait size m spare h =
     let few = h.config.window_few in
     omega (arith, h.count, few, length-append (map given_of (waiting_fills m)) (buffers m), length-map (waiting_fills m) given_of)
 
 -- a buffer goes to a block that asked for one, where no fill waits
-pub has_given : (size place : ℕ) (old new : Machine) (spare : List Filling) (f : Filling) (b : ℕ) → waiting_fills old ≡ [] → waiting_fills new ≡ [] → asked_block old ≡ Some b
+pub has_given : (size place : ℕ) (old new : Window) (spare : List Filling) (f : Filling) (b : ℕ) → waiting_fills old ≡ [] → waiting_fills new ≡ [] → asked_block old ≡ Some b
     → config_of new ≡ config_of old
     → TakesGiven (Some (record { place = place; size = length f.bytes })) (asked_block old) (buffers old) (buffers new)
     → HasBuffers size old (spare ++ f ∷ []) → HasBuffers size new spare
@@ -105,7 +105,7 @@ block_asked None some = absurd cc
 block_asked (Some b) some = (b, refl)
 
 -- where a block asks for a buffer, one waits
-pub some_spare : (size : ℕ) (m : Machine) (spare : List Filling) → IsPlaying size m spare → IsSome (asked_block m) → 0 < length spare
+pub some_spare : (size : ℕ) (m : Window) (spare : List Filling) → IsPlaying size m spare → IsSome (asked_block m) → 0 < length spare
 some_spare size m spare playing some =
     let c = config_of m in
     let q = playing.inputs in
@@ -136,7 +136,7 @@ pub last_sized : (size : ℕ) (all spare : List Filling) (f : Filling) → all �
 last_sized size all spare f e sized = (all_back (IsSized size) spare (f ∷ []) (subst (λ (xs : List Filling). AllByRecursion (IsSized size) xs) e sized)).0
 
 -- a new player
-pub begins : (size : ℕ) (m : Machine) (spare : List Filling) (k : AcqConfig) → IsConfig k → config_of m ≡ k → Stands m [] → waiting_fills m ≡ [] → waiting_requests m ≡ [] → buffers m ≡ []
+pub begins : (size : ℕ) (m : Window) (spare : List Filling) (k : AcqConfig) → IsConfig k → config_of m ≡ k → Stands m [] → waiting_fills m ≡ [] → waiting_requests m ≡ [] → buffers m ≡ []
     → length spare ≡ k.window → AllByRecursion (IsSized size) spare → IsPlaying size m spare
 begins size m spare k ok is stands no_fill no_request none count sized =
     let empty : about m ≡ [] = ap (λ (ws : List Retired). map given_of ws ++ buffers m) no_fill ∙ none in

@@ -5,12 +5,12 @@ use Rattle.acquisition_machine.specs.declared.retired.Retired.{Retired}
 use Rattle.acquisition_machine.specs.Blocks.{Given, fills}
 use Rattle.acquisition_machine.specs.Machine.{Input}
 use Rattle.acquisition_machine.specs.Runs.{After, retired_from}
-use Rattle.acq_core.specs.declared.machine.Machine.{Machine}
+use Rattle.acq_core.specs.declared.window.Window.{Window}
 use Rattle.acq_core.specs.Receiver.{config_of, asked_block, Stands}
 
 -- an acquisition, and the size of each of its buffers, in bytes
 pub record PlayerState : Type 0 where
-  pub acq : Machine
+  pub acq : Window
   pub size : ℕ
 
 abbrev pub config_in : PlayerState → AcqConfig

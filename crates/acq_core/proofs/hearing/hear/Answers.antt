@@ -6,7 +6,7 @@ use Rattle.acq_core.proofs.Listening.{acts_unasked, sound_unasked, some_unasked,
 use Rattle.acq_core.proofs.hearing.hear.Goals as goal
 
 pub listen-requires-clause-acts : goal.listen-requires-clause-acts
-listen-requires-clause-acts c = some_unasked c.args.machine.now c.requires.acts
+listen-requires-clause-acts c = some_unasked c.args.window.now c.requires.acts
 
 pub listen-requires-clause-read : goal.listen-requires-clause-read
 listen-requires-clause-read c =
@@ -14,10 +14,10 @@ listen-requires-clause-read c =
 
 pub returns-in-Ok-clause-answers : goal.returns-in-Ok-clause-answers
 returns-in-Ok-clause-answers c s acts sound =
-    hears_read c.args.machine.now c.listen.new.machine s c.args.bytes.now (Ok (view c.in-Ok.packet)) c.listen.result c.in-Ok.ensures.reading
-    (c.listen.ensures.answers (unasked s) (acts_unasked c.args.machine.now s acts) (sound_unasked c.args.machine.now s sound))
+    hears_read c.args.window.now c.listen.new.window s c.args.bytes.now (Ok (view c.in-Ok.packet)) c.listen.result c.in-Ok.ensures.reading
+    (c.listen.ensures.answers (unasked s) (acts_unasked c.args.window.now s acts) (sound_unasked c.args.window.now s sound))
 
 pub returns-in-Err-clause-answers : goal.returns-in-Err-clause-answers
 returns-in-Err-clause-answers c s acts sound =
-    hears_read c.args.machine.now c.ignore.new.machine s c.args.bytes.now (Err c.in-Err.error) c.ignore.result c.in-Err.ensures.reading
-    (c.ignore.ensures.answers (unasked s) (acts_unasked c.args.machine.now s acts))
+    hears_read c.args.window.now c.ignore.new.window s c.args.bytes.now (Err c.in-Err.error) c.ignore.result c.in-Err.ensures.reading
+    (c.ignore.ensures.answers (unasked s) (acts_unasked c.args.window.now s acts))

@@ -5,5 +5,5 @@ use Rattle.acq_core.proofs.hearing.hear_new.Goals as goal
 
 pub returns-clause-answers : goal.returns-clause-answers
 returns-clause-answers c s acts =
-    new_wants c.args.machine.now c.want.new.machine s (view c.args.packet.now) c.head.result c.want.result
+    new_wants c.args.window.now c.want.new.window s (view c.args.packet.now) c.head.result c.want.result
     (sym c.is_notice.ensures ∙ c.if-is_notice.false) (sym c.does_fit.ensures ∙ c.if-not-does_fit.false) c.head.ensures (c.want.ensures.answers s acts)

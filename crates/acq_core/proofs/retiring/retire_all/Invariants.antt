@@ -2,8 +2,8 @@ use Rattle.std.proofs.Common.{vec_len}
 use Rattle.acq_core.proofs.Stopping.{Stopping}
 use Rattle.acq_core.proofs.retiring.retire_all.Given as goal
 
-abbrev pub invariant-loop-machine : goal.invariant-loop-machine
-invariant-loop-machine l = Stopping l.initial.machine l.machine
+abbrev pub invariant-loop-window : goal.invariant-loop-window
+invariant-loop-window l = Stopping l.initial.window l.window
 
-abbrev pub decreases-loop-machine : goal.decreases-loop-machine
-decreases-loop-machine l = vec_len l.machine.slots
+abbrev pub decreases-loop-window : goal.decreases-loop-window
+decreases-loop-window l = vec_len l.window.slots

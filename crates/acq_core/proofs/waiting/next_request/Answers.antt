@@ -7,8 +7,8 @@ use Rattle.acq_core.proofs.waiting.next_request.Goals as goal
 
 pub returns-clause-resend : goal.returns-clause-resend
 returns-clause-resend c =
-    let count = some_slots c.args.machine.now.requests.len c.is_empty.result c.is_empty.ensures c.if-is_empty.false in
-    let all = c.args.machine.now.requests.ok.0 in
-    let some : 0 < length c.args.machine.now.requests.items = omega (arith, count, all) in
-    subst (λ (xs : List Asked). (r : Resend) × (resends c.args.machine.now.requests.items ≡ r ∷ resends xs)) (sym c.remove-asked.ensures.items)
-    (resend_taken c.args.machine.now.requests.items some)
+    let count = some_slots c.args.window.now.requests.len c.is_empty.result c.is_empty.ensures c.if-is_empty.false in
+    let all = c.args.window.now.requests.ok.0 in
+    let some : 0 < length c.args.window.now.requests.items = omega (arith, count, all) in
+    subst (λ (xs : List Asked). (r : Resend) × (resends c.args.window.now.requests.items ≡ r ∷ resends xs)) (sym c.remove-asked.ensures.items)
+    (resend_taken c.args.window.now.requests.items some)

@@ -6,4 +6,4 @@ use Rattle.acq_core.proofs.acq.Acq.open_blocks.Goals as goal
 
 pub returns-clause-opens : goal.returns-clause-opens
 returns-clause-opens c q s =
-    c.len.ensures ∙ c.self.inside.machine.slots.ok.0 ∙ ap open_count c.self.view_is ∙ opens_count c.args.self.now (After (config_of c.args.self.now) q) s
+    c.len.ensures ∙ c.self.inside.window.slots.ok.0 ∙ ap open_count c.self.view_is ∙ opens_count c.args.self.now (After (config_of c.args.self.now) q) s

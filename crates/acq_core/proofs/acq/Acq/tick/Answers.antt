@@ -6,23 +6,23 @@ use Rattle.acq_core.proofs.Receiving.{receiver_drained, takes, keeps_tick, forgo
 use Rattle.acq_core.proofs.acq.Acq.tick.Goals as goal
 
 pub tick-requires-clause-acts : goal.tick-requires-clause-acts
-tick-requires-clause-acts c = (forgotten c.self.inside.machine c.forget.new.machine c.self.invariant c.forget.ensures.rest c.forget.ensures.fewer c.forget.ensures.capacity).acts
+tick-requires-clause-acts c = (forgotten c.self.inside.window c.forget.new.window c.self.invariant c.forget.ensures.rest c.forget.ensures.fewer c.forget.ensures.capacity).acts
 
 pub tick-requires-clause-room : goal.tick-requires-clause-room
-tick-requires-clause-room c = (forgotten c.self.inside.machine c.forget.new.machine c.self.invariant c.forget.ensures.rest c.forget.ensures.fewer c.forget.ensures.capacity).room
+tick-requires-clause-room c = (forgotten c.self.inside.window c.forget.new.window c.self.invariant c.forget.ensures.rest c.forget.ensures.fewer c.forget.ensures.capacity).room
 
 pub invariant_of-self : goal.invariant_of-self
 invariant_of-self c =
-    receiver_drained c.forget.new.machine c.tick.new.machine (tick c.args.moment) (forgotten c.self.inside.machine c.forget.new.machine c.self.invariant c.forget.ensures.rest c.forget.ensures.fewer c.forget.ensures.capacity) (ap waiting_fills c.forget.ensures.rest ∙ ap waiting_fills c.self.view_is ∙ c.requires.no_fill) (λ s acts sound. c.tick.ensures.gives s acts) c.tick.ensures.room
+    receiver_drained c.forget.new.window c.tick.new.window (tick c.args.moment) (forgotten c.self.inside.window c.forget.new.window c.self.invariant c.forget.ensures.rest c.forget.ensures.fewer c.forget.ensures.capacity) (ap waiting_fills c.forget.ensures.rest ∙ ap waiting_fills c.self.view_is ∙ c.requires.no_fill) (λ s acts sound. c.tick.ensures.gives s acts) c.tick.ensures.room
 
 pub returns-clause-takes : goal.returns-clause-takes
 returns-clause-takes c =
-    subst (λ m. Takes m c.tick.new.machine (tick c.args.moment)) c.self.view_is
-    (takes_forgotten c.self.inside.machine c.forget.new.machine c.tick.new.machine (tick c.args.moment) c.forget.ensures.rest
-    (takes c.forget.new.machine c.tick.new.machine (tick c.args.moment) (forgotten c.self.inside.machine c.forget.new.machine c.self.invariant c.forget.ensures.rest c.forget.ensures.fewer c.forget.ensures.capacity) c.forget.ensures.none (λ s acts sound. c.tick.ensures.gives s acts)))
+    subst (λ m. Takes m c.tick.new.window (tick c.args.moment)) c.self.view_is
+    (takes_forgotten c.self.inside.window c.forget.new.window c.tick.new.window (tick c.args.moment) c.forget.ensures.rest
+    (takes c.forget.new.window c.tick.new.window (tick c.args.moment) (forgotten c.self.inside.window c.forget.new.window c.self.invariant c.forget.ensures.rest c.forget.ensures.fewer c.forget.ensures.capacity) c.forget.ensures.none (λ s acts sound. c.tick.ensures.gives s acts)))
 
 pub returns-clause-buffers : goal.returns-clause-buffers
 returns-clause-buffers c =
-    subst (λ m. KeepsBuffers m c.tick.new.machine) c.self.view_is
-    (keeps_forgotten c.self.inside.machine c.forget.new.machine c.tick.new.machine c.forget.ensures.rest
-    (keeps_tick c.forget.new.machine c.tick.new.machine c.args.moment (forgotten c.self.inside.machine c.forget.new.machine c.self.invariant c.forget.ensures.rest c.forget.ensures.fewer c.forget.ensures.capacity) (λ s acts sound. c.tick.ensures.gives s acts)))
+    subst (λ m. KeepsBuffers m c.tick.new.window) c.self.view_is
+    (keeps_forgotten c.self.inside.window c.forget.new.window c.tick.new.window c.forget.ensures.rest
+    (keeps_tick c.forget.new.window c.tick.new.window c.args.moment (forgotten c.self.inside.window c.forget.new.window c.self.invariant c.forget.ensures.rest c.forget.ensures.fewer c.forget.ensures.capacity) (λ s acts sound. c.tick.ensures.gives s acts)))

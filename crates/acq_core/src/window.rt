@@ -5,7 +5,7 @@ use acquisition_machine::{AcqConfig, Counts, Retired};
 
 /// The receiver's state.
 #[derive(Drop)]
-pub(crate) struct Machine {
+pub(crate) struct Window {
     /// How blocks are received.
     pub(crate) config: AcqConfig,
     /// The greatest moment that was told, in milliseconds.
