@@ -1,6 +1,7 @@
 //! Sources and sinks that fail, for the commands beside `replay`.
 
 use super::cameras::{CAMERA_REPORT, CAMERA_SCRIPT};
+use super::capture_scripts::{THREE_BLOCKS, THREE_BLOCKS_SCRIPT};
 use super::captures::{CAPTURE, STREAMS};
 use super::explanations::EXPLANATION;
 use super::making::ALL_LOST;
@@ -83,6 +84,10 @@ fn each_command_tells_of_faults(rt: HostRuntime) -> Result<(), Fail> {
     let capture = hex::decode(alloc, CAPTURE)?;
     check_writes(&rt, alloc, &["streams"], &capture, STREAMS)?;
     check_reads(&rt, alloc, &["streams"], &capture, STREAMS)?;
+    let capture = hex::decode(alloc, THREE_BLOCKS)?;
+    let words = ["capture", "49152", "528", "8000"];
+    check_writes(&rt, alloc, &words, &capture, THREE_BLOCKS_SCRIPT)?;
+    check_reads(&rt, alloc, &words, &capture, THREE_BLOCKS_SCRIPT)?;
     check_writes(&rt, alloc, &["explain"], SCRIPT.as_bytes(), EXPLANATION)?;
     check_reads(&rt, alloc, &["explain"], SCRIPT.as_bytes(), EXPLANATION)?;
     check_writes(&rt, alloc, &["image", "1"], SCRIPT.as_bytes(), PICTURE)?;
