@@ -14,7 +14,7 @@ OF_REPLAY_SCRIPTS = ["replay", "explain", "image 1", "image 2"]
 OF_CAMERA_SCRIPTS = ["camera"]
 OF_CAPTURES = ["streams", "capture 49152 1464 4096"]
 # Those that read nothing. The numbers of make and soak are drawn anew, and of all now and then a word is changed.
-OF_NOTHING = ["make 1 3 50 50 50", "soak 1 3 50 50 50", "soak 1 3 50 0 0 short", "live 1 2 2 1 3"]
+OF_NOTHING = ["make 1 3 50 50 50", "soak 1 3 50 50 50", "soak 1 3 50 0 0 short", "live 1 2 2 1 3", "record 1 2 2 3"]
 
 # How long one run may take, and all together, in seconds.
 RUN_SECONDS = 20
@@ -31,6 +31,7 @@ STATUSES = {
     "make": {0},
     "soak": {0, 9, 10},
     "live": {0, 9, 10, 11},
+    "record": {0, 9, 10, 11},
 }
 
 # The text on standard error, by the status.
@@ -466,11 +467,11 @@ def judge_run(data, status, text, error):
 
 
 def judge_script(data, status, text, error):
-    """Whether the lines are those of a made script."""
+    """Whether the lines are those of a made or recorded script."""
     lines = lines_of(text)
     wants(status == 7 or lines and lines[0].startswith("gevacq ") and lines[-1] == "end", "no whole script")
     for line in lines[1:]:
-        wants(re.fullmatch(r"(announce|flush|stop|t) \d+|start|take|end|d ([0-9a-f]{2})+", line), f"no line of a script: {line}")
+        wants(re.fullmatch(r"(announce|flush|stop|t) \d+|queue \d\.1|start|take|end|d ([0-9a-f]{2})+", line), f"no line of a script: {line}")
 
 
 def judge_picture(script, status, text, error):
@@ -497,6 +498,7 @@ JUDGES = {
     "make": judge_script,
     "soak": judge_run,
     "live": judge_run,
+    "record": judge_script,
 }
 
 # ---------------------------------------------------------------------------------------------------------------
@@ -575,7 +577,7 @@ def any_words(draw):
     if words[0] in (b"make", b"soak"):
         numbers = [draw.getrandbits(64), draw.randrange(6)] + [draw.choice([0, 50, 400, 1000]) for _ in range(3)]
         words[1:6] = [b"%d" % it for it in numbers]
-    if words[0] == b"live" and draw.random() < 0.8:
+    if words[0] in (b"live", b"record") and draw.random() < 0.8:
         words[draw.randrange(1, len(words))] = b"0x1"
     others = [b"", b"0", b"01", b"-1", b"+1", b"1 ", b"short", b"18446744073709551616", b"\xff\xfe", draw.randbytes(3).replace(b"\0", b"x")]
     kind = draw.randrange(4)

@@ -1,5 +1,6 @@
 -- Answers where no count of faults rose.
-use Rattle.std.proofs.Common.{◌≡◌, ◌≢◌, ℕ, List, Option, Some, None, Ok, refl, ap, sym, ◌∙◌, subst, inl, inr}
+use Rattle.std.proofs.Common.{◌≡◌, ◌≢◌, ℕ, List, Option, refl, sym, subst, inl, inr}
+use Rattle.script_runs.specs.Verdicts.{IfTold}
 use Rattle.board_machine.specs.declared.events.Entry.{Entry}
 use Rattle.gev_links.specs.Links.{Address}
 use Rattle.gev_status.specs.declared.status.Status.{Status}
@@ -9,10 +10,11 @@ use Rattle.gev_live.specs.Endings.{Wrote}
 use Rattle.gev_call.specs.Runs.{RunsSo}
 use Rattle.gev_top.specs.declared.command.Command.{Command}
 use Rattle.gev_top.specs.declared.live_numbers.LiveNumbers.{LiveNumbers}
-use Rattle.gev_top.specs.Usage.{command_of}
-use Rattle.gev_top.specs.LiveWords.{Errand, plain, live, live_said, errand_by, errand_of}
-use Rattle.gev_top.specs.Completeness.{NoneRose, EndsLive, Completes, CompletesErrand}
-use Rattle.gev_call.proofs.Errands.{command_is, never_live}
+use Rattle.gev_top.specs.declared.errand.Errand.{Errand}
+use Rattle.gev_top.specs.declared.errand.Errand.TheVariants.{Plain}
+use Rattle.gev_top.specs.Answers.{Answers, IsDecided}
+use Rattle.gev_top.specs.Completeness.{NoneRose, EndsLive, CompletesErrand}
+use Rattle.gev_top.proofs.Completing.{completes}
 
 wrote_ends : (answer : Status) (text : List ℕ) (written written_after : Option (List ℕ)) (faults faults_after : ℕ) → Wrote answer text written written_after faults faults_after
     → NoneRose faults faults_after → answer ≢ LinkFault → EndsLive answer
@@ -38,15 +40,10 @@ run_ends n camera stream answer o e written written_after faults faults_after h 
 run_ends n camera stream answer o e written written_after faults faults_after h (inl (one, inr never)) none other = subst EndsLive (sym never.wanted) tt
 run_ends n camera stream answer o e written written_after faults faults_after h (inr (more, inr never)) none other = subst EndsLive (sym never.wanted) tt
 
--- the words ask for a command of `plain_top`
-pub plain_completes : (words : List (List ℕ)) (left : Option (List ℕ)) (status : Status) → live_said words ≡ None
-    → ((command : Command) → command_of words ≡ Ok command → Completes command left status) → (errand : Errand) → errand_of words ≡ Ok errand → CompletesErrand errand left status
-plain_completes words left status none complete (plain command) is = complete command (command_is words command none is)
-plain_completes words left status none complete (live n) is = absurd (never_live words n none is)
-
--- the words ask for a live run
-pub live_completes : (words : List (List ℕ)) (n : LiveNumbers) (left : Option (List ℕ)) (status : Status) → live_said words ≡ Some (Ok n) → EndsLive status
-    → (errand : Errand) → errand_of words ≡ Ok errand → CompletesErrand errand left status
-live_completes words n left status said ends (plain command) is =
-    let asked : errand_of words ≡ Ok (live n) = ap (λ o. errand_by o (command_of words)) said in let both : Ok (live n) ≡ Ok (plain command) = sym asked ∙ is in let bad : ⊥ = cc in absurd bad
-live_completes words n left status said ends (live m) is = ends
+-- a command is asked for that makes no use of ports
+pub plain_completes : (command : Command) (asked : Errand) (status : Status) (left left_after : Option (List ℕ)) (reads reads_after : ℕ) (written written_after : Option (List ℕ)) (writes writes_after : ℕ)
+    → Plain command ≡ asked → Answers command status left left_after reads reads_after written written_after writes writes_after
+    → IfTold left (λ content. IsDecided command status content) → NoneRose reads reads_after → NoneRose writes writes_after → CompletesErrand asked left status
+plain_completes command asked status left left_after reads reads_after written written_after writes writes_after is answers decided none none_written =
+    subst (λ (errand : Errand). CompletesErrand errand left status) is
+    (record { answer = completes command status left left_after reads reads_after written written_after writes writes_after answers none none_written; decided = decided })

@@ -3,4 +3,5 @@ pub mod Errands
 pub mod Answered
 pub mod Replaying
 pub mod Promised
+pub mod Recorded
 pub mod Completing

@@ -12,7 +12,7 @@ use Rattle.lanes_promises.proofs.Keeping.{lane_runs_keep}
 use Rattle.gev_call.specs.Runs.{IsUntold, told_by, numbers_of, RunsSo, KeepsSo, RunsOver}
 
 -- three members that came back to an empty list are the list
-all_back : {A : Type 0} (old new : Option (List A)) (a b d : A) → ComeBack old new (a ∷ b ∷ d ∷ []) → old ≡ Some [] → new ≡ Some (a ∷ b ∷ d ∷ [])
+pub all_back : {A : Type 0} (old new : Option (List A)) (a b d : A) → ComeBack old new (a ∷ b ∷ d ∷ []) → old ≡ Some [] → new ≡ Some (a ∷ b ∷ d ∷ [])
 all_back None new a b d back is = absurd (cc)
 all_back (Some []) new a b d back is = back (omega arith)
 all_back (Some (x ∷ xs)) new a b d back is = absurd (cc)

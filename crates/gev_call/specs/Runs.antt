@@ -13,6 +13,7 @@ use Rattle.gev_live.specs.LiveRun.{Numbers, RunsLive}
 use Rattle.live_promises.specs.Promises.{KeepsLivePromises}
 use Rattle.live_lanes.specs.LanesRun.{RunsLanes}
 use Rattle.lanes_promises.specs.Promises.{KeepsLanesPromises}
+use Rattle.live_recording.specs.Recorded.{RecordsLive}
 
 -- what these three links and three clocks tell
 abbrev pub told_by : {L C : Type 0} → (L → Option (List Answer)) → (L → Option (List (Address × List ℕ))) → (L → ℕ) → (C → Option (List ℕ)) → L → L → L → C → C → C → Told
@@ -51,7 +52,7 @@ pub record AreListed {L C : Type 0} (received : L → Option (List Answer)) (sen
   pub are : e ≡ told_by received sent faults told camera stream control camera_clock host_clock app_clock
 
 abbrev pub numbers_of : LiveNumbers → Numbers
-numbers_of n = record { seed = n.seed; frames = n.frames; buffers = n.buffers; turns = n.turns }
+numbers_of n = record { seed = n.seed; frames = n.frames; buffers = n.buffers; turns = n.turns; mode = n.mode }
 
 -- A live run with so many lanes; with one lane the reader is the lane.
 abbrev pub RunsSo : LiveNumbers → Address → Address → Status → Told → Told → Option (List ℕ) → Option (List ℕ) → ℕ → ℕ → List Entry → Type 0
@@ -81,7 +82,24 @@ pub record RunsOver {L C : Type 0} (received : L → Option (List Answer)) (sent
   pub promises : KeepsSo runs
   pub listed : links ≡ Some [] → clocks ≡ Some [] → AreListed received sent faults told links_after clocks_after ends
 
--- No board was made: a bind failed, or memory was wanting, and nothing was written.
+-- A recorded live run over new links and clocks, whose history is h. Its stream's link was heard through a tape, and
+-- its script was written in place of its lines. The rest is as of a live run.
+pub record RecordsOver {L C : Type 0} (received : L → Option (List Answer)) (sent : L → Option (List (Address × List ℕ))) (faults : L → ℕ) (told : C → Option (List ℕ))
+    (n : LiveNumbers) (status : Status) (links links_after : Option (List L)) (clocks clocks_after : Option (List C))
+    (written written_after : Option (List ℕ)) (writes writes_after : ℕ) (h : List Entry) : Type 0 where
+  -- the addresses of the camera's link and of the stream's
+  pub camera : Address
+  pub stream : Address
+  pub begins : Told
+  pub untold : IsUntold begins
+  pub ends : Told
+  -- what the tape held at the end
+  pub taped : List (Option (List ℕ))
+  pub runs : RecordsLive (numbers_of n) camera stream status begins ends taped written written_after writes writes_after h
+  pub listed : links ≡ Some [] → clocks ≡ Some [] → AreListed received sent faults told links_after clocks_after ends
+
+-- No board was made: a bind failed, or memory was wanting, for the tape of a recorded run or for the board, and nothing
+-- was written.
 pub record RunsNothing (status : Status) (written written_after : Option (List ℕ)) (writes writes_after : ℕ) : Type 0 where
   pub cause : (status ≡ LinkFault) ⊎ (status ≡ NoMemory)
   pub unwritten : written_after ≡ written

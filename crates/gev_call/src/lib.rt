@@ -3,10 +3,12 @@
 //! `specs/Runs.antt` says what a live run over ports did; what the other commands do is said by `gev_top`.
 #![tactic(auto)]
 
+mod recording;
 mod running;
 #[cfg(test)]
 mod tests;
 mod top;
 
+pub use recording::run_recorded;
 pub use running::run_live;
 pub use top::gevacq_top;

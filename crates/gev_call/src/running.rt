@@ -25,7 +25,7 @@ use std::sync::Wait;
 use std::thread::Threads;
 
 /// Gives a run's links and clocks back.
-fn give_ends<P: Ports>(ports: &mut P, ends: Ends<P::L, P::L, P::C>)
+pub(crate) fn give_ends<P: Ports>(ports: &mut P, ends: Ends<P::L, P::L, P::C>)
     ensures links { ComeBack (P.links ports.old) (P.links ports.new) (ends.camera ∷ ends.stream ∷ ends.control ∷ []) }
     ensures clocks { ComeBack (P.clocks ports.old) (P.clocks ports.new) (ends.camera_clock ∷ ends.host_clock ∷ ends.app_clock ∷ []) }
     ensures binds { P.binds ports.new ≡ P.binds ports.old }
@@ -48,7 +48,10 @@ fn give_ends<P: Ports>(ports: &mut P, ends: Ends<P::L, P::L, P::C>)
 }
 
 /// Takes three clocks of the ports, beside these links.
-fn with_clocks<P: Ports>(ports: &mut P, links: ThreeLinks<P::L>) -> Ends<P::L, P::L, P::C>
+pub(crate) fn with_clocks<P: Ports>(
+    ports: &mut P,
+    links: ThreeLinks<P::L>,
+) -> Ends<P::L, P::L, P::C>
     ensures camera { result.camera ≡ links.camera }
     ensures stream { result.stream ≡ links.stream }
     ensures control { result.control ≡ links.control }
@@ -121,6 +124,7 @@ fn run_on<
             ends,
             gate,
             sink,
+            numbers.mode,
         );
     }
     live_lanes(
@@ -136,6 +140,7 @@ fn run_on<
         ends,
         gate,
         sink,
+        numbers.mode,
     )
 }
 

@@ -116,28 +116,110 @@ fn a_live_run_is_made_over_ports(rt: HostRuntime) -> Result<(), Fail> {
     )
 }
 
-// Where a bind fails the links that came go back, and nothing is run or written.
+/// What a recorded run of three silent turns writes; the setup reads the moments before 4.
+const SILENT: &str = "\
+gevacq 1 1452 2 200 20 3
+announce 307200
+announce 307200
+announce 307200
+start
+t 4
+t 5
+t 6
+stop 0
+end
+";
+
+// So does a recorded run, which writes its script, and gives the stream's link back without its tape.
 #[test]
-fn binds_that_fail_give_back_what_came(rt: HostRuntime) -> Result<(), Fail> {
-    let rows: [(&[u64], usize); 3] = [(&[1], 0), (&[2], 1), (&[3], 2)];
-    for (failing, back) in rows {
-        let mut ports = quiet_ports(rt.alloc(), &[], failing)?;
-        check_words(
+fn a_recorded_run_is_made_over_ports(rt: HostRuntime) -> Result<(), Fail> {
+    let answers = [
+        Some((ACKS[0], CAMERA)),
+        Some((ACKS[1], CAMERA)),
+        Some((ACKS[2], CAMERA)),
+        Some((ACKS[3], CAMERA)),
+    ];
+    let mut ports = quiet_ports(rt.alloc(), &answers, &[])?;
+    check_words(
+        &rt,
+        rt.alloc(),
+        &["record", "1", "20", "1", "3"],
+        "",
+        &mut ports,
+        Status::TurnsSpent {
+            turns: 3,
+            frames: 0,
+        },
+        SILENT,
+        3,
+        true,
+    )
+}
+
+// Each of its five writes fails in turn: the header's, one for each turn, the end's. A front of the script is written, and
+// links and board are there as after a run that was written.
+#[test]
+fn a_write_of_a_recorded_run_fails(rt: HostRuntime) -> Result<(), Fail> {
+    let alloc = rt.alloc();
+    let answers = [
+        Some((ACKS[0], CAMERA)),
+        Some((ACKS[1], CAMERA)),
+        Some((ACKS[2], CAMERA)),
+        Some((ACKS[3], CAMERA)),
+    ];
+    let words = word_list(alloc, &["record", "1", "20", "1", "3"])?;
+    for number in 1..=5u64 {
+        let failing = [number];
+        let mut ports = quiet_ports(alloc, &answers, &[])?;
+        let mut source = SteadySource::new(b"", 1000);
+        let mut sink = MemorySink::new(alloc, 1000, &failing);
+        let mut kept = None;
+        let answer = gevacq_top(
             &rt,
-            rt.alloc(),
-            &["live", "1", "20", "10", "1", "3"],
-            "",
+            alloc,
+            &words,
+            &mut source,
+            &mut sink,
             &mut ports,
-            Status::LinkFault,
-            "",
-            back,
-            false,
-        )?;
+            &OpenGate,
+            &mut kept,
+        );
+        assert_eq!(rt; answer, Status::WriteFault);
+        assert!(rt; SILENT.as_bytes().starts_with(sink.written()));
+        assert!(rt; sink.written().len() < SILENT.len());
+        assert_eq!(rt; (ports.links().len(), kept.is_some()), (3, true));
     }
     Ok(())
 }
 
-// The other commands make no use of the ports, and words of a live run are refused by their place.
+// Where a bind fails the links that came go back, and nothing is run or written.
+#[test]
+fn binds_that_fail_give_back_what_came(rt: HostRuntime) -> Result<(), Fail> {
+    let rows: [(&[u64], usize); 3] = [(&[1], 0), (&[2], 1), (&[3], 2)];
+    let both: [&[&str]; 2] = [
+        &["live", "1", "20", "10", "1", "3"],
+        &["record", "1", "20", "10", "3"],
+    ];
+    for (failing, back) in rows {
+        for words in both {
+            let mut ports = quiet_ports(rt.alloc(), &[], failing)?;
+            check_words(
+                &rt,
+                rt.alloc(),
+                words,
+                "",
+                &mut ports,
+                Status::LinkFault,
+                "",
+                back,
+                false,
+            )?;
+        }
+    }
+    Ok(())
+}
+
+// The other commands make no use of the ports, and words of a live run or of a recorded one are refused by their place.
 #[test]
 fn other_words_bind_nothing(rt: HostRuntime) -> Result<(), Fail> {
     let script = "gevacq 1 528 1 1000 100 2\nend\n";
@@ -170,16 +252,24 @@ end taken=0 fills=0 complete=0 underrun=0 requests=0 foreign=0 late=0 repeat=0 m
         0,
         false,
     )?;
-    let rows: [(&[&str], u32); 9] = [
+    let rows: [(&[&str], u32); 17] = [
         (&[], 0),
         (&["lives"], 0),
+        (&["recorded"], 0),
         (&["live"], 1),
         (&["live", "18446744073709551616", "1", "1", "1", "1"], 1),
         (&["live", "1", "1001", "1", "1", "1"], 2),
         (&["live", "1", "1", "16", "1", "1"], 3),
         (&["live", "1", "1", "1", "5", "1"], 4),
         (&["live", "1", "1", "1", "1", "0"], 5),
-        (&["live", "1", "1", "1", "1", "1", "1"], 6),
+        (&["live", "1", "1", "1", "1", "1", "3"], 6),
+        (&["live", "1", "1", "1", "1", "1", "01"], 6),
+        (&["live", "1", "1", "1", "1", "1", "2", "2"], 7),
+        (&["record"], 1),
+        (&["record", "1", "1001", "1", "1"], 2),
+        (&["record", "1", "1", "16", "1"], 3),
+        (&["record", "1", "1", "1", "100001"], 4),
+        (&["record", "1", "1", "1", "1", "1"], 5),
     ];
     for (words, place) in rows {
         check_words(

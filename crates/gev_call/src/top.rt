@@ -8,31 +8,37 @@ ghost use Rattle.gev_links.specs.Faults.{Rose};
 ghost use Rattle.script_runs.specs.Verdicts.{IfTold};
 ghost use Rattle.gev_top.specs.declared.command.Command.{Command};
 ghost use Rattle.gev_top.specs.declared.command.Command.TheVariants as commands;
+ghost use Rattle.gev_top.specs.declared.errand.Errand.{Errand};
+ghost use Rattle.gev_top.specs.declared.errand.Errand.TheVariants as errands;
 ghost use Rattle.gev_top.specs.declared.live_numbers.LiveNumbers.{LiveNumbers};
 ghost use Rattle.gev_top.specs.Answers.{Answers, IsDecided, ReadsSteady};
-ghost use Rattle.gev_top.specs.LiveWords.{Errand, plain, live, errand_of, errand_fault};
+ghost use Rattle.gev_top.specs.LiveWords.{IsErrand, IfPorts, errand_of, errand_fault};
 ghost use Rattle.gev_top.specs.Completeness.{NoneRose, CompletesErrand};
-ghost use Rattle.gev_call.specs.Runs.{RunsOver, RunsNothing};
+ghost use Rattle.gev_call.specs.Runs.{RunsOver, RecordsOver, RunsNothing};
 ghost use Rattle.gev_call.specs.Replayed.{ReplaysByHeadline};
 ghost use Rattle.gev_call.specs.Explained.{ExplainsByHeadline};
 
+use crate::recording::run_recorded;
 use crate::running::run_live;
 use buffer_words::{Board, Pass};
 use gev_links::{Gate, Ports, Sink, Source};
 use gev_status::Status;
-use gev_top::{plain_top, read_live};
+use gev_top::{Errand, read_errand, run_command};
 use std::alloc::Global;
 use std::sync::Wait;
 use std::thread::Threads;
 
 /// Does what the words say. This is what `main` calls.
 ///
-/// `replay`, `explain`, `image`, `streams`, `capture`, `camera`, `make` and `soak` do what `plain_top` says; they make no use of the
-/// ports, and nothing is kept.
+/// `replay`, `explain`, `image`, `streams`, `capture`, `camera`, `make` and `soak` do what `plain_top` says; they make no
+/// use of the ports, and nothing is kept.
 ///
 /// `live` with a seed, a number of frames, of buffers, of lanes and of turns runs a camera, a receiver and an
 /// application as threads over three links of the ports, and writes a line for each frame that was handed out. The
 /// board and the pass of the run are kept, where a board was made.
+///
+/// `record` with a seed, a number of frames, of buffers and of turns does the same with one lane, and writes in place of
+/// the lines a replay script of what the receiver heard.
 pub fn gevacq_top<R: Threads + Wait + Sync, S: Source, K: Sink, P: Ports, G: Gate + Sync>(
     rt: &R,
     alloc: Global,
@@ -55,33 +61,37 @@ pub fn gevacq_top<R: Threads + Wait + Sync, S: Source, K: Sink, P: Ports, G: Gat
         × (P.faults ports.new ≡ P.faults ports.old) × (kept.new ≡ None) }
 
     // A command is answered as `plain_top` answers it, and makes no use of the ports.
-    ensures cause { (command : Command) → errand_of (map (λ word. string_bytes word) words.now) ≡ Ok (plain command)
+    ensures cause { (command : Command) → errand_of (map (λ word. string_bytes word) words.now) ≡ Ok (errands.Plain command)
         → Answers command result (S.left source.old) (S.left source.new) (S.faults source.old) (S.faults source.new)
         (K.written sink.old) (K.written sink.new) (K.faults sink.old) (K.faults sink.new) }
-    ensures exact { (command : Command) → errand_of (map (λ word. string_bytes word) words.now) ≡ Ok (plain command)
+    ensures exact { (command : Command) → errand_of (map (λ word. string_bytes word) words.now) ≡ Ok (errands.Plain command)
         → IfTold (S.left source.old) (λ content. IsDecided command result content) }
     // Behind each line the trace of a replay keeps the headline, and so does that of an explanation.
-    ensures headline { errand_of (map (λ word. string_bytes word) words.now) ≡ Ok (plain commands.Replay)
+    ensures headline { errand_of (map (λ word. string_bytes word) words.now) ≡ Ok (errands.Plain commands.Replay)
         → ReplaysByHeadline result (S.left source.old) (S.left source.new) (S.faults source.old) (S.faults source.new)
         (K.written sink.old) (K.written sink.new) (K.faults sink.old) (K.faults sink.new) }
-    ensures explained { errand_of (map (λ word. string_bytes word) words.now) ≡ Ok (plain commands.Explain)
+    ensures explained { errand_of (map (λ word. string_bytes word) words.now) ≡ Ok (errands.Plain commands.Explain)
         → ExplainsByHeadline result (S.left source.old) (S.left source.new) (S.faults source.old) (S.faults source.new)
         (K.written sink.old) (K.written sink.new) (K.faults sink.old) (K.faults sink.new) }
-    ensures plain_ports { (command : Command) → errand_of (map (λ word. string_bytes word) words.now) ≡ Ok (plain command)
+    ensures plain_ports { (command : Command) → errand_of (map (λ word. string_bytes word) words.now) ≡ Ok (errands.Plain command)
         → (P.binds ports.new ≡ P.binds ports.old) × (P.links ports.new ≡ P.links ports.old) × (P.clocks ports.new ≡ P.clocks ports.old)
         × (P.faults ports.new ≡ P.faults ports.old) × (kept.new ≡ None) }
 
     // A live run reads nothing. Where a board was made its pass is kept, which is alone and has seen the run's whole
     // history: what the run promises is said of it, the headline first, and of the links and clocks that came back.
     // Else nothing was written, since a bind failed or memory was wanting.
-    ensures unread { (n : LiveNumbers) → errand_of (map (λ word. string_bytes word) words.now) ≡ Ok (live n)
-        → (S.left source.new ≡ S.left source.old) × (S.faults source.new ≡ S.faults source.old) }
-    ensures live { (n : LiveNumbers) → errand_of (map (λ word. string_bytes word) words.now) ≡ Ok (live n)
+    ensures unread { (errand : Errand) → errand_of (map (λ word. string_bytes word) words.now) ≡ Ok errand
+        → IfPorts errand (λ n. (S.left source.new ≡ S.left source.old) × (S.faults source.new ≡ S.faults source.old)) }
+    ensures live { (n : LiveNumbers) → errand_of (map (λ word. string_bytes word) words.now) ≡ Ok (errands.Live n)
         → IfSome kept.new (λ k. RunsOver P.L.received P.L.sent P.L.faults P.C.told n result (P.links ports.old) (P.links ports.new)
         (P.clocks ports.old) (P.clocks ports.new) (K.written sink.old) (K.written sink.new) (K.faults sink.old) (K.faults sink.new) k.1.seen) }
+    // So it is of a recorded run, whose script was written in place of its lines.
+    ensures recorded { (n : LiveNumbers) → errand_of (map (λ word. string_bytes word) words.now) ≡ Ok (errands.Record n)
+        → IfSome kept.new (λ k. RecordsOver P.L.received P.L.sent P.L.faults P.C.told n result (P.links ports.old) (P.links ports.new)
+        (P.clocks ports.old) (P.clocks ports.new) (K.written sink.old) (K.written sink.new) (K.faults sink.old) (K.faults sink.new) k.1.seen) }
     ensures alone { IfSome kept.new (λ k. IsAlone (After k.1.seen) 0) }
-    ensures none { (n : LiveNumbers) → errand_of (map (λ word. string_bytes word) words.now) ≡ Ok (live n) → kept.new ≡ None
-        → RunsNothing result (K.written sink.old) (K.written sink.new) (K.faults sink.old) (K.faults sink.new) }
+    ensures none { (errand : Errand) → errand_of (map (λ word. string_bytes word) words.now) ≡ Ok errand → kept.new ≡ None
+        → IfPorts errand (λ n. RunsNothing result (K.written sink.old) (K.written sink.new) (K.faults sink.old) (K.faults sink.new)) }
     ensures few_binds { P.binds ports.new ≤ P.binds ports.old + 3 }
 
     // Where no count of faults rose, each command comes to one of its own ends, or memory was wanting.
@@ -91,17 +101,82 @@ pub fn gevacq_top<R: Threads + Wait + Sync, S: Source, K: Sink, P: Ports, G: Gat
 
     // A count of faults changes only with the answer that tells of it; of a capture, that of the source may also
     // have changed where writing failed or memory ran out behind a read that failed.
-    ensures reads_steady { (command : Command) → errand_of (map (λ word. string_bytes word) words.now) ≡ Ok (plain command)
+    ensures reads_steady { (command : Command) → errand_of (map (λ word. string_bytes word) words.now) ≡ Ok (errands.Plain command)
         → ReadsSteady command result (S.faults source.old) (S.faults source.new) }
     ensures writes_steady { result ≢ Status.WriteFault → K.faults sink.new ≡ K.faults sink.old }
     ensures links_steady { result ≢ Status.LinkFault → P.faults ports.new ≡ P.faults ports.old }
     ensures link_fault { result ≡ Status.LinkFault → Rose (P.faults ports.old) (P.faults ports.new) }
 {
-    match read_live(words) {
-        Some(said) => match said {
-            Ok(numbers) => run_live(rt, alloc, numbers, ports, gate, sink, kept),
-            Err(place) => Status::Usage { place },
-        },
-        None => plain_top(alloc, words, source, sink),
+    match read_errand(words) {
+        Ok(errand) => run_errand(rt, alloc, errand, source, sink, ports, gate, kept),
+        Err(place) => Status::Usage { place },
+    }
+}
+
+/// Does what was asked for.
+fn run_errand<R: Threads + Wait + Sync, S: Source, K: Sink, P: Ports, G: Gate + Sync>(
+    rt: &R,
+    alloc: Global,
+    errand: Errand,
+    source: &mut S,
+    sink: &mut K,
+    ports: &mut P,
+    gate: &G,
+    kept: &mut Option<(Board, Pass)>,
+) -> Status
+    requires within { IsErrand errand }
+    requires unkept { kept.old ≡ None }
+    ensures understood { (place : ℕ) → result ≢ Status.Usage place }
+    // A command is answered as `plain_top` answers it, and makes no use of the ports.
+    ensures cause { (command : Command) → errand ≡ (errands.Plain command)
+        → Answers command result (S.left source.old) (S.left source.new) (S.faults source.old) (S.faults source.new)
+        (K.written sink.old) (K.written sink.new) (K.faults sink.old) (K.faults sink.new) }
+    ensures exact { (command : Command) → errand ≡ (errands.Plain command)
+        → IfTold (S.left source.old) (λ content. IsDecided command result content) }
+    // Behind each line the trace of a replay keeps the headline, and so does that of an explanation.
+    ensures headline { errand ≡ (errands.Plain commands.Replay)
+        → ReplaysByHeadline result (S.left source.old) (S.left source.new) (S.faults source.old) (S.faults source.new)
+        (K.written sink.old) (K.written sink.new) (K.faults sink.old) (K.faults sink.new) }
+    ensures explained { errand ≡ (errands.Plain commands.Explain)
+        → ExplainsByHeadline result (S.left source.old) (S.left source.new) (S.faults source.old) (S.faults source.new)
+        (K.written sink.old) (K.written sink.new) (K.faults sink.old) (K.faults sink.new) }
+    ensures plain_ports { (command : Command) → errand ≡ (errands.Plain command)
+        → (P.binds ports.new ≡ P.binds ports.old) × (P.links ports.new ≡ P.links ports.old) × (P.clocks ports.new ≡ P.clocks ports.old)
+        × (P.faults ports.new ≡ P.faults ports.old) × (kept.new ≡ None) }
+
+    // A live run reads nothing. Where a board was made its pass is kept, which is alone and has seen the run's whole
+    // history: what the run promises is said of it, the headline first, and of the links and clocks that came back.
+    // Else nothing was written, since a bind failed or memory was wanting.
+    ensures unread { (asked : Errand) → errand ≡ asked
+        → IfPorts asked (λ n. (S.left source.new ≡ S.left source.old) × (S.faults source.new ≡ S.faults source.old)) }
+    ensures live { (n : LiveNumbers) → errand ≡ (errands.Live n)
+        → IfSome kept.new (λ k. RunsOver P.L.received P.L.sent P.L.faults P.C.told n result (P.links ports.old) (P.links ports.new)
+        (P.clocks ports.old) (P.clocks ports.new) (K.written sink.old) (K.written sink.new) (K.faults sink.old) (K.faults sink.new) k.1.seen) }
+    // So it is of a recorded run, whose script was written in place of its lines.
+    ensures recorded { (n : LiveNumbers) → errand ≡ (errands.Record n)
+        → IfSome kept.new (λ k. RecordsOver P.L.received P.L.sent P.L.faults P.C.told n result (P.links ports.old) (P.links ports.new)
+        (P.clocks ports.old) (P.clocks ports.new) (K.written sink.old) (K.written sink.new) (K.faults sink.old) (K.faults sink.new) k.1.seen) }
+    ensures alone { IfSome kept.new (λ k. IsAlone (After k.1.seen) 0) }
+    ensures none { (asked : Errand) → errand ≡ asked → kept.new ≡ None
+        → IfPorts asked (λ n. RunsNothing result (K.written sink.old) (K.written sink.new) (K.faults sink.old) (K.faults sink.new)) }
+    ensures few_binds { P.binds ports.new ≤ P.binds ports.old + 3 }
+
+    // Where no count of faults rose, each command comes to one of its own ends, or memory was wanting.
+    ensures complete { (asked : Errand) → errand ≡ asked
+        → NoneRose (S.faults source.old) (S.faults source.new) → NoneRose (K.faults sink.old) (K.faults sink.new)
+        → NoneRose (P.faults ports.old) (P.faults ports.new) → CompletesErrand asked (S.left source.old) result }
+
+    // A count of faults changes only with the answer that tells of it; of a capture, that of the source may also
+    // have changed where writing failed or memory ran out behind a read that failed.
+    ensures reads_steady { (command : Command) → errand ≡ (errands.Plain command)
+        → ReadsSteady command result (S.faults source.old) (S.faults source.new) }
+    ensures writes_steady { result ≢ Status.WriteFault → K.faults sink.new ≡ K.faults sink.old }
+    ensures links_steady { result ≢ Status.LinkFault → P.faults ports.new ≡ P.faults ports.old }
+    ensures link_fault { result ≡ Status.LinkFault → Rose (P.faults ports.old) (P.faults ports.new) }
+{
+    match errand {
+        Errand::Plain(command) => run_command(alloc, command, source, sink),
+        Errand::Live(numbers) => run_live(rt, alloc, numbers, ports, gate, sink, kept),
+        Errand::Record(numbers) => run_recorded(rt, alloc, numbers, ports, gate, sink, kept),
     }
 }

@@ -7,7 +7,8 @@ use Rattle.gev_status.specs.declared.status.Status.TheVariants.{Done, BadScript,
 use Rattle.gev_top.specs.declared.command.Command.{Command}
 use Rattle.gev_top.specs.declared.command.Command.TheVariants.{Replay, Explain, Image, Streams, Capture, Camera, Make, Soak}
 use Rattle.gev_top.specs.Answers.{IsDecided}
-use Rattle.gev_top.specs.LiveWords.{Errand, plain, live}
+use Rattle.gev_top.specs.declared.errand.Errand.{Errand}
+use Rattle.gev_top.specs.declared.errand.Errand.TheVariants.{Plain, Live, Record}
 
 -- the count of faults didn't rise
 abbrev pub NoneRose : ℕ → ℕ → Type 0
@@ -79,5 +80,6 @@ pub record Completes (command : Command) (left : Option (List ℕ)) (status : St
   pub decided : IfTold left (λ content. IsDecided command status content)
 
 abbrev pub CompletesErrand : Errand → Option (List ℕ) → Status → Type 0
-CompletesErrand (plain command) left status = Completes command left status
-CompletesErrand (live n) left status = EndsLive status
+CompletesErrand (Plain command) left status = Completes command left status
+CompletesErrand (Live n) left status = EndsLive status
+CompletesErrand (Record n) left status = EndsLive status

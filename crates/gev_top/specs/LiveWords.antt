@@ -1,11 +1,25 @@
--- The words of a live run, and what the words of any command line ask for.
-use Rattle.std.specs.Prelude.{◌≡◌, ℕ, ◌≤◌, ◌^◌, ◌-◌, List, [], ◌∷◌, codes, Option, Some, None, Ok, Err, if◌then◌else◌}
+-- The words of live runs, and what the words of any command line ask for.
+use Rattle.std.specs.Prelude.{◌≡◌, ⊤, ℕ, ◌≤◌, ◌^◌, ◌-◌, List, [], ◌∷◌, codes, Option, Some, None, Ok, Err, slice_get, if◌then◌else◌}
 use Rattle.std.specs.Str.{bytes_eq}
-use Rattle.gev_top.specs.declared.command.Command.{Command}
+use Rattle.gev_script.specs.Numbers.{number_in}
+use Rattle.mode_calls.specs.declared.mode.Mode.{Mode}
+use Rattle.mode_calls.specs.declared.mode.Mode.TheVariants.{OldestFirst}
+use Rattle.script_trace.specs.Modes.{mode_of}
 use Rattle.gev_top.specs.declared.live_numbers.LiveNumbers.{LiveNumbers}
-use Rattle.gev_top.specs.Usage.{Said, ◌>>=◌, number_at, none_at, command_of}
+use Rattle.gev_top.specs.declared.errand.Errand.{Errand}
+use Rattle.gev_top.specs.declared.errand.Errand.TheVariants.{Plain, Live, Record}
+use Rattle.gev_top.specs.Usage as plain
+use Rattle.gev_top.specs.Usage.{Said, ◌>>=◌, read_at, number_at, none_at, named}
 
--- `live <seed> <frames> <buffers> <lanes> <turns>`
+-- the buffer handling mode whose number, 0 to 2, this word is, or its place; none is wanted, and is OldestFirst
+abbrev pub mode_in : ℕ → Option (List ℕ) → Said Mode
+mode_in place None = Ok OldestFirst
+mode_in place (Some word) = read_at place (number_in 0 2 word) >>= λ n. Ok (mode_of n)
+
+abbrev pub mode_at : ℕ → List (List ℕ) → Said Mode
+mode_at place words = mode_in place (slice_get words place)
+
+-- `live <seed> <frames> <buffers> <lanes> <turns> [<mode>]`
 abbrev pub live_of : List (List ℕ) → Said LiveNumbers
 live_of words = do
   seed ← number_at 0 (2 ^ 64 - 1) 1 words
@@ -13,8 +27,19 @@ live_of words = do
   buffers ← number_at 1 15 3 words
   lanes ← number_at 1 4 4 words
   turns ← number_at 1 100000000 5 words
-  done ← none_at 6 words
-  Ok (record { seed = seed; frames = frames; buffers = buffers; lanes = lanes; turns = turns })
+  mode ← mode_at 6 words
+  done ← none_at 7 words
+  Ok (record { seed = seed; frames = frames; buffers = buffers; lanes = lanes; turns = turns; mode = mode })
+
+-- `record <seed> <frames> <buffers> <turns>`, with one lane and OldestFirst
+abbrev pub record_of : List (List ℕ) → Said LiveNumbers
+record_of words = do
+  seed ← number_at 0 (2 ^ 64 - 1) 1 words
+  frames ← number_at 1 1000 2 words
+  buffers ← number_at 1 15 3 words
+  turns ← number_at 1 100000 4 words
+  done ← none_at 5 words
+  Ok (record { seed = seed; frames = frames; buffers = buffers; lanes = 1; turns = turns; mode = OldestFirst })
 
 -- A live run wants 1 to 1,000 frames and 1 to 15 buffers, has 1 to 4 lanes, and makes 1 to 100,000,000 turns.
 pub record IsInRange (n : LiveNumbers) : Type 0 where
@@ -27,25 +52,28 @@ pub record IsInRange (n : LiveNumbers) : Type 0 where
   pub some_turns : 1 ≤ n.turns
   pub few_turns : n.turns ≤ 100000000
 
--- what the words of a live run say; None where the first word isn't `live`
-abbrev pub live_named : List ℕ → List (List ℕ) → Option (Said LiveNumbers)
-live_named name words = if bytes_eq name (codes "live") then Some (live_of words) else None
+-- A recorded run makes at most 100,000, and drops nothing.
+pub record IsRecordable (n : LiveNumbers) : Type 0 where
+  pub range : IsInRange n
+  pub few_turns : n.turns ≤ 100000
+  pub mode : n.mode ≡ OldestFirst
 
-abbrev pub live_said : List (List ℕ) → Option (Said LiveNumbers)
-live_said [] = None
-live_said (name ∷ words) = live_named name (name ∷ words)
+-- the numbers of what is asked for are in their ranges
+abbrev pub IsErrand : Errand → Type 0
+IsErrand (Plain command) = plain.IsInRange command
+IsErrand (Live n) = IsInRange n
+IsErrand (Record n) = IsRecordable n
 
--- What words ask for: a command, or a live run.
-pub data Errand : Type 0 where
-  plain : Command → Errand
-  live : LiveNumbers → Errand
-
-abbrev pub errand_by : Option (Said LiveNumbers) → Said Command → Said Errand
-errand_by None said = said >>= λ command. Ok (plain command)
-errand_by (Some said) other = said >>= λ n. Ok (live n)
+-- the words of which the first is this name
+abbrev pub errand_named : List ℕ → List (List ℕ) → Said Errand
+errand_named name words =
+    if bytes_eq name (codes "live") then (live_of words >>= λ n. Ok (Live n))
+    else if bytes_eq name (codes "record") then (record_of words >>= λ n. Ok (Record n))
+    else (named name words >>= λ command. Ok (Plain command))
 
 abbrev pub errand_of : List (List ℕ) → Said Errand
-errand_of words = errand_by (live_said words) (command_of words)
+errand_of [] = Err 0
+errand_of (name ∷ words) = errand_named name (name ∷ words)
 
 abbrev pub place_in : Said Errand → Option ℕ
 place_in (Ok errand) = None
@@ -54,3 +82,9 @@ place_in (Err place) = Some place
 -- the place of the first word with which no command line goes on; None where the words are a command line
 abbrev pub errand_fault : List (List ℕ) → Option ℕ
 errand_fault words = place_in (errand_of words)
+
+-- this of the numbers, where a run over ports is asked for
+abbrev pub IfPorts : Errand → (LiveNumbers → Type 0) → Type 0
+IfPorts (Plain command) P = ⊤
+IfPorts (Live n) P = P n
+IfPorts (Record n) P = P n

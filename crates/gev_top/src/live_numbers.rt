@@ -1,4 +1,6 @@
-/// What the words of a live run ask for.
+use mode_calls::Mode;
+
+/// What the words of a live run ask for, or those of a recorded one.
 #[derive(Clone, Copy, Debug, PartialEq, Eq)]
 pub struct LiveNumbers {
     /// The seed of the images.
@@ -7,8 +9,10 @@ pub struct LiveNumbers {
     pub frames: u32,
     /// How many buffers there are, from 1 to 15.
     pub buffers: u8,
-    /// How many lanes the acquisition has, from 1 to 4.
+    /// How many lanes the acquisition has, from 1 to 4; of a recorded run 1.
     pub lanes: u8,
-    /// The most turns of the reader, from 1 to 100,000,000.
+    /// The most turns of the reader, from 1 to 100,000,000; of a recorded run to 100,000.
     pub turns: u64,
+    /// Which waiting images are dropped; of a recorded run `OldestFirst`, which drops none.
+    pub mode: Mode,
 }

@@ -92,8 +92,8 @@ pub fn plain_top<S: Source, K: Sink>(
     }
 }
 
-/// Does what the command says.
-fn run_command<S: Source, K: Sink>(
+/// Does what the command says, as `plain_top` for its words.
+pub fn run_command<S: Source, K: Sink>(
     alloc: Global,
     command: Command,
     source: &mut S,

@@ -21,7 +21,7 @@ pub fn read_words(words: &[String]) -> Result<Command, u32>
 }
 
 /// The same of the words of which the first is this name.
-fn read_named(name: &[u8], words: &[String]) -> Result<Command, u32>
+pub(crate) fn read_named(name: &[u8], words: &[String]) -> Result<Command, u32>
     ensures said { result ≡ named name.now (map (λ word. string_bytes word) words.now) }
     ensures within { IfOk result (λ command. IsInRange command) }
 {

@@ -39,10 +39,17 @@ gevacq soak <seed> <frames> <loss> <repeat> <swap> [short]
     Reads nothing. With `short` the image of block b lacks its last b mod 8
     lines.
 
-gevacq live <seed> <frames> <buffers> <lanes> <turns>
+gevacq live <seed> <frames> <buffers> <lanes> <turns> [<mode>]
     Runs a camera and its host as threads over UDP on 127.0.0.1, and writes a
     line for each of so many images that were handed out, and a last line. The
-    host ends after so many turns at most. Reads nothing.
+    host ends after so many turns at most. Reads nothing. With mode 1 a new
+    image for which there is no buffer has that of the oldest image that waits,
+    with mode 2 a new image drops all that wait; else nothing is dropped.
+
+gevacq record <seed> <frames> <buffers> <turns>
+    Runs the same with one lane and mode 0, and writes in place of the lines a
+    replay script of what the host heard: replayed, it takes the images that the
+    run filled.
 
 gevacq --help, gevacq -h
     Prints this text.
@@ -55,11 +62,12 @@ gevacq --version
 <p>                         528 to 8964
 <bytes>                     1 to 67108864
 <seed>                      0 to 18446744073709551615
-<frames>                    0 to 100000, of `live` 1 to 1000
+<frames>                    0 to 100000, of `live` and `record` 1 to 1000
 <loss>, <repeat>, <swap>    0 to 1000, of a thousand packets
 <buffers>                   1 to 15
 <lanes>                     1 to 4
-<turns>                     1 to 100000000
+<turns>                     1 to 100000000, of `record` 1 to 100000
+<mode>                      0 to 2, and 0 where it isn't given
 
 Numbers are decimal, without a sign and without a leading zero. The lines of
 scripts and reports, the wire formats and the exit statuses are described in
@@ -76,5 +84,6 @@ usage: gevacq capture <port> <p> <bytes>
 usage: gevacq camera
 usage: gevacq make <seed> <frames> <loss> <repeat> <swap>
 usage: gevacq soak <seed> <frames> <loss> <repeat> <swap> [short]
-usage: gevacq live <seed> <frames> <buffers> <lanes> <turns>
+usage: gevacq live <seed> <frames> <buffers> <lanes> <turns> [<mode>]
+usage: gevacq record <seed> <frames> <buffers> <turns>
 ";

@@ -1,11 +1,15 @@
-//! Live runs over links in memory of which one call fails.
+//! Live and recorded runs over links in memory of which one call fails.
 
 use super::{CAMERA, FIRST_ACK, FOURTH_ACK, HOST, SECOND_ACK, THIRD_ACK, word_list};
 use crate::gevacq_top;
 use gev_links::{MemoryLink, MemoryPorts, MemorySink, OpenGate, SteadySource};
 use gev_status::Status;
 use gev_types::Peer;
+use std::alloc::Global;
+use std::process::Abort;
+use std::sync::Wait;
 use std::test::Fail;
+use std::thread::Threads;
 
 /// What the control link hears in the setup.
 const ANSWERS: &[Option<(&[u8], Peer)>] = &[
@@ -28,7 +32,23 @@ const HEARD: &[Option<(&[u8], Peer)>] = &[TRAILER, TRAILER, TRAILER, TRAILER, TR
 #[test]
 fn a_link_that_fails_ends_a_live_run(rt: HostRuntime) -> Result<(), Fail> {
     let alloc = rt.alloc();
-    let words = word_list(alloc, &["live", "1", "2", "4", "1", "100000"])?;
+    links_that_fail_end(&rt, alloc, &["live", "1", "2", "4", "1", "100000"])
+}
+
+// So it does of a recorded run, whose stream's link is heard through a tape.
+#[test]
+fn a_link_that_fails_ends_a_recorded_run(rt: HostRuntime) -> Result<(), Fail> {
+    let alloc = rt.alloc();
+    links_that_fail_end(&rt, alloc, &["record", "1", "2", "4", "100"])
+}
+
+/// That of a run with these words.
+fn links_that_fail_end<R: Abort + Threads + Wait + Sync>(
+    rt: &R,
+    alloc: Global,
+    words: &[&str],
+) -> Result<(), Fail> {
+    let words = word_list(alloc, words)?;
     let rows: [(&[u64], &[u64], &[u64]); 13] = [
         (&[1], &[], &[]),
         (&[2], &[], &[]),
@@ -53,7 +73,7 @@ fn a_link_that_fails_ends_a_live_run(rt: HostRuntime) -> Result<(), Fail> {
         let mut sink = MemorySink::new(alloc, 1000, &[]);
         let mut kept = None;
         let answer = gevacq_top(
-            &rt,
+            rt,
             alloc,
             &words,
             &mut source,

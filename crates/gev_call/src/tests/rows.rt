@@ -1,5 +1,7 @@
-//! Live runs over links in memory whose stream tells frames of 640 x 480 pixels.
+//! Live and recorded runs over links in memory whose stream tells frames of 640 x 480 pixels.
 
+mod modes;
+mod recorded;
 mod twenty;
 
 use super::{ACKS, CAMERA, HOST, word_list};
@@ -127,7 +129,7 @@ fn moments(alloc: Global) -> Result<Vec<u64>, NoMemory> {
     Ok(all)
 }
 
-/// What a live run with these words writes over links that hear this. It ends with this status, its three links are
+/// What a live or recorded run with these words writes over links that hear this. It ends with this status, its three links are
 /// back, and its board is kept.
 fn run_heard<R: Abort + Threads + Wait + Sync, G: Gate + Sync>(
     rt: &R,

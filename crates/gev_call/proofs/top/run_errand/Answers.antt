@@ -1,0 +1,23 @@
+-- A command over source and sink alone.
+use Rattle.std.proofs.Common.{sym, ◌∙◌}
+use Rattle.gev_top.specs.declared.command.Command.TheVariants as commands
+use Rattle.gev_call.proofs.Errands.{command_is, never_links}
+use Rattle.gev_call.proofs.Replaying.{replay_headline, explain_headline}
+use Rattle.gev_call.proofs.Completing.{plain_completes}
+use Rattle.gev_call.proofs.top.run_errand.Goals as goal
+
+pub returns-in-Plain-clause-headline : goal.returns-in-Plain-clause-headline
+returns-in-Plain-clause-headline g c =
+    λ is. replay_headline c.in-Plain.command c.run_command.result _ _ _ _ _ _ _ _ (command_is c.in-Plain.command commands.Replay c.args.errand c.in-Plain.is is) c.run_command.ensures.cause
+
+pub returns-in-Plain-clause-explained : goal.returns-in-Plain-clause-explained
+returns-in-Plain-clause-explained g c =
+    λ is. explain_headline c.in-Plain.command c.run_command.result _ _ _ _ _ _ _ _ (command_is c.in-Plain.command commands.Explain c.args.errand c.in-Plain.is is) c.run_command.ensures.cause
+
+pub returns-in-Plain-clause-complete : goal.returns-in-Plain-clause-complete
+returns-in-Plain-clause-complete g c =
+    λ asked is none none_written none_failed.
+    plain_completes c.in-Plain.command asked c.run_command.result _ _ _ _ _ _ _ _ (sym c.in-Plain.is ∙ is) c.run_command.ensures.cause c.run_command.ensures.exact none none_written
+
+pub returns-in-Plain-clause-link_fault : goal.returns-in-Plain-clause-link_fault
+returns-in-Plain-clause-link_fault g c = λ is. absurd (never_links c.in-Plain.command c.run_command.result _ _ _ _ _ _ _ _ c.run_command.ensures.cause is)

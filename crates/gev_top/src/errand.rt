@@ -1,0 +1,13 @@
+use crate::command::Command;
+use crate::live_numbers::LiveNumbers;
+
+/// What the words of any command line ask for.
+#[derive(Clone, Copy, Debug, PartialEq, Eq)]
+pub enum Errand {
+    /// A command that makes no use of ports.
+    Plain(Command),
+    /// A live run, and its lines.
+    Live(LiveNumbers),
+    /// A live run with one lane, and its script in place of its lines.
+    Record(LiveNumbers),
+}
