@@ -9,7 +9,7 @@ use std::test::Fail;
 
 /// A capture's parts in hex digits, the answer, what `streams` writes, and the lines of the script between its start
 /// and its stop.
-pub struct Kind {
+pub(crate) struct Kind {
     pub parts: &'static [&'static str],
     pub status: Status,
     pub streams: &'static str,
@@ -17,11 +17,11 @@ pub struct Kind {
 }
 
 /// IPv4 with UDP in it, from 127.0.0.1 port 3956 to 127.0.0.2 port 49152, with the bytes `abc`: 31 bytes.
-pub const RAW: &str = "4500001f00000000401100007f0000017f0000020f74c000000b0000616263";
+pub(crate) const RAW: &str = "4500001f00000000401100007f0000017f0000020f74c000000b0000616263";
 
 /// The headers of pcap files up to their link types: least and most significant byte first, with microseconds and
 /// with nanoseconds.
-pub const LITTLE_MICRO: &str = "d4c3b2a1020004000000000000000000ffff0000";
+pub(crate) const LITTLE_MICRO: &str = "d4c3b2a1020004000000000000000000ffff0000";
 
 const BIG_MICRO: &str = "a1b2c3d40002000400000000000000000000ffff";
 
@@ -30,35 +30,37 @@ const LITTLE_NANO: &str = "4d3cb2a1020004000000000000000000ffff0000";
 const BIG_NANO: &str = "a1b23c4d0002000400000000000000000000ffff";
 
 /// A record's header, of 31 bytes after ten seconds.
-pub const LITTLE_RECORD: &str = "0a000000000000001f0000001f000000";
+pub(crate) const LITTLE_RECORD: &str = "0a000000000000001f0000001f000000";
 
 const BIG_RECORD: &str = "0000000a000000000000001f0000001f";
 
 /// Headers of sections, and interfaces of raw IP in them.
-pub const LITTLE_SECTION: &str = "0a0d0d0a1c0000004d3c2b1a01000000ffffffffffffffff1c000000";
+pub(crate) const LITTLE_SECTION: &str = "0a0d0d0a1c0000004d3c2b1a01000000ffffffffffffffff1c000000";
 
-pub const BIG_SECTION: &str = "0a0d0d0a0000001c1a2b3c4d00010000ffffffffffffffff0000001c";
+pub(crate) const BIG_SECTION: &str = "0a0d0d0a0000001c1a2b3c4d00010000ffffffffffffffff0000001c";
 
-pub const LITTLE_FACE: &str = "010000001400000065000000ffff000014000000";
+pub(crate) const LITTLE_FACE: &str = "010000001400000065000000ffff000014000000";
 
-pub const BIG_FACE: &str = "0000000100000014006500000000ffff00000014";
+pub(crate) const BIG_FACE: &str = "0000000100000014006500000000ffff00000014";
 
 /// The packet in a block of 64 bytes, of interface 0, after ten seconds in microseconds.
-pub const LITTLE_PACKET: &str =
+pub(crate) const LITTLE_PACKET: &str =
     "06000000400000000000000000000000809698001f0000001f0000004500001f00000000401100007f0000017f0000020f74c000000b00006162630040000000";
 
-pub const BIG_PACKET: &str =
+pub(crate) const BIG_PACKET: &str =
     "00000006000000400000000000000000009896800000001f0000001f4500001f00000000401100007f0000017f0000020f74c000000b00006162630000000040";
 
 /// What `streams` writes where no packet was read, or one that is a datagram.
-pub const NONE: &str = "end packets=0 datagrams=0 fragments=0 cut=0 other=0 unlisted=0 streams=0\n";
+pub(crate) const NONE: &str =
+    "end packets=0 datagrams=0 fragments=0 cut=0 other=0 unlisted=0 streams=0\n";
 
-pub const ONE: &str = "end packets=1 datagrams=1 fragments=0 cut=0 other=0 unlisted=0 streams=0\n";
+pub(crate) const ONE: &str =
+    "end packets=1 datagrams=1 fragments=0 cut=0 other=0 unlisted=0 streams=0\n";
 
 const OTHER: &str = "end packets=1 datagrams=0 fragments=0 cut=0 other=1 unlisted=0 streams=0\n";
 
 /// The line of that datagram.
-pub const LINE: &str = "d 616263\n";
+pub(crate) const LINE: &str = "d 616263\n";
 
 const KINDS: [Kind; 17] = [
     // Two packets of raw IP, 2.5 ms one after the other, in each byte order and unit of time.
@@ -327,7 +329,7 @@ fn check_command<R: Abort>(
 }
 
 /// What `streams` and `capture` answer and write of a capture.
-pub fn check_capture<R: Abort>(
+pub(crate) fn check_capture<R: Abort>(
     rt: &R,
     alloc: Global,
     bytes: &[u8],
@@ -344,7 +346,7 @@ pub fn check_capture<R: Abort>(
 }
 
 /// The same of each of these captures.
-pub fn check_kinds<R: Abort>(rt: &R, alloc: Global, kinds: &[Kind]) -> Result<(), Fail> {
+pub(crate) fn check_kinds<R: Abort>(rt: &R, alloc: Global, kinds: &[Kind]) -> Result<(), Fail> {
     for kind in kinds {
         let bytes = joined(alloc, kind.parts)?;
         check_capture(rt, alloc, &bytes, kind.status, kind.streams, kind.lines)?;
