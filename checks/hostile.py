@@ -14,7 +14,7 @@ OF_REPLAY_SCRIPTS = ["replay", "explain", "image 1", "image 2"]
 OF_CAMERA_SCRIPTS = ["camera"]
 OF_CAPTURES = ["streams", "capture 49152 1464 4096"]
 # Those that read nothing. The numbers of make and soak are drawn anew, and of all now and then a word is changed.
-OF_NOTHING = ["make 1 3 50 50 50", "soak 1 3 50 50 50", "soak 1 3 50 0 0 short", "live 1 2 2 1 3", "record 1 2 2 3"]
+OF_NOTHING = ["make 1 3 50 50 50", "soak 1 3 50 50 50", "soak 1 3 50 0 0 short", "live 1 2 2 1 3", "live 1 2 2 1 3 2", "record 1 2 2 3"]
 
 # How long one run may take, and all together, in seconds.
 RUN_SECONDS = 20
