@@ -8,6 +8,7 @@ use gev_live::{Ends, live_over};
 use gev_real::{RealPorts, UdpLink};
 use gev_status::Status;
 use gev_types::{NoMemory, Peer};
+use mode_calls::Mode;
 use std::alloc::Global;
 use std::test::Fail;
 use std::thread;
@@ -167,7 +168,19 @@ fn strangers_are_heard_like_any_other(rt: HostRuntime) -> Result<(), Fail> {
         return Err(Fail::new("no thread for the stranger"));
     };
     let (answer, _ends) = live_over(
-        &rt, alloc, &board, &mut pass, 1, FRAMES, 4, 1, TURNS, ends, &OpenGate, &mut sink,
+        &rt,
+        alloc,
+        &board,
+        &mut pass,
+        1,
+        FRAMES,
+        4,
+        1,
+        TURNS,
+        ends,
+        &OpenGate,
+        &mut sink,
+        Mode::OldestFirst,
     );
     assert_eq!(rt; sending.join(&rt), DATAGRAMS);
     let (taken, rest) = count_takes(sink.written());
