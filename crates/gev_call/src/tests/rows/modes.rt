@@ -1,6 +1,6 @@
 //! Live runs in each buffer handling mode, whose application is slow.
 
-use super::{heard, moments, put_frame, run_heard};
+use super::{PAYLOADS, heard, moments, put_frame, run_heard};
 use crate::tests::{ACKS, CAMERA};
 use gev_links::Gate;
 use gev_status::Status;
@@ -74,9 +74,9 @@ fn blocks_taken(alloc: Global, text: &[u8]) -> Result<Vec<u8>, Fail> {
     Ok(blocks)
 }
 
-// Of four frames two are asked for. The application holds the first image until so many fills began. In mode 0 block 3 of
-// two buffers gets none, and in mode 1 it has that of block 2, which waits; with a third buffer block 2 stays. In mode 2 it
-// is dropped for block 3, and that one for block 4 where the application hadn't yet taken it.
+// Two frames are asked for, and three or four are sent. The application holds the first image until so many fills began. In
+// mode 0 block 3 finds no second buffer or isn't awaited, and in mode 1 it has that of block 2, which waits; with a third
+// buffer block 2 stays. In mode 2 it is dropped for block 3, and that one for block 4 where the application hadn't taken it.
 #[test]
 fn a_slow_application_loses_images_by_the_mode(rt: HostRuntime) -> Result<(), Fail> {
     let alloc = rt.alloc();
@@ -87,19 +87,21 @@ fn a_slow_application_loses_images_by_the_mode(rt: HostRuntime) -> Result<(), Fa
     let stream = heard(alloc, packets.as_slice())?;
     let control = ACKS.map(|ack| Some((ack, CAMERA)));
     let moments = moments(alloc)?;
-    let rows: [(&str, &str, u64, &[u8]); 4] = [
-        ("2", "0", 2, b"12"),
-        ("2", "1", 3, b"13"),
-        ("3", "1", 3, b"12"),
-        ("3", "2", 4, b"13 14"),
+    let packets_each = PAYLOADS as usize + 2;
+    let rows: [(usize, &str, &str, u64, &[u8]); 4] = [
+        (3, "2", "0", 2, b"12"),
+        (3, "2", "1", 3, b"13"),
+        (3, "3", "1", 3, b"12"),
+        (4, "3", "2", 4, b"13 14"),
     ];
-    for (buffers, mode, wanted, blocks) in rows {
+    for (sent, buffers, mode, wanted, blocks) in rows {
+        let stream = stream.as_slice().get(..sent * packets_each);
         let gate = SlowApplication::new(1_000_000_000, wanted);
         let text = run_heard(
             &rt,
             alloc,
             &["live", "1", "2", buffers, "1", "1000000", mode],
-            stream.as_slice(),
+            stream.unwrap_or(&[]),
             &control,
             moments.as_slice(),
             &gate,
