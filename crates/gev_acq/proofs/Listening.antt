@@ -10,12 +10,12 @@ use Rattle.buffer_words.specs.Passes.{Token}
 use Rattle.mode_calls.specs.declared.mode.Mode.{Mode}
 use Rattle.gev_acq.specs.Claiming.{ClaimsOne}
 use Rattle.gev_acq.specs.Heard.{or_zero, kept_by}
-use Rattle.gev_acq.specs.Hearing.{TellsOnce, Hears}
+use Rattle.gev_acq.specs.Receiving.{TellsOnce, Receives}
 use Rattle.gev_acq.proofs.Serves.{serves_then}
 
 twice : (mode : Mode) (c : AcqConfig) (A B C D : List Input → Type 0) (bytes : List ℕ) (block : ℕ) (place : Option ℕ) (need : Need) (kept : Bool) (s t u v : Token)
     → TellsOnce mode c A B bytes (Buffer block) s t → ClaimsOne mode c B C place t u → TellsOnce mode c C D bytes need u v → kept ≡ kept_by (Some need)
-    → Hears mode c A D bytes (record { kept = kept; opened = block; claim = place }) s v
+    → Receives mode c A D bytes (record { kept = kept; opened = block; claim = place }) s v
 twice mode c A B C D bytes block place need kept s t u v first second third is = record {
   given = Some second.given;
   serves = serves_then mode c A B D (datagram bytes ∷ []) (claimed second.given ∷ datagram bytes ∷ []) s t v first.serves
@@ -32,7 +32,7 @@ twice mode c A B C D bytes block place need kept s t u v first second third is =
 -- the configuration stays
 pub heard_twice : (mode : Mode) (c d e : AcqConfig) (A B C D : List Input → Type 0) (bytes : List ℕ) (block : ℕ) (place : Option ℕ) (need : Need) (kept : Bool) (s t u v : Token)
     → d ≡ c → e ≡ d → TellsOnce mode c A B bytes (Buffer block) s t → ClaimsOne mode d B C place t u → TellsOnce mode e C D bytes need u v → kept ≡ kept_by (Some need)
-    → Hears mode c A D bytes (record { kept = kept; opened = block; claim = place }) s v
+    → Receives mode c A D bytes (record { kept = kept; opened = block; claim = place }) s v
 heard_twice mode c d e A B C D bytes block place need kept s t u v one two first second third is =
     twice mode c A B C D bytes block place need kept s t u v first
     (subst (λ (x : AcqConfig). ClaimsOne mode x B C place t u) one second)

@@ -13,7 +13,7 @@ use Rattle.mode_calls.specs.declared.mode.Mode.{Mode}
 use Rattle.gev_acq.specs.declared.heard.Heard.{Heard}
 use Rattle.gev_acq.specs.Filling.{FillsRetiredFor}
 use Rattle.gev_acq.specs.Buffers.{HoldsAlone}
-use Rattle.gev_acq.specs.Turning.{inputs_if, unheard, HearsIf, TicksOnce, ServesTurn}
+use Rattle.gev_acq.specs.Turning.{inputs_if, unheard, ReceivesIf, TicksOnce, ServesTurn}
 use Rattle.gev_acq.proofs.Serves.{serves_then, serves_none, serves_filled}
 
 pub ticks_once : (mode : Mode) (m mid new : Window) (moment : ℕ) (s t : Token) → waiting_fills m ≡ [] → waiting_requests m ≡ [] → Takes m mid (tick moment)
@@ -25,15 +25,15 @@ ticks_once mode m mid new moment s t fills requests takes same keeps filled = re
       same ∙ (takes.requests q old ∙ ap (λ l. l ++ map request_bytes (turn (config_of m) q (tick moment)).requests) requests);
 }
 
-hears_none : (mode : Mode) (c : AcqConfig) (Old : List Input → Type 0) (s : Token) → HearsIf mode c Old Old None unheard s s
-hears_none mode c Old s = record { given = None; serves = serves_none mode c Old s; heard = λ q old. (refl, refl) }
+receives_none : (mode : Mode) (c : AcqConfig) (Old : List Input → Type 0) (s : Token) → ReceivesIf mode c Old Old None unheard s s
+receives_none mode c Old s = record { given = None; serves = serves_none mode c Old s; heard = λ q old. (refl, refl) }
 
 -- where nothing came
-pub hears_nothing : (mode : Mode) (c : AcqConfig) (Old : List Input → Type 0) (came : Option (List ℕ)) (s : Token) → came ≡ None → HearsIf mode c Old Old came unheard s s
-hears_nothing mode c Old came s is = subst (λ (o : Option (List ℕ)). HearsIf mode c Old Old o unheard s s) (sym is) (hears_none mode c Old s)
+pub receives_nothing : (mode : Mode) (c : AcqConfig) (Old : List Input → Type 0) (came : Option (List ℕ)) (s : Token) → came ≡ None → ReceivesIf mode c Old Old came unheard s s
+receives_nothing mode c Old came s is = subst (λ (o : Option (List ℕ)). ReceivesIf mode c Old Old o unheard s s) (sym is) (receives_none mode c Old s)
 
 turned : (mode : Mode) (c : AcqConfig) (Old Mid New : List Input → Type 0) (came : Option (List ℕ)) (moment : ℕ) (r : Heard) (requests : List (List ℕ)) (s t u : Token)
-    → HearsIf mode c Old Mid came r s t → TicksOnce mode c Mid New moment requests t u → ServesTurn mode c Old New came moment r requests s u
+    → ReceivesIf mode c Old Mid came r s t → TicksOnce mode c Mid New moment requests t u → ServesTurn mode c Old New came moment r requests s u
 turned mode c Old Mid New came moment r requests s t u first second = record {
   given = first.given;
   serves = serves_then mode c Old Mid New (inputs_if came first.given) (tick moment ∷ []) s t u first.serves second.serves;
@@ -42,7 +42,7 @@ turned mode c Old Mid New came moment r requests s t u first second = record {
 }
 
 pub serves_turn : (mode : Mode) (c d : AcqConfig) (Old Mid New : List Input → Type 0) (came : Option (List ℕ)) (moment : ℕ) (r : Heard) (requests : List (List ℕ)) (s t u : Token)
-    → d ≡ c → HearsIf mode c Old Mid came r s t → TicksOnce mode d Mid New moment requests t u → ServesTurn mode c Old New came moment r requests s u
+    → d ≡ c → ReceivesIf mode c Old Mid came r s t → TicksOnce mode d Mid New moment requests t u → ServesTurn mode c Old New came moment r requests s u
 serves_turn mode c d Old Mid New came moment r requests s t u is first second =
     turned mode c Old Mid New came moment r requests s t u first (subst (λ (x : AcqConfig). TicksOnce mode x Mid New moment requests t u) is second)
 

@@ -4,7 +4,7 @@ pub mod Claims
 pub mod Buffers
 pub mod Claiming
 pub mod Heard
-pub mod Hearing
+pub mod Receiving
 pub mod Turning
 pub mod Turns
 pub mod Reading

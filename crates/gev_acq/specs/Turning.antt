@@ -23,7 +23,7 @@ IsHeardIf c q None given r = (given ≡ None) × (r ≡ unheard)
 IsHeardIf c q (Some bytes) given r = IsHeard c q bytes given r
 
 -- The inputs of what came were served.
-pub record HearsIf (mode : Mode) (c : AcqConfig) (Old New : List Input → Type 0) (came : Option (List ℕ)) (r : Heard) (s t : Token) : Type 0 where
+pub record ReceivesIf (mode : Mode) (c : AcqConfig) (Old New : List Input → Type 0) (came : Option (List ℕ)) (r : Heard) (s t : Token) : Type 0 where
   pub given : Option (Option Given)
   pub serves : ServesOn mode c Old New (inputs_if came given) s t
   pub heard : (q : List Input) → Old q → IsHeardIf c q came given r

@@ -6,10 +6,10 @@ mod claiming; // a buffer for a new block, by the mode
 mod draining; // the stop of the receiver
 mod filling; // buffers of blocks that retired, by the mode
 mod heard; // what became of a datagram
-mod hearing; // a datagram, and the claim that it asks for
 mod laws; // laws of the reader's turns, as contracts
 #[cfg(test)]
 mod mode_tests;
+mod receiving; // a datagram, and the claim that it asks for
 mod sending; // the requests of a turn
 #[cfg(test)]
 mod tests;
@@ -22,10 +22,10 @@ pub use draining::{drain, retire_all};
 pub use filling::fill_all;
 pub use gev_control::{AcqEnd, TurnEnd};
 pub use heard::Heard;
-pub use hearing::hear;
 pub use laws::{
     client_goes_through_turns, readers_fill_the_retired, served_fills_are_retired,
     turns_fill_the_retired,
 };
+pub use receiving::receive;
 pub use turn::Turn;
 pub use turning::serve_turn;

@@ -471,7 +471,7 @@ fn a_drained_block_is_whole(rt: HostRuntime) -> Result<(), Fail> {
     Ok(())
 }
 
-// A block opens in one turn and retires in the next, which hears nothing: as the output is closed, its buffer is the
+// A block opens in one turn and retires in the next, which receives nothing: as the output is closed, its buffer is the
 // application's.
 #[test]
 fn a_closed_output_gives_the_buffer_back(rt: HostRuntime) -> Result<(), Fail> {
@@ -517,7 +517,7 @@ fn a_closed_output_gives_the_buffer_back(rt: HostRuntime) -> Result<(), Fail> {
 fn a_stop_fills_the_open_block(rt: HostRuntime) -> Result<(), Fail> {
     let (board, mut pass) = new_board(rt.alloc())?;
     let mut acq = Acq::new(rt.alloc(), ONE_BLOCK)?;
-    let heard = hear(
+    let heard = receive(
         &rt,
         &board,
         &mut pass,

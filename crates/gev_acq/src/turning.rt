@@ -3,11 +3,11 @@ ghost use Rattle.acq_core.specs.Receiver.{config_of, buffers, Stands};
 ghost use Rattle.acq_core.specs.Waiting.{waiting_fills, waiting_requests};
 ghost use Rattle.buffer_words.specs.Boards.{board_id};
 ghost use Rattle.gev_acq.specs.Buffers.{Backs, HoldsAlone};
-ghost use Rattle.gev_acq.specs.Turning.{HearsIf, TicksOnce, ServesTurn};
+ghost use Rattle.gev_acq.specs.Turning.{ReceivesIf, TicksOnce, ServesTurn};
 
 use crate::filling::fill_all;
 use crate::heard::Heard;
-use crate::hearing::hear;
+use crate::receiving::receive;
 use acq_core::Acq;
 use buffer_words::{Board, Pass};
 use gev_links::Gate;
@@ -39,13 +39,13 @@ pub fn serve_turn<R: Wait, G: Gate>(
     ensures backs { Backs pass.new (buffers acq.new) }
     ensures alone { HoldsAlone pass.old (buffers acq.old) → HoldsAlone pass.new (buffers acq.new) }
 {
-    let heard = hear_if(rt, board, pass, acq, gate, came, mode);
+    let heard = receive_if(rt, board, pass, acq, gate, came, mode);
     tick_acquisition(rt, board, pass, acq, gate, moment, mode);
     heard
 }
 
 /// Gives the receiver the datagram that came, if one did.
-fn hear_if<R: Wait, G: Gate>(
+fn receive_if<R: Wait, G: Gate>(
     rt: &R,
     board: &Board,
     pass: &mut Pass,
@@ -58,7 +58,7 @@ fn hear_if<R: Wait, G: Gate>(
     requires fills { waiting_fills acq.old ≡ [] }
     requires requests { waiting_requests acq.old ≡ [] }
     requires backs { Backs pass.old (buffers acq.old) }
-    ensures hears { HearsIf mode (config_of acq.old) (Stands acq.old) (Stands acq.new) (option_map (λ bytes. bytes.now) came.entry) result pass.old pass.new }
+    ensures receives { ReceivesIf mode (config_of acq.old) (Stands acq.old) (Stands acq.new) (option_map (λ bytes. bytes.now) came.entry) result pass.old pass.new }
     ensures table { pass.new.table ≡ pass.old.table }
     ensures config { config_of acq.new ≡ config_of acq.old }
     ensures fills { waiting_fills acq.new ≡ [] }
@@ -67,7 +67,7 @@ fn hear_if<R: Wait, G: Gate>(
     ensures alone { HoldsAlone pass.old (buffers acq.old) → HoldsAlone pass.new (buffers acq.new) }
 {
     match came {
-        Some(bytes) => hear(rt, board, pass, acq, gate, bytes, mode),
+        Some(bytes) => receive(rt, board, pass, acq, gate, bytes, mode),
         None => Heard {
             kept: false,
             opened: 0,

@@ -17,7 +17,7 @@ pub record TellsOnce (mode : Mode) (c : AcqConfig) (Old New : List Input → Typ
   pub serves : ServesOn mode c Old New (datagram bytes ∷ []) s t
 
 -- The datagram's inputs were served.
-pub record Hears (mode : Mode) (c : AcqConfig) (Old New : List Input → Type 0) (bytes : List ℕ) (r : Heard) (s t : Token) : Type 0 where
+pub record Receives (mode : Mode) (c : AcqConfig) (Old New : List Input → Type 0) (bytes : List ℕ) (r : Heard) (s t : Token) : Type 0 where
   pub given : Option (Option Given)
   pub serves : ServesOn mode c Old New (inputs_heard bytes given) s t
   pub heard : (q : List Input) → Old q → IsHeard c q bytes given r

@@ -1,10 +1,10 @@
 -- The datagram, the claim's outcome, and the datagram again.
 use Rattle.acq_core.specs.Receiver.{config_of, Stands}
 use Rattle.gev_acq.proofs.Listening.{heard_twice}
-use Rattle.gev_acq.proofs.hearing.hear.Goals as goal
+use Rattle.gev_acq.proofs.receiving.receive.Goals as goal
 
-pub returns-in-Buffer-clause-hears : goal.returns-in-Buffer-clause-hears
-returns-in-Buffer-clause-hears g c =
+pub returns-in-Buffer-clause-receives : goal.returns-in-Buffer-clause-receives
+returns-in-Buffer-clause-receives g c =
     heard_twice c.args.mode (config_of c.args.acq.now) (config_of c.tell.new.acq) (config_of c.claim_one-claim.new.acq) (Stands c.args.acq.now) (Stands c.tell.new.acq)
     (Stands c.claim_one-claim.new.acq) (Stands c.tell-in-Buffer.new.acq) c.args.bytes.now c.in-Buffer.block c.claim_one-claim.result c.tell-in-Buffer.result
     c.is_done-kept.result c.args.pass.now c.tell.new.pass c.claim_one-claim.new.pass c.tell-in-Buffer.new.pass c.in-Buffer.ensures.config

@@ -5,7 +5,7 @@ ghost use Rattle.acq_core.specs.Waiting.{waiting_fills, waiting_requests};
 ghost use Rattle.buffer_words.specs.Boards.{board_id};
 ghost use Rattle.gev_acq.specs.Buffers.{Backs, HoldsAlone};
 ghost use Rattle.gev_acq.specs.Heard.{kept_by};
-ghost use Rattle.gev_acq.specs.Hearing.{TellsOnce, Hears};
+ghost use Rattle.gev_acq.specs.Receiving.{TellsOnce, Receives};
 
 use crate::claiming::claim_one;
 use crate::filling::fill_all;
@@ -18,7 +18,7 @@ use std::sync::Wait;
 
 /// Gives a datagram to the receiver. What retires is filled. Where the receiver asks for a buffer, one is
 /// claimed, and the datagram is given once more.
-pub fn hear<R: Wait, G: Gate>(
+pub fn receive<R: Wait, G: Gate>(
     rt: &R,
     board: &Board,
     pass: &mut Pass,
@@ -31,7 +31,7 @@ pub fn hear<R: Wait, G: Gate>(
     requires fills { waiting_fills acq.old ≡ [] }
     requires requests { waiting_requests acq.old ≡ [] }
     requires backs { Backs pass.old (buffers acq.old) }
-    ensures hears { Hears mode (config_of acq.old) (Stands acq.old) (Stands acq.new) bytes.now result pass.old pass.new }
+    ensures receives { Receives mode (config_of acq.old) (Stands acq.old) (Stands acq.new) bytes.now result pass.old pass.new }
     ensures config { config_of acq.new ≡ config_of acq.old }
     ensures fills { waiting_fills acq.new ≡ [] }
     ensures requests { waiting_requests acq.new ≡ [] }
