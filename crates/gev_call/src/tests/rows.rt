@@ -2,6 +2,7 @@
 
 mod modes;
 mod recorded;
+mod refused_writes;
 mod twenty;
 
 use super::{ACKS, CAMERA, HOST, word_list};
@@ -129,9 +130,9 @@ fn moments(alloc: Global) -> Result<Vec<u64>, NoMemory> {
     Ok(all)
 }
 
-/// What a live or recorded run with these words writes over links that hear this. It ends with this status, its three links are
-/// back, and its board is kept.
-fn run_heard<R: Abort + Threads + Wait + Sync, G: Gate + Sync>(
+/// A live or recorded run with these words over links that hear this and this sink ends with this status, its three links
+/// are back, and its board is kept.
+fn run_into<R: Abort + Threads + Wait + Sync, G: Gate + Sync>(
     rt: &R,
     alloc: Global,
     words: &[&str],
@@ -139,8 +140,9 @@ fn run_heard<R: Abort + Threads + Wait + Sync, G: Gate + Sync>(
     control: &[Option<(&[u8], Peer)>],
     moments: &[u64],
     gate: &G,
+    sink: &mut MemorySink<'_>,
     status: Status,
-) -> Result<Vec<u8>, Fail> {
+) -> Result<(), Fail> {
     let mut ports = MemoryPorts::new(
         alloc,
         DiscardingLink::new(alloc, CAMERA, &[])?,
@@ -151,20 +153,37 @@ fn run_heard<R: Abort + Threads + Wait + Sync, G: Gate + Sync>(
     )?;
     let words = word_list(alloc, words)?;
     let mut source = SteadySource::new(b"", 1000);
-    let mut sink = MemorySink::new(alloc, 1000, &[]);
     let mut kept = None;
     let answer = gevacq_top(
         rt,
         alloc,
         &words,
         &mut source,
-        &mut sink,
+        sink,
         &mut ports,
         gate,
         &mut kept,
     );
     assert_eq!(rt; answer, status);
     assert_eq!(rt; (ports.links().len(), kept.is_some()), (3, true));
+    Ok(())
+}
+
+/// What such a run writes into a sink that takes all.
+fn run_heard<R: Abort + Threads + Wait + Sync, G: Gate + Sync>(
+    rt: &R,
+    alloc: Global,
+    words: &[&str],
+    stream: &[Option<(&[u8], Peer)>],
+    control: &[Option<(&[u8], Peer)>],
+    moments: &[u64],
+    gate: &G,
+    status: Status,
+) -> Result<Vec<u8>, Fail> {
+    let mut sink = MemorySink::new(alloc, 1000, &[]);
+    run_into(
+        rt, alloc, words, stream, control, moments, gate, &mut sink, status,
+    )?;
     Ok(sink.written().to_vec(alloc)?)
 }
 
