@@ -6,11 +6,10 @@ use Rattle.gev_script.specs.Lines as line
 use Rattle.gev_script.specs.Lines.{ScriptLine}
 use Rattle.gev_script.specs.Grammar.{line_of}
 use Rattle.gev_script.specs.Spelling.{IsScriptLine}
-use Rattle.script_runs.specs.declared.ran.Ran.{Ran}
 use Rattle.camera_trace.specs.Serving.{opening}
 use Rattle.camera_trace.specs.Standing.{later_kind, IsCameraLine}
 use Rattle.camera_replay.specs.declared.running.Running.{Running}
-use Rattle.camera_replay.specs.Running.{serving_of, RanAs}
+use Rattle.camera_replay.specs.Running.{serving_of}
 
 -- The bytes are the header, and a new camera stands behind it.
 pub record Begins (text : List ℕ) (new : Running) : Type 0 where
@@ -28,10 +27,3 @@ pub record Reads (text : List ℕ) (l : ScriptLine) : Type 0 where
   pub read : line_of text ≡ Ok l
   pub is_line : IsScriptLine l
   pub own : IsCameraLine l
-
--- The bytes are a line that was run.
-pub record RanBy (ran : Ran) (text : List ℕ) (old : Running) (said : List ℕ) (new : Running) : Type 0 where
-  pub in_place : later_kind text ≡ None
-  pub says : ScriptLine
-  pub read : line_of text ≡ Ok says
-  pub did : RanAs ran says old said new

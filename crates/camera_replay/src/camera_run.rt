@@ -1,17 +1,17 @@
 //! The machine that runs camera scripts.
 
-ghost use Rattle.std.specs.Prelude.{◌≡◌, ◌≤◌, ℕ, [], length, MatchResult};
-ghost use Rattle.script_runs.specs.Runs.{IfRefused};
+ghost use Rattle.std.specs.Prelude.{◌≡◌};
 ghost use Rattle.camera_trace.specs.Standing.{Standing, first, CameraRuns, CameraRefuses, camera_verdict, IsBehind};
 ghost use Rattle.camera_trace.proofs.Judging.{lines_judged};
 ghost use Rattle.camera_replay.specs.Running.{standing_of, IsKept};
 ghost use Rattle.camera_replay.specs.Simulation.{Same, simulated, refused_alike};
 
 use crate::beginning::first_line;
-use crate::later::later_line;
+use crate::later::{read, run_said};
 use crate::rooms::Rooms;
 use crate::running::Running;
-use script_runs::{Machine, Modelled, Ran, Stop};
+use gev_types::NoMemory;
+use script_runs::{Headed, Machine, Modelled, Ran, Stop, run_headed};
 use std::alloc::Global;
 use std::marker::Model;
 
@@ -48,38 +48,36 @@ impl CameraRun {
     }
 }
 
-/// Runs the first line, or a further one. Where memory runs out, nothing stands any more.
-fn any_line(
-    alloc: Global,
-    running: &mut Option<Running>,
-    rooms: &mut Rooms,
-    line: &[u8],
-    out: &mut Vec<u8>,
-) -> Result<Ran, Stop>
-    requires kept { IsKept running.old }
-    requires short { length line.now ≤ 20000 }
-    requires empty { out.old.items ≡ [] }
-    ensures ran { (n : ℕ) → MatchResult result
-        (λ ran. CameraRuns (standing_of running.old) n line.now ran out.new.items (standing_of running.new))
-        (λ stop. IfRefused stop (CameraRefuses (standing_of running.old) n line.now)) }
-    ensures kept { IsKept running.new }
-{
-    match running {
-        Some(now) => match later_line(alloc, now, rooms, line, out) {
-            Ok(ran) => Ok(ran),
-            Err(Stop::Refused(kind)) => Err(Stop::Refused(kind)),
-            Err(Stop::NoMemory) => {
-                *running = None;
-                Err(Stop::NoMemory)
-            }
-        },
-        None => match first_line(alloc, line) {
-            Ok(begun) => {
-                *running = Some(begun);
-                Ok(Ran::GoesOn)
-            }
-            Err(stop) => Err(stop),
-        },
+impl Headed for Rooms {
+    type Script = Running;
+
+    type Came = Ran;
+
+    ghost is_kept = { λ _. IsKept };
+
+    ghost runs = { λ _ old n line ran out _ new. CameraRuns (standing_of old) n line ran out (standing_of new) };
+
+    ghost refuses = { λ now. CameraRefuses (standing_of now) };
+
+    fn begin(&self, alloc: Global, line: &[u8]) -> Result<(Running, Ran), Stop> {
+        Ok((first_line(alloc, line)?, Ran::GoesOn))
+    }
+
+    fn go_on(
+        &mut self,
+        alloc: Global,
+        running: &mut Running,
+        _number: u32,
+        line: &[u8],
+        out: &mut Vec<u8>,
+    ) -> Result<Ran, Stop> {
+        match read(line) {
+            Err(kind) => Err(Stop::Refused(kind)),
+            Ok(says) => match run_said(alloc, running, self, says, out) {
+                Ok(ran) => Ok(ran),
+                Err(NoMemory) => Err(Stop::NoMemory),
+            },
+        }
     }
 }
 
@@ -95,8 +93,7 @@ impl Machine for CameraRun {
         line: &[u8],
         out: &mut Vec<u8>,
     ) -> Result<Ran, Stop> {
-        let _number = number;
-        any_line(alloc, &mut self.running, &mut self.rooms, line, out)
+        run_headed(alloc, &mut self.rooms, &mut self.running, number, line, out)
     }
 }
 

@@ -1,14 +1,13 @@
 //! The lines behind the header.
 
-ghost use Rattle.std.specs.Prelude.{◌≡◌, ◌≤◌, [], length, IfOk, IfErr, MatchResult};
+ghost use Rattle.std.specs.Prelude.{◌≡◌, ◌≤◌, [], length, IfOk, IfErr};
 ghost use Rattle.gev_script.specs.Lines as line;
 ghost use Rattle.gev_script.specs.Lines.{view};
 ghost use Rattle.gev_script.specs.Grammar.{first_name as name_first};
 ghost use Rattle.gev_script.specs.Spelling.{IsScriptLine};
-ghost use Rattle.script_runs.specs.Runs.{IfRefused};
 ghost use Rattle.camera_trace.specs.Standing.{is_in_place, later_kind, IsCameraLine};
 ghost use Rattle.camera_replay.specs.Running.{IsAtRest, RanAs};
-ghost use Rattle.camera_replay.specs.Lines.{Reads, RanBy};
+ghost use Rattle.camera_replay.specs.Lines.{Reads};
 
 use crate::lines::{command, frame, tick};
 use crate::rooms::Rooms;
@@ -16,7 +15,7 @@ use crate::running::Running;
 use gev_report::line_executed;
 use gev_script::{Line, Name, ScriptKind, first_name, parse_line};
 use gev_types::NoMemory;
-use script_runs::{Ran, Stop};
+use script_runs::Ran;
 use std::alloc::Global;
 
 /// Whether a line with this first word may stand behind the header.
@@ -43,7 +42,7 @@ fn is_of_camera(line: &[u8]) -> bool
 }
 
 /// What a line behind the header says, or the kind for which it's refused.
-fn read(line: &[u8]) -> Result<Line<'_>, ScriptKind>
+pub(crate) fn read(line: &[u8]) -> Result<Line<'_>, ScriptKind>
     requires { length line.now ≤ 20000 }
     ensures says { IfOk result (λ l. Reads line.now (view l)) }
     ensures refused { IfErr result (λ kind. later_kind line.now ≡ Some kind) }
@@ -55,7 +54,7 @@ fn read(line: &[u8]) -> Result<Line<'_>, ScriptKind>
 }
 
 /// Runs what a line says, and adds its report to the empty `out`.
-fn run_said(
+pub(crate) fn run_said(
     alloc: Global,
     running: &mut Running,
     rooms: &mut Rooms,
@@ -86,29 +85,5 @@ fn run_said(
             Ok(Ran::Ended)
         }
         _ => unreachable!(),
-    }
-}
-
-/// Runs a line behind the first, given without its line feed, and adds its report to the empty `out`.
-pub(crate) fn later_line(
-    alloc: Global,
-    running: &mut Running,
-    rooms: &mut Rooms,
-    line: &[u8],
-    out: &mut Vec<u8>,
-) -> Result<Ran, Stop>
-    requires rests { IsAtRest running.old }
-    requires short { length line.now ≤ 20000 }
-    requires empty { out.old.items ≡ [] }
-    ensures ran { MatchResult result (λ ran. RanBy ran line.now running.old out.new.items running.new)
-        (λ stop. IfRefused stop (λ kind. later_kind line.now ≡ Some kind)) }
-    ensures rests { MatchResult result (λ ran. IsAtRest running.new) (λ stop. IfRefused stop (λ kind. IsAtRest running.new)) }
-{
-    match read(line) {
-        Err(kind) => Err(Stop::Refused(kind)),
-        Ok(says) => match run_said(alloc, running, rooms, says, out) {
-            Ok(ran) => Ok(ran),
-            Err(NoMemory) => Err(Stop::NoMemory),
-        },
     }
 }

@@ -196,27 +196,25 @@ fn widen_bytes(
 pub fn datagram(
     script: &mut Script,
     digits: &[u8],
-    room: &mut Vec<u8>,
-    wide_room: &mut Vec<u8>,
+    room: &mut [u8],
+    wide_room: &mut [u8],
     tape: &mut Vec<Told>,
 ) -> Result<(), NoMemory>
     requires keeps { IsReplaying script.old.running }
-    requires fits { Fits (length room.old.items) digits.now }
-    requires wide { length room.old.items + 12 ≤ length wide_room.old.items }
+    requires fits { Fits (length room.old) digits.now }
+    requires wide { length room.old + 12 ≤ length wide_room.old }
     requires untold { tape.old.items ≡ [] }
-    ensures does { OnOk result (TellsLine (script_line.datagram digits.now) script.old [] tape.new.items script.new) }
-    ensures room { length room.new.items ≡ length room.old.items }
-    ensures wide { length wide_room.new.items ≡ length wide_room.old.items }
+    ensures { OnOk result (TellsLine (script_line.datagram digits.now) script.old [] tape.new.items script.new) }
 {
     let run = script.running.board.run();
     if run != 1 {
         return idle(&mut script.running, (digits.len() / 2) as u64, tape);
     }
-    let bytes = &mut room.as_mut_slice()[..digits.len() / 2];
+    let bytes = &mut room[..digits.len() / 2];
     decode(digits, bytes);
     let top = script.widening.widener.top();
     if is_standard(script.widening.version, run, top, bytes) {
-        return widen_bytes(script, bytes, wide_room.as_mut_slice(), tape);
+        return widen_bytes(script, bytes, wide_room, tape);
     }
     receive_bytes(&mut script.running, bytes, tape)
 }

@@ -9,7 +9,7 @@ ghost use Rattle.picture_lines.specs.Noting.{GoesNoting, DoesNoting, NotesLine};
 
 use crate::hearing::receive;
 use crate::looks::Looks;
-use script_replay::{Running, Script, decode, is_standard, note_start};
+use script_replay::{DatagramRooms, ROOM, Running, Script, decode, is_standard, note_start};
 
 /// Tells the acquisition the bytes of a datagram, while the stream is running.
 fn receive_bytes(running: &mut Running, bytes: &[u8], looks: &mut Looks)
@@ -52,24 +52,22 @@ fn widen_bytes(script: &mut Script, bytes: &[u8], wide_room: &mut [u8], looks: &
 fn receive_digits(
     script: &mut Script,
     digits: &[u8],
-    room: &mut Vec<u8>,
-    wide_room: &mut Vec<u8>,
+    room: &mut [u8],
+    wide_room: &mut [u8],
     looks: &mut Looks,
 )
     requires keeps { IsReplaying script.old.running }
     requires runs { script.old.running.board.board.run ≡ 1 }
-    requires fits { Fits (length room.old.items) digits.now }
-    requires wide { length room.old.items + 12 ≤ length wide_room.old.items }
-    ensures does { DoesNoting (script_line.datagram digits.now) script.old looks.old script.new looks.new }
-    ensures room { length room.new.items ≡ length room.old.items }
-    ensures wide { length wide_room.new.items ≡ length wide_room.old.items }
+    requires fits { Fits (length room.old) digits.now }
+    requires wide { length room.old + 12 ≤ length wide_room.old }
+    ensures { DoesNoting (script_line.datagram digits.now) script.old looks.old script.new looks.new }
 {
-    let bytes = &mut room.as_mut_slice()[..digits.len() / 2];
+    let bytes = &mut room[..digits.len() / 2];
     decode(digits, bytes);
     let run = script.running.board.run();
     let top = script.widening.widener.top();
     if is_standard(script.widening.version, run, top, bytes) {
-        widen_bytes(script, bytes, wide_room.as_mut_slice(), looks);
+        widen_bytes(script, bytes, wide_room, looks);
         return;
     }
     receive_bytes(&mut script.running, bytes, looks);
@@ -79,16 +77,14 @@ fn receive_digits(
 fn run_datagram(
     script: &mut Script,
     digits: &[u8],
-    room: &mut Vec<u8>,
-    wide_room: &mut Vec<u8>,
+    room: &mut [u8],
+    wide_room: &mut [u8],
     looks: &mut Looks,
 )
     requires keeps { IsReplaying script.old.running }
-    requires fits { Fits (length room.old.items) digits.now }
-    requires wide { length room.old.items + 12 ≤ length wide_room.old.items }
-    ensures does { DoesNoting (script_line.datagram digits.now) script.old looks.old script.new looks.new }
-    ensures room { length room.new.items ≡ length room.old.items }
-    ensures wide { length wide_room.new.items ≡ length wide_room.old.items }
+    requires fits { Fits (length room.old) digits.now }
+    requires wide { length room.old + 12 ≤ length wide_room.old }
+    ensures { DoesNoting (script_line.datagram digits.now) script.old looks.old script.new looks.new }
 {
     if script.running.board.run() != 1 {
         script.running.idle = script.running.idle.saturating_add(1);
@@ -102,19 +98,21 @@ fn run_datagram(
 pub fn datagram(
     script: &mut Script,
     digits: &[u8],
-    room: &mut Vec<u8>,
-    wide_room: &mut Vec<u8>,
+    rooms: &mut DatagramRooms,
     looks: &mut Looks,
 )
     requires keeps { IsReplaying script.old.running }
-    requires fits { Fits (length room.old.items) digits.now }
-    requires wide { length room.old.items + 12 ≤ length wide_room.old.items }
-    ensures notes { NotesLine (script_line.datagram digits.now) script.old looks.old script.new looks.new }
-    ensures room { length room.new.items ≡ length room.old.items }
-    ensures wide { length wide_room.new.items ≡ length wide_room.old.items }
+    requires fits { Fits ROOM digits.now }
+    ensures { NotesLine (script_line.datagram digits.now) script.old looks.old script.new looks.new }
 {
     let before = script.running.board.run();
-    run_datagram(script, digits, room, wide_room, looks);
+    run_datagram(
+        script,
+        digits,
+        rooms.room.as_mut_slice(),
+        rooms.wide_room.as_mut_slice(),
+        looks,
+    );
     let after = script.running.board.run();
     note_start(&mut script.widening, before, after);
 }

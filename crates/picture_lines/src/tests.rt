@@ -1,13 +1,13 @@
 //! Lines that are run one by one, and the looks that they leave. Whole scripts are tested above.
 
-ghost use Rattle.std.specs.Prelude.{◌≡◌, ◌≤◌, ◌+◌, length};
+ghost use Rattle.std.specs.Prelude.{◌≤◌, length};
 ghost use Rattle.gev_script.specs.Lines.{view};
 ghost use Rattle.script_replay.specs.Replays.{IsReplaying, IsLaterIn};
 
 use crate::{Looks, datagram, stop, tick};
 use frame_pictures::Look;
 use gev_script::{Line, first_name, parse_line};
-use script_replay::{Script, first_line, is_out_of_place, later_line};
+use script_replay::{DatagramRooms, ROOM, Script, first_line, is_out_of_place, later_line};
 use script_runs::Ran;
 use std::alloc::Global;
 use std::process::Abort;
@@ -86,20 +86,16 @@ const STANDARD: &[(&str, Option<Look>)] = &[
 fn feed_said(
     script: &mut Script,
     looks: &mut Looks,
-    room: &mut Vec<u8>,
-    wide_room: &mut Vec<u8>,
+    rooms: &mut DatagramRooms,
     says: Line<'_>,
 ) -> bool
     requires keeps { IsReplaying script.old.running }
-    requires run { IsLaterIn (length room.old.items) (view says) }
-    requires wide { length room.old.items + 12 ≤ length wide_room.old.items }
+    requires run { IsLaterIn ROOM (view says) }
     ensures keeps { IsReplaying script.new.running }
-    ensures room { length room.new.items ≡ length room.old.items }
-    ensures wide { length wide_room.new.items ≡ length wide_room.old.items }
 {
     match says {
         Line::Datagram { hex } => {
-            datagram(script, hex, room, wide_room, looks);
+            datagram(script, hex, rooms, looks);
             true
         }
         Line::Tick { moment } => {
@@ -118,23 +114,18 @@ fn feed_said(
 fn feed(
     script: &mut Script,
     looks: &mut Looks,
-    room: &mut Vec<u8>,
-    wide_room: &mut Vec<u8>,
+    rooms: &mut DatagramRooms,
     line: &[u8],
 ) -> bool
     requires keeps { IsReplaying script.old.running }
     requires short { length line.now ≤ 20000 }
-    requires room { length room.old.items ≡ 10000 }
-    requires wide { length wide_room.old.items ≡ 10012 }
     ensures keeps { IsReplaying script.new.running }
-    ensures room { length room.new.items ≡ 10000 }
-    ensures wide { length wide_room.new.items ≡ 10012 }
 {
     if is_out_of_place(first_name(line)) {
         return false;
     }
     match parse_line(line) {
-        Ok(says) => feed_said(script, looks, room, wide_room, says),
+        Ok(says) => feed_said(script, looks, rooms, says),
         Err(_kind) => false,
     }
 }
@@ -144,20 +135,15 @@ fn call(
     rt: &impl Abort,
     alloc: Global,
     script: &mut Script,
-    room: &mut Vec<u8>,
-    wide_room: &mut Vec<u8>,
+    rooms: &mut DatagramRooms,
     line: &[u8],
 )
     requires keeps { IsReplaying script.old.running }
     requires short { length line.now ≤ 20000 }
-    requires room { length room.old.items ≡ 10000 }
-    requires wide { length wide_room.old.items ≡ 10012 }
     ensures keeps { IsReplaying script.new.running }
-    ensures room { length room.new.items ≡ 10000 }
-    ensures wide { length wide_room.new.items ≡ 10012 }
 {
     let mut out = Vec::new(alloc);
-    match later_line(alloc, script, room, wide_room, line, &mut out) {
+    match later_line(alloc, script, rooms, line, &mut out) {
         Ok(Ran::GoesOn) => {}
         _ => panic!(rt; "the line isn't run"),
     }
@@ -169,22 +155,17 @@ fn run(
     alloc: Global,
     script: &mut Script,
     looks: &mut Looks,
-    room: &mut Vec<u8>,
-    wide_room: &mut Vec<u8>,
+    rooms: &mut DatagramRooms,
     line: &[u8],
 )
     requires keeps { IsReplaying script.old.running }
     requires short { length line.now ≤ 20000 }
-    requires room { length room.old.items ≡ 10000 }
-    requires wide { length wide_room.old.items ≡ 10012 }
     ensures keeps { IsReplaying script.new.running }
-    ensures room { length room.new.items ≡ 10000 }
-    ensures wide { length wide_room.new.items ≡ 10012 }
 {
-    if feed(script, looks, room, wide_room, line) {
+    if feed(script, looks, rooms, line) {
         return;
     }
-    call(rt, alloc, script, room, wide_room, line);
+    call(rt, alloc, script, rooms, line);
 }
 
 /// Runs lines behind a header, and compares the look in the first place behind each.
@@ -196,8 +177,7 @@ fn check_lines(
 ) -> Result<(), Fail> {
     let first = header.as_bytes();
     assert!(rt; first.len() <= 20_000);
-    let mut room = vec![in alloc; 0u8; 10_000]?;
-    let mut wide_room = vec![in alloc; 0u8; 10_012]?;
+    let mut rooms = DatagramRooms::new(alloc)?;
     let mut looks = Looks::new();
     let mut script = match first_line(alloc, first) {
         Ok(script) => script,
@@ -211,8 +191,7 @@ fn check_lines(
             alloc,
             &mut script,
             &mut looks,
-            &mut room,
-            &mut wide_room,
+            &mut rooms,
             bytes,
         );
         assert_eq!(rt; looks.at(0), *look, "{line}");

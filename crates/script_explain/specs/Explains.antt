@@ -25,7 +25,6 @@ use Rattle.note_tape.specs.Counting.{tally, with_notes}
 use Rattle.script_replay.specs.declared.script.Script.{Script}
 use Rattle.script_replay.specs.Replays.{StandsAt, IsReplaying, KeepsWide, Ends}
 use Rattle.script_explain.specs.declared.explained.Explained.{Explained}
-use Rattle.script_explain.specs.declared.rooms.Rooms.{Rooms}
 
 -- ---- a line, with what is told of it
 
@@ -93,11 +92,6 @@ Writes GoesOn n tape said old text new = WritesNotes n tape said old text new
 Writes Ended n tape said old text new = WritesBlocks n said old text new
 
 -- ---- the states of the machine
-
--- there is room for the bytes of every line's datagram
-pub record AreRooms (r : Rooms) : Type 0 where
-  pub room : length r.room.items ≡ 10000
-  pub wide : length r.wide_room.items ≡ 10012
 
 abbrev pub StandsFrom : Option Explained → List Note → Standing → Type 0
 StandsFrom None notes first = notes ≡ []

@@ -1,12 +1,10 @@
 //! The machine that explains replay scripts.
 
-ghost use Rattle.std.specs.Prelude.{◌≡◌, ◌≤◌, [], length, IfOk, None, Some, MatchResult};
-ghost use Rattle.script_runs.specs.Runs.{IfRefused};
+ghost use Rattle.std.specs.Prelude.{◌≡◌, IfOk, None};
 ghost use Rattle.script_trace.specs.Standing.{replay_verdict, IsBehind};
 ghost use Rattle.script_notes.specs.Explaining.{Telling, ExplainRuns, ExplainRefuses};
 ghost use Rattle.script_notes.proofs.Reports.{explanations_are_judged};
-ghost use Rattle.script_replay.specs.Replays.{IsReplaying};
-ghost use Rattle.script_explain.specs.Explains.{AreRooms, IsKept, RunsAs, RefusesAs, StandsFor};
+ghost use Rattle.script_explain.specs.Explains.{IsKept, RunsAs, RefusesAs, StandsFor};
 
 use crate::explained::Explained;
 use crate::rooms::Rooms;
@@ -14,16 +12,10 @@ use crate::telling::tell_line;
 use crate::writing::write_line;
 use gev_types::NoMemory;
 use note_tape::none_counted;
-use script_replay::first_line;
-use script_runs::{Machine, Modelled, Ran, Stop};
+use script_replay::{DatagramRooms, first_line};
+use script_runs::{Headed, Machine, Modelled, Ran, Stop, run_headed};
 use std::alloc::Global;
 use std::marker::Model;
-
-/// How many bytes the datagram of the longest line has room in.
-const ROOM: usize = 10_000;
-
-/// And how many with extended identifiers in place of standard ones.
-const WIDE_ROOM: usize = ROOM + 12;
 
 /// Runs a replay script, line by line, as a replay does, and writes notes before the report of each line.
 ///
@@ -39,13 +31,13 @@ pub struct Explain {
 impl Model for Explain {
     ghost use Rattle.std.specs.Prelude.{Option};
     ghost use Rattle.script_explain.specs.declared.explained.Explained.{Explained};
-    ghost use Rattle.script_explain.specs.Explains.{AreRooms, IsKept};
+    ghost use Rattle.script_explain.specs.Explains.{IsKept};
 
     ghost Value = { Option Explained };
 
     ghost view = { λ e. e.explained };
 
-    ghost invariant = { λ e. AreRooms e.rooms × IsKept e.explained };
+    ghost invariant = { λ e. IsKept e.explained };
 }
 
 impl Explain {
@@ -53,13 +45,11 @@ impl Explain {
     pub fn new(alloc: Global) -> Result<Explain, NoMemory>
         ensures { IfOk result (λ explain. explain ≡ None) }
     {
-        let room = vec![in alloc; 0u8; ROOM]?;
-        let wide_room = vec![in alloc; 0u8; WIDE_ROOM]?;
+        let datagram = DatagramRooms::new(alloc)?;
         Ok(Explain {
             explained: None,
             rooms: Rooms {
-                room,
-                wide_room,
+                datagram,
                 report: Vec::new(alloc),
                 tape: Vec::new(alloc),
             },
@@ -67,71 +57,36 @@ impl Explain {
     }
 }
 
-/// Runs a line behind the first, and adds its notes and its report to the empty `out`.
-fn later(
-    alloc: Global,
-    explained: &mut Explained,
-    number: u32,
-    rooms: &mut Rooms,
-    line: &[u8],
-    out: &mut Vec<u8>,
-) -> Result<Ran, Stop>
-    requires keeps { IsReplaying explained.old.script.running }
-    requires short { length line.now ≤ 20000 }
-    requires rooms { AreRooms rooms.old }
-    requires empty { out.old.items ≡ [] }
-    ensures ran { MatchResult result (λ ran. RunsAs (Some explained.old) number line.now ran out.new.items (Some explained.new))
-        (λ stop. IfRefused stop (λ kind. RefusesAs (Some explained.old) number line.now kind)) }
-    ensures keeps { MatchResult result (λ ran. IsReplaying explained.new.script.running)
-        (λ stop. IfRefused stop (λ kind. IsReplaying explained.new.script.running)) }
-    ensures rooms { AreRooms rooms.new }
-{
-    match tell_line(alloc, &mut explained.script, rooms, line) {
-        Ok(ran) => match write_line(explained, ran, number, rooms, out) {
+impl Headed for Rooms {
+    type Script = Explained;
+
+    type Came = Ran;
+
+    ghost is_kept = { λ _. IsKept };
+
+    ghost runs = { λ _ old n line ran out _ new. RunsAs old n line ran out new };
+
+    ghost refuses = { RefusesAs };
+
+    fn begin(&self, alloc: Global, line: &[u8]) -> Result<(Explained, Ran), Stop> {
+        let script = first_line(alloc, line)?;
+        let counts = none_counted();
+        Ok((Explained { script, counts }, Ran::GoesOn))
+    }
+
+    fn go_on(
+        &mut self,
+        alloc: Global,
+        explained: &mut Explained,
+        number: u32,
+        line: &[u8],
+        out: &mut Vec<u8>,
+    ) -> Result<Ran, Stop> {
+        let ran = tell_line(alloc, &mut explained.script, self, line)?;
+        match write_line(explained, ran, number, self, out) {
             Ok(()) => Ok(ran),
             Err(NoMemory) => Err(Stop::NoMemory),
-        },
-        Err(stop) => Err(stop),
-    }
-}
-
-/// Runs the first line, or a further one. Where memory runs out, nothing stands any more.
-fn any_line(
-    alloc: Global,
-    explained: &mut Option<Explained>,
-    number: u32,
-    rooms: &mut Rooms,
-    line: &[u8],
-    out: &mut Vec<u8>,
-) -> Result<Ran, Stop>
-    requires kept { IsKept explained.old }
-    requires short { length line.now ≤ 20000 }
-    requires rooms { AreRooms rooms.old }
-    requires empty { out.old.items ≡ [] }
-    ensures ran { MatchResult result (λ ran. RunsAs explained.old number line.now ran out.new.items explained.new)
-        (λ stop. IfRefused stop (λ kind. RefusesAs explained.old number line.now kind)) }
-    ensures kept { IsKept explained.new }
-    ensures rooms { AreRooms rooms.new }
-{
-    match explained {
-        Some(now) => match later(alloc, now, number, rooms, line, out) {
-            Ok(ran) => Ok(ran),
-            Err(Stop::Refused(kind)) => Err(Stop::Refused(kind)),
-            Err(Stop::NoMemory) => {
-                *explained = None;
-                Err(Stop::NoMemory)
-            }
-        },
-        None => match first_line(alloc, line) {
-            Ok(script) => {
-                *explained = Some(Explained {
-                    script,
-                    counts: none_counted(),
-                });
-                Ok(Ran::GoesOn)
-            }
-            Err(stop) => Err(stop),
-        },
+        }
     }
 }
 
@@ -147,11 +102,11 @@ impl Machine for Explain {
         line: &[u8],
         out: &mut Vec<u8>,
     ) -> Result<Ran, Stop> {
-        any_line(
+        run_headed(
             alloc,
+            &mut self.rooms,
             &mut self.explained,
             number,
-            &mut self.rooms,
             line,
             out,
         )

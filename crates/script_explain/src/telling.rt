@@ -1,20 +1,20 @@
 //! A line behind the first, with what is told of it.
 
-ghost use Rattle.std.specs.Prelude.{◌≡◌, ◌≤◌, ◌+◌, [], true, length, Ok, None, OnOk, MatchResult};
+ghost use Rattle.std.specs.Prelude.{◌≡◌, ◌≤◌, [], true, length, Ok, None, OnOk, MatchResult};
 ghost use Rattle.gev_script.specs.Lines.{view};
 ghost use Rattle.gev_script.specs.Grammar.{line_of};
 ghost use Rattle.script_runs.specs.Runs.{IfRefused};
 ghost use Rattle.script_trace.specs.Standing.{later_kind};
 ghost use Rattle.script_replay.specs.Replays.{IsReplaying, IsLaterIn, RefusedBy};
 ghost use Rattle.explain_lines.specs.Telling.{TellsLine};
-ghost use Rattle.script_explain.specs.Explains.{is_fed, ToldLine, ToldBy, AreRooms};
+ghost use Rattle.script_explain.specs.Explains.{is_fed, ToldLine, ToldBy};
 
 use crate::rooms::Rooms;
 use explain_lines::{datagram, stop, tick};
 use gev_script::{Line, ScriptKind, first_name, parse_line};
 use gev_types::NoMemory;
 use note_tape::Told;
-use script_replay::{Script, is_out_of_place, later_line, note_start};
+use script_replay::{DatagramRooms, ROOM, Script, is_out_of_place, later_line, note_start};
 use script_runs::{Ran, Stop};
 use std::alloc::Global;
 
@@ -34,24 +34,26 @@ fn is_fed(line: Line<'_>) -> bool
 fn feed(
     alloc: Global,
     script: &mut Script,
-    room: &mut Vec<u8>,
-    wide_room: &mut Vec<u8>,
+    rooms: &mut DatagramRooms,
     line: Line<'_>,
     tape: &mut Vec<Told>,
     out: &mut Vec<u8>,
 ) -> Result<(), NoMemory>
     requires keeps { IsReplaying script.old.running }
     requires fed { is_fed (view line) ≡ true }
-    requires run { IsLaterIn (length room.old.items) (view line) }
-    requires wide { length room.old.items + 12 ≤ length wide_room.old.items }
+    requires run { IsLaterIn ROOM (view line) }
     requires blank { tape.old.items ≡ [] }
     requires empty { out.old.items ≡ [] }
-    ensures feeds { OnOk result (TellsLine (view line.entry) script.old out.new.items tape.new.items script.new) }
-    ensures room { length room.new.items ≡ length room.old.items }
-    ensures wide { length wide_room.new.items ≡ length wide_room.old.items }
+    ensures { OnOk result (TellsLine (view line.entry) script.old out.new.items tape.new.items script.new) }
 {
     match line {
-        Line::Datagram { hex } => datagram(script, hex, room, wide_room, tape),
+        Line::Datagram { hex } => datagram(
+            script,
+            hex,
+            rooms.room.as_mut_slice(),
+            rooms.wide_room.as_mut_slice(),
+            tape,
+        ),
         Line::Tick { moment } => tick(alloc, script, moment, tape, out),
         Line::Stop { flags } => stop(alloc, script, flags, tape, out),
         _ => unreachable!(),
@@ -62,24 +64,20 @@ fn feed(
 fn tell_fed(
     alloc: Global,
     script: &mut Script,
-    room: &mut Vec<u8>,
-    wide_room: &mut Vec<u8>,
+    rooms: &mut DatagramRooms,
     line: Line<'_>,
     tape: &mut Vec<Told>,
     out: &mut Vec<u8>,
 ) -> Result<(), NoMemory>
     requires keeps { IsReplaying script.old.running }
     requires fed { is_fed (view line) ≡ true }
-    requires run { IsLaterIn (length room.old.items) (view line) }
-    requires wide { length room.old.items + 12 ≤ length wide_room.old.items }
+    requires run { IsLaterIn ROOM (view line) }
     requires blank { tape.old.items ≡ [] }
     requires empty { out.old.items ≡ [] }
-    ensures tells { OnOk result (ToldLine (view line.entry) script.old out.new.items tape.new.items script.new) }
-    ensures room { length room.new.items ≡ length room.old.items }
-    ensures wide { length wide_room.new.items ≡ length wide_room.old.items }
+    ensures { OnOk result (ToldLine (view line.entry) script.old out.new.items tape.new.items script.new) }
 {
     let before = script.running.board.run();
-    feed(alloc, script, room, wide_room, line, tape, out)?;
+    feed(alloc, script, rooms, line, tape, out)?;
     let after = script.running.board.run();
     note_start(&mut script.widening, before, after);
     Ok(())
@@ -97,29 +95,19 @@ fn tell_said(
     requires short { length line.now ≤ 20000 }
     requires in_place { later_kind line.now ≡ None }
     requires read { line_of line.now ≡ Ok (view says) }
-    requires run { IsLaterIn 10000 (view says) }
-    requires rooms { AreRooms rooms.old }
+    requires run { IsLaterIn ROOM (view says) }
     requires blank { rooms.old.tape.items ≡ [] }
     requires empty { rooms.old.report.items ≡ [] }
-    ensures ran { MatchResult result (λ ran. ToldBy ran line.now script.old rooms.new.report.items rooms.new.tape.items script.new)
+    ensures { MatchResult result (λ ran. ToldBy ran line.now script.old rooms.new.report.items rooms.new.tape.items script.new)
         (λ stop. IfRefused stop (λ kind. RefusedBy line.now kind script.old script.new)) }
-    ensures rooms { AreRooms rooms.new }
 {
     if !is_fed(says) {
-        return later_line(
-            alloc,
-            script,
-            &mut rooms.room,
-            &mut rooms.wide_room,
-            line,
-            &mut rooms.report,
-        );
+        return later_line(alloc, script, &mut rooms.datagram, line, &mut rooms.report);
     }
     match tell_fed(
         alloc,
         script,
-        &mut rooms.room,
-        &mut rooms.wide_room,
+        &mut rooms.datagram,
         says,
         &mut rooms.tape,
         &mut rooms.report,
@@ -139,10 +127,8 @@ pub(crate) fn tell_line(
 ) -> Result<Ran, Stop>
     requires keeps { IsReplaying script.old.running }
     requires short { length line.now ≤ 20000 }
-    requires rooms { AreRooms rooms.old }
-    ensures ran { MatchResult result (λ ran. ToldBy ran line.now script.old rooms.new.report.items rooms.new.tape.items script.new)
+    ensures { MatchResult result (λ ran. ToldBy ran line.now script.old rooms.new.report.items rooms.new.tape.items script.new)
         (λ stop. IfRefused stop (λ kind. RefusedBy line.now kind script.old script.new)) }
-    ensures rooms { AreRooms rooms.new }
 {
     rooms.tape.clear();
     rooms.report.clear();

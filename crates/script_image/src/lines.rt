@@ -12,7 +12,7 @@ use crate::came::Came;
 use crate::taking::take;
 use gev_script::{Line, ScriptKind, first_name, parse_line};
 use picture_lines::{Looks, datagram, stop, tick};
-use script_replay::{Script, is_out_of_place, later_line};
+use script_replay::{DatagramRooms, Script, is_out_of_place, later_line};
 use script_runs::{Ran, Stop};
 use std::alloc::Global;
 
@@ -20,23 +20,18 @@ use std::alloc::Global;
 fn quiet_line(
     alloc: Global,
     script: &mut Script,
-    room: &mut Vec<u8>,
-    wide_room: &mut Vec<u8>,
+    rooms: &mut DatagramRooms,
     line: &[u8],
     out: &mut Vec<u8>,
 ) -> Result<Came, Stop>
     requires keeps { IsReplaying script.old.running }
     requires short { length line.now ≤ 20000 }
-    requires room { length room.old.items ≡ 10000 }
-    requires wide { length wide_room.old.items ≡ 10012 }
     requires empty { out.old.items ≡ [] }
     requires quiet { (l : ScriptLine) → line_of line.now ≡ Ok l → IsQuiet l }
-    ensures ran { (places : List (Option Look)) → MatchResult result (λ came. CameBy came line.now script.old places script.new places)
+    ensures { (places : List (Option Look)) → MatchResult result (λ came. CameBy came line.now script.old places script.new places)
         (λ stop. IfRefused stop (λ kind. RefusedBy line.now kind script.old script.new)) }
-    ensures room { length room.new.items ≡ 10000 }
-    ensures wide { length wide_room.new.items ≡ 10012 }
 {
-    match later_line(alloc, script, room, wide_room, line, out) {
+    match later_line(alloc, script, rooms, line, out) {
         Ok(Ran::GoesOn) => Ok(Came::On),
         Ok(Ran::Ended) => Ok(Came::End),
         Err(stop) => Err(stop),
@@ -59,20 +54,15 @@ pub(crate) fn run_later(
     alloc: Global,
     script: &mut Script,
     looks: &mut Looks,
-    room: &mut Vec<u8>,
-    wide_room: &mut Vec<u8>,
+    rooms: &mut DatagramRooms,
     line: &[u8],
     out: &mut Vec<u8>,
 ) -> Result<Came, Stop>
     requires keeps { IsReplaying script.old.running }
     requires short { length line.now ≤ 20000 }
-    requires room { length room.old.items ≡ 10000 }
-    requires wide { length wide_room.old.items ≡ 10012 }
     requires empty { out.old.items ≡ [] }
-    ensures ran { MatchResult result (λ came. CameBy came line.now script.old looks.old script.new looks.new)
+    ensures { MatchResult result (λ came. CameBy came line.now script.old looks.old script.new looks.new)
         (λ stop. IfRefused stop (λ kind. RefusedBy line.now kind script.old script.new)) }
-    ensures room { length room.new.items ≡ 10000 }
-    ensures wide { length wide_room.new.items ≡ 10012 }
 {
     if is_out_of_place(first_name(line)) {
         return Err(Stop::Refused(ScriptKind::Word));
@@ -80,7 +70,7 @@ pub(crate) fn run_later(
     match parse_line(line) {
         Err(kind) => Err(Stop::Refused(kind)),
         Ok(Line::Datagram { hex }) => {
-            datagram(script, hex, room, wide_room, looks);
+            datagram(script, hex, rooms, looks);
             Ok(Came::On)
         }
         Ok(Line::Tick { moment }) => {
@@ -92,6 +82,6 @@ pub(crate) fn run_later(
             Ok(Came::On)
         }
         Ok(Line::Take) => Ok(came_of(take(script))),
-        Ok(_other) => quiet_line(alloc, script, room, wide_room, line, out),
+        Ok(_other) => quiet_line(alloc, script, rooms, line, out),
     }
 }

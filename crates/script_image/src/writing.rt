@@ -26,7 +26,7 @@ fn draw_last<K: Sink>(alloc: Global, imaging: &Imaging, sink: &mut K) -> ImageEn
         (Some(place), Some(script)) => draw(
             alloc,
             &script.running.board,
-            imaging.looks.at(place),
+            imaging.viewer.looks.at(place),
             place,
             sink,
         ),

@@ -15,6 +15,7 @@ use crate::answers::{line_done, line_refused};
 use crate::board_lines::{announce, event_flush, flush, info, kill, queue, revoke};
 use crate::buffer_lines::{buffer_info, take};
 use crate::closing_lines::close_all;
+use crate::datagram_rooms::{DatagramRooms, ROOM};
 use crate::handle_lines::open_child;
 use crate::running::Running;
 use crate::step_line::step;
@@ -60,11 +61,10 @@ fn run_call(
 }
 
 /// Runs a `d` line. Its bytes are decoded into the room.
-pub(crate) fn run_datagram(running: &mut Running, digits: &[u8], room: &mut Vec<u8>)
+pub(crate) fn run_datagram(running: &mut Running, digits: &[u8], room: &mut [u8])
     requires keeps { IsReplaying running.old }
-    requires fits { Fits (length room.old.items) digits.now }
-    ensures goes { Goes (script_line.datagram digits.now) running.old [] running.new }
-    ensures room { length room.new.items ≡ length room.old.items }
+    requires fits { Fits (length room.old) digits.now }
+    ensures { Goes (script_line.datagram digits.now) running.old [] running.new }
 {
     let idle = datagram(
         &mut running.board,
@@ -72,7 +72,7 @@ pub(crate) fn run_datagram(running: &mut Running, digits: &[u8], room: &mut Vec<
         &mut running.counts,
         running.mode,
         digits,
-        room.as_mut_slice(),
+        room,
     );
     running.idle = running.idle.saturating_add(idle);
 }
@@ -151,15 +151,14 @@ fn run_mode(
 pub(crate) fn run_adding(
     alloc: Global,
     running: &mut Running,
-    room: &mut Vec<u8>,
+    rooms: &mut DatagramRooms,
     line: Line<'_>,
     out: &mut Vec<u8>,
 ) -> Result<(), NoMemory>
     requires keeps { IsReplaying running.old }
-    requires run { IsRunIn (length room.old.items) (view line) }
+    requires run { IsRunIn ROOM (view line) }
     requires empty { out.old.items ≡ [] }
-    ensures goes { OnOk result (Goes (view line.entry) running.old out.new.items running.new) }
-    ensures room { length room.new.items ≡ length room.old.items }
+    ensures { OnOk result (Goes (view line.entry) running.old out.new.items running.new) }
 {
     match line {
         Line::Start => start(alloc, &mut running.board, &mut running.acq, out),
@@ -182,7 +181,7 @@ pub(crate) fn run_adding(
             out,
         ),
         Line::Datagram { hex } => {
-            run_datagram(running, hex, room);
+            run_datagram(running, hex, rooms.room.as_mut_slice());
             Ok(())
         }
         Line::Take => run_take(alloc, running, out),

@@ -10,7 +10,7 @@ ghost use Rattle.script_trace.specs.Wide.{Wide};
 ghost use Rattle.script_trace.specs.Standing.{is_out_of_place};
 ghost use Rattle.script_replay.specs.Replays.{StandsAt, IsReplaying, IsLaterIn, KeepsWide, RanAs, RanBy, RefusedBy};
 
-use crate::replay::{ROOM, WIDE_ROOM};
+use crate::datagram_rooms::{DatagramRooms, ROOM};
 use crate::running::Running;
 use crate::script::Script;
 use crate::wide_lines::run_line;
@@ -73,18 +73,14 @@ fn tell_end(alloc: Global, script: &Script, out: &mut Vec<u8>) -> Result<(), NoM
 fn run_said(
     alloc: Global,
     script: &mut Script,
-    room: &mut Vec<u8>,
-    wide_room: &mut Vec<u8>,
+    rooms: &mut DatagramRooms,
     says: Line<'_>,
     out: &mut Vec<u8>,
 ) -> Result<Ran, NoMemory>
     requires keeps { IsReplaying script.old.running }
-    requires run { IsLaterIn (length room.old.items) (view says) }
-    requires wide { length room.old.items + 12 ≤ length wide_room.old.items }
+    requires run { IsLaterIn ROOM (view says) }
     requires empty { out.old.items ≡ [] }
     ensures ran { IfOk result (λ ran. RanAs ran (view says.entry) script.old out.new.items script.new) }
-    ensures room { length room.new.items ≡ length room.old.items }
-    ensures wide { length wide_room.new.items ≡ length wide_room.old.items }
 {
     match says {
         Line::End => {
@@ -92,7 +88,7 @@ fn run_said(
             Ok(Ran::Ended)
         }
         other => {
-            run_line(alloc, script, room, wide_room, other, out)?;
+            run_line(alloc, script, rooms, other, out)?;
             Ok(Ran::GoesOn)
         }
     }
@@ -102,27 +98,22 @@ fn run_said(
 pub fn later_line(
     alloc: Global,
     script: &mut Script,
-    room: &mut Vec<u8>,
-    wide_room: &mut Vec<u8>,
+    rooms: &mut DatagramRooms,
     line: &[u8],
     out: &mut Vec<u8>,
 ) -> Result<Ran, Stop>
     requires keeps { IsReplaying script.old.running }
     requires short { length line.now ≤ 20000 }
-    requires room { length room.old.items ≡ ROOM }
-    requires wide { length wide_room.old.items ≡ WIDE_ROOM }
     requires empty { out.old.items ≡ [] }
     ensures ran { MatchResult result (λ ran. RanBy ran line.now script.old out.new.items script.new)
         (λ stop. IfRefused stop (λ kind. RefusedBy line.now kind script.old script.new)) }
-    ensures room { length room.new.items ≡ ROOM }
-    ensures wide { length wide_room.new.items ≡ WIDE_ROOM }
 {
     if is_out_of_place(first_name(line)) {
         return Err(Stop::Refused(ScriptKind::Word));
     }
     match parse_line(line) {
         Err(kind) => Err(Stop::Refused(kind)),
-        Ok(says) => match run_said(alloc, script, room, wide_room, says, out) {
+        Ok(says) => match run_said(alloc, script, rooms, says, out) {
             Ok(ran) => Ok(ran),
             Err(NoMemory) => Err(Stop::NoMemory),
         },

@@ -9,6 +9,7 @@ mod beginning; // the header
 mod board_lines; // lines that call the stream or its event
 mod buffer_lines; // the lines `take` and `binfo`
 mod closing_lines; // the line `close`
+mod datagram_rooms; // room for a datagram's bytes
 mod fill_counts; // fills and dropped buffers, counted
 mod got; // what a claim got
 mod handle_lines; // the lines `open` and `close`
@@ -31,6 +32,7 @@ pub use acquisition_lines::{receive, start};
 pub use answers::{line_done, line_refused};
 pub use beginning::{begin, first_line};
 pub use board_lines::{CALLER, announce, queue};
+pub use datagram_rooms::{DatagramRooms, ROOM};
 pub use fill_counts::FillCounts;
 pub use got::Got;
 pub use hex_digits::decode;

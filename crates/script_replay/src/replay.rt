@@ -1,24 +1,18 @@
 //! The machine that runs replay scripts.
 
-ghost use Rattle.std.specs.Prelude.{◌≡◌, ◌≤◌, ℕ, [], length, IfOk, None, MatchResult};
-ghost use Rattle.script_runs.specs.Runs.{IfRefused};
+ghost use Rattle.std.specs.Prelude.{◌≡◌, IfOk, None};
 ghost use Rattle.script_trace.specs.Standing.{Standing, ReplayRuns, ReplayRefuses, replay_verdict, IsBehind};
 ghost use Rattle.script_trace.proofs.Scripts.{lines_judged};
 ghost use Rattle.script_replay.specs.Replays.{IsKept, RunsAs, RefusesAs, StandsFor};
 
 use crate::beginning::first_line;
+use crate::datagram_rooms::DatagramRooms;
 use crate::later::later_line;
 use crate::script::Script;
 use gev_types::NoMemory;
-use script_runs::{Machine, Modelled, Ran, Stop};
+use script_runs::{Headed, Machine, Modelled, Ran, Stop, run_headed};
 use std::alloc::Global;
 use std::marker::Model;
-
-/// How many bytes the datagram of the longest line has room in.
-pub(crate) const ROOM: usize = 10_000;
-
-/// And how many with extended identifiers in place of standard ones.
-pub(crate) const WIDE_ROOM: usize = ROOM + 12;
 
 /// Runs a replay script, line by line.
 ///
@@ -27,13 +21,11 @@ pub(crate) const WIDE_ROOM: usize = ROOM + 12;
 #[derive(Drop)]
 pub struct Replay {
     script: Option<Script>,
-    room: Vec<u8>,
-    wide_room: Vec<u8>,
+    rooms: DatagramRooms,
 }
 
 impl Model for Replay {
-    ghost use Rattle.std.specs.Prelude.{◌≡◌, Option, length};
-    ghost use Rattle.script_replay.specs.declared.replay.TheConstants.{ROOM, WIDE_ROOM};
+    ghost use Rattle.std.specs.Prelude.{Option};
     ghost use Rattle.script_replay.specs.declared.script.Script.{Script};
     ghost use Rattle.script_replay.specs.Replays.{IsKept};
 
@@ -41,7 +33,7 @@ impl Model for Replay {
 
     ghost view = { λ r. r.script };
 
-    ghost invariant = { λ r. (length r.room.items ≡ ROOM) × (length r.wide_room.items ≡ WIDE_ROOM) × IsKept r.script };
+    ghost invariant = { λ r. IsKept r.script };
 }
 
 impl Replay {
@@ -49,52 +41,39 @@ impl Replay {
     pub fn new(alloc: Global) -> Result<Replay, NoMemory>
         ensures { IfOk result (λ replay. replay ≡ None) }
     {
-        let room = vec![in alloc; 0u8; ROOM]?;
-        let wide_room = vec![in alloc; 0u8; WIDE_ROOM]?;
+        let rooms = DatagramRooms::new(alloc)?;
         Ok(Replay {
             script: None,
-            room,
-            wide_room,
+            rooms,
         })
     }
 }
 
-/// Runs the first line, or a further one. Where memory runs out, nothing stands any more.
-fn any_line(
-    alloc: Global,
-    script: &mut Option<Script>,
-    room: &mut Vec<u8>,
-    wide_room: &mut Vec<u8>,
-    line: &[u8],
-    out: &mut Vec<u8>,
-) -> Result<Ran, Stop>
-    requires kept { IsKept script.old }
-    requires short { length line.now ≤ 20000 }
-    requires room { length room.old.items ≡ ROOM }
-    requires wide { length wide_room.old.items ≡ WIDE_ROOM }
-    requires empty { out.old.items ≡ [] }
-    ensures ran { (n : ℕ) → MatchResult result (λ ran. RunsAs script.old n line.now ran out.new.items script.new)
-        (λ stop. IfRefused stop (λ kind. RefusesAs script.old n line.now kind)) }
-    ensures kept { IsKept script.new }
-    ensures room { length room.new.items ≡ ROOM }
-    ensures wide { length wide_room.new.items ≡ WIDE_ROOM }
-{
-    match script {
-        Some(now) => match later_line(alloc, now, room, wide_room, line, out) {
-            Ok(ran) => Ok(ran),
-            Err(Stop::Refused(kind)) => Err(Stop::Refused(kind)),
-            Err(Stop::NoMemory) => {
-                *script = None;
-                Err(Stop::NoMemory)
-            }
-        },
-        None => match first_line(alloc, line) {
-            Ok(begun) => {
-                *script = Some(begun);
-                Ok(Ran::GoesOn)
-            }
-            Err(stop) => Err(stop),
-        },
+impl Headed for DatagramRooms {
+    type Script = Script;
+
+    type Came = Ran;
+
+    ghost is_kept = { λ _. IsKept };
+
+    ghost runs = { λ _ old n line ran out _ new. RunsAs old n line ran out new };
+
+    ghost refuses = { RefusesAs };
+
+    fn begin(&self, alloc: Global, line: &[u8]) -> Result<(Script, Ran), Stop> {
+        Ok((first_line(alloc, line)?, Ran::GoesOn))
+    }
+
+    fn go_on(
+        &mut self,
+        alloc: Global,
+        script: &mut Script,
+        _number: u32,
+        line: &[u8],
+        out: &mut Vec<u8>,
+    ) -> Result<Ran, Stop> {
+        let ran = later_line(alloc, script, self, line, out)?;
+        Ok(ran)
     }
 }
 
@@ -110,15 +89,7 @@ impl Machine for Replay {
         line: &[u8],
         out: &mut Vec<u8>,
     ) -> Result<Ran, Stop> {
-        let _number = number;
-        any_line(
-            alloc,
-            &mut self.script,
-            &mut self.room,
-            &mut self.wide_room,
-            line,
-            out,
-        )
+        run_headed(alloc, &mut self.rooms, &mut self.script, number, line, out)
     }
 }
 

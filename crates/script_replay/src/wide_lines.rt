@@ -10,6 +10,7 @@ ghost use Rattle.script_replay.specs.Widely.{DoesBytes};
 
 use crate::acquisition_lines::receive;
 use crate::adding::{run_adding, run_datagram};
+use crate::datagram_rooms::{DatagramRooms, ROOM};
 use crate::hex_digits::decode;
 use crate::running::Running;
 use crate::script::Script;
@@ -77,24 +78,22 @@ fn widen_bytes(script: &mut Script, bytes: &[u8], wide_room: &mut [u8])
 
 /// Runs a `d` line. The bytes of the datagram come into the room, and those with extended identifiers into
 /// the wide room.
-fn run_any_datagram(script: &mut Script, digits: &[u8], room: &mut Vec<u8>, wide_room: &mut Vec<u8>)
+fn run_any_datagram(script: &mut Script, digits: &[u8], room: &mut [u8], wide_room: &mut [u8])
     requires keeps { IsReplaying script.old.running }
-    requires fits { Fits (length room.old.items) digits.now }
-    requires wide { length room.old.items + 12 ≤ length wide_room.old.items }
-    ensures does { DoesLine (script_line.datagram digits.now) script.old [] script.new }
-    ensures room { length room.new.items ≡ length room.old.items }
-    ensures wide { length wide_room.new.items ≡ length wide_room.old.items }
+    requires fits { Fits (length room.old) digits.now }
+    requires wide { length room.old + 12 ≤ length wide_room.old }
+    ensures { DoesLine (script_line.datagram digits.now) script.old [] script.new }
 {
     if script.widening.version != 2 {
         run_datagram(&mut script.running, digits, room);
         return;
     }
-    let bytes = &mut room.as_mut_slice()[..digits.len() / 2];
+    let bytes = &mut room[..digits.len() / 2];
     decode(digits, bytes);
     let run = script.running.board.run();
     let top = script.widening.widener.top();
     if is_standard(script.widening.version, run, top, bytes) {
-        widen_bytes(script, bytes, wide_room.as_mut_slice());
+        widen_bytes(script, bytes, wide_room);
         return;
     }
     run_datagram(&mut script.running, digits, room);
@@ -104,63 +103,68 @@ fn run_any_datagram(script: &mut Script, digits: &[u8], room: &mut Vec<u8>, wide
 fn run_other(
     alloc: Global,
     script: &mut Script,
-    room: &mut Vec<u8>,
+    rooms: &mut DatagramRooms,
     line: Line<'_>,
     out: &mut Vec<u8>,
 ) -> Result<(), NoMemory>
     requires keeps { IsReplaying script.old.running }
-    requires run { IsRunIn (length room.old.items) (view line) }
+    requires run { IsRunIn ROOM (view line) }
     requires other { IsOther (view line) }
     requires empty { out.old.items ≡ [] }
-    ensures does { OnOk result (DoesLine (view line.entry) script.old out.new.items script.new) }
-    ensures room { length room.new.items ≡ length room.old.items }
+    ensures { OnOk result (DoesLine (view line.entry) script.old out.new.items script.new) }
 {
-    run_adding(alloc, &mut script.running, room, line, out)
+    run_adding(alloc, &mut script.running, rooms, line, out)
 }
 
 /// Runs the line of a moment. Requests are written in the standard form once a datagram was widened.
 fn run_tick(
     alloc: Global,
     script: &mut Script,
-    room: &mut Vec<u8>,
+    rooms: &mut DatagramRooms,
     moment: u64,
     out: &mut Vec<u8>,
 ) -> Result<(), NoMemory>
     requires keeps { IsReplaying script.old.running }
     requires empty { out.old.items ≡ [] }
-    ensures does { OnOk result (DoesLine (script_line.tick moment) script.old out.new.items script.new) }
-    ensures room { length room.new.items ≡ length room.old.items }
+    ensures { OnOk result (DoesLine (script_line.tick moment) script.old out.new.items script.new) }
 {
     if script.widening.widened {
         return tick_standard(alloc, script, moment, out);
     }
-    run_adding(alloc, &mut script.running, room, Line::Tick { moment }, out)
+    run_adding(
+        alloc,
+        &mut script.running,
+        rooms,
+        Line::Tick { moment },
+        out,
+    )
 }
 
 /// Runs a line that adds to the trace, or that is a refused datagram, and adds its report to the empty `out`.
 fn run_any(
     alloc: Global,
     script: &mut Script,
-    room: &mut Vec<u8>,
-    wide_room: &mut Vec<u8>,
+    rooms: &mut DatagramRooms,
     line: Line<'_>,
     out: &mut Vec<u8>,
 ) -> Result<(), NoMemory>
     requires keeps { IsReplaying script.old.running }
-    requires run { IsRunIn (length room.old.items) (view line) }
-    requires wide { length room.old.items + 12 ≤ length wide_room.old.items }
+    requires run { IsRunIn ROOM (view line) }
     requires empty { out.old.items ≡ [] }
-    ensures does { OnOk result (DoesLine (view line.entry) script.old out.new.items script.new) }
-    ensures room { length room.new.items ≡ length room.old.items }
-    ensures wide { length wide_room.new.items ≡ length wide_room.old.items }
+    ensures { OnOk result (DoesLine (view line.entry) script.old out.new.items script.new) }
 {
     match line {
         Line::Datagram { hex } => {
-            run_any_datagram(script, hex, room, wide_room);
+            run_any_datagram(
+                script,
+                hex,
+                rooms.room.as_mut_slice(),
+                rooms.wide_room.as_mut_slice(),
+            );
             Ok(())
         }
-        Line::Tick { moment } => run_tick(alloc, script, room, moment, out),
-        other => run_other(alloc, script, room, other, out),
+        Line::Tick { moment } => run_tick(alloc, script, rooms, moment, out),
+        other => run_other(alloc, script, rooms, other, out),
     }
 }
 
@@ -177,21 +181,17 @@ pub fn note_start(widening: &mut Widening, before: u8, after: u8)
 pub(crate) fn run_line(
     alloc: Global,
     script: &mut Script,
-    room: &mut Vec<u8>,
-    wide_room: &mut Vec<u8>,
+    rooms: &mut DatagramRooms,
     line: Line<'_>,
     out: &mut Vec<u8>,
 ) -> Result<(), NoMemory>
     requires keeps { IsReplaying script.old.running }
-    requires run { IsRunIn (length room.old.items) (view line) }
-    requires wide { length room.old.items + 12 ≤ length wide_room.old.items }
+    requires run { IsRunIn ROOM (view line) }
     requires empty { out.old.items ≡ [] }
-    ensures done { OnOk result (DoneLine (view line.entry) script.old out.new.items script.new) }
-    ensures room { length room.new.items ≡ length room.old.items }
-    ensures wide { length wide_room.new.items ≡ length wide_room.old.items }
+    ensures { OnOk result (DoneLine (view line.entry) script.old out.new.items script.new) }
 {
     let before = script.running.board.run();
-    run_any(alloc, script, room, wide_room, line, out)?;
+    run_any(alloc, script, rooms, line, out)?;
     let after = script.running.board.run();
     note_start(&mut script.widening, before, after);
     Ok(())

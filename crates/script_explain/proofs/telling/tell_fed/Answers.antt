@@ -4,7 +4,7 @@ use Rattle.std.proofs.Common.{sym, subst}
 use Rattle.script_explain.proofs.Started.{line_told}
 use Rattle.script_explain.proofs.telling.tell_fed.Goals as goal
 
-pub returns-clause-tells : goal.returns-clause-tells
-returns-clause-tells c =
+pub returns : goal.returns
+returns c =
     subst (λ kept. ToldLine (view c.args.line) c.args.script.now c.feed.new.out.items c.feed.new.tape.items (record { running = c.feed.new.script.running; widening = kept })) (sym c.note_start.ensures)
-    (line_told (view c.args.line) c.args.script.now c.feed.new.script c.feed.new.out.items c.feed.new.tape.items c.run-before.result c.run-after.result c.in_ok-feed.ensures.feeds c.run-before.ensures c.run-after.ensures)
+    (line_told (view c.args.line) c.args.script.now c.feed.new.script c.feed.new.out.items c.feed.new.tape.items c.run-before.result c.run-after.result c.in_ok-feed.ensures c.run-before.ensures c.run-after.ensures)
