@@ -24,7 +24,7 @@ use Rattle.gev_live.specs.LiveRun.{Numbers}
 use Rattle.run_promises.specs.Headline.{IsBlockOf}
 use Rattle.run_promises.proofs.Headlines.{runs_headline, blocks_frames}
 use Rattle.live_promises.specs.Promises.{packets_among}
-use Rattle.live_promises.proofs.Filling.{short_fills_nothing}
+use Rattle.live_promises.proofs.Keeping.{never_keeps}
 use Rattle.live_lanes.specs.Parts.{LanesShare}
 use Rattle.live_lanes.specs.LanesRun.{LanesRun}
 use Rattle.lanes_promises.specs.Promises.{acquirers_in, lanes_of, HoldsUnderOne, KeepsRun}
@@ -33,6 +33,7 @@ use Rattle.lanes_promises.proofs.Sending.{lane_sent}
 use Rattle.lanes_promises.proofs.Causing.{given_up}
 use Rattle.lanes_promises.proofs.Refusing.{refused_read}
 use Rattle.lanes_promises.proofs.Filling.{lanes_alone, is_lane, lanes_fill, lane_blocks, all_acquire, filled_all}
+use Rattle.lanes_promises.proofs.Accounts.{lanes_account}
 
 -- a lane's block under a map of frames
 one_framed : (mode : Mode) (frames : ℕ → Option Frame) (c : AcqConfig) (n k : ℕ) (lanes : List ℕ) (made : List ReaderTurn) (sides : List ReaderLane) (ends : List LaneEnd) (h : List Entry)
@@ -51,6 +52,7 @@ run_keeps n lanes camera stream answer o e written written_after faults faults_a
       (lanes_fill n.mode live_config lanes run.reader_part.made run.reader_part.sides_after h 0 run.crew.lanes run.reader_part.ends run.shares)
       (all_acquire (lanes_of run) run.crew.lanes h (is_lane n.mode live_config lanes run.reader_part.made run.reader_part.sides_after h 0 run.crew.lanes run.reader_part.ends run.shares)
       (lanes_alone n.mode n.buffers run.crew h run.history));
+  account = lanes_account n.mode live_config lanes run.reader_part.made run.reader_part.sides_after h n.buffers run.crew run.reader_part.ends run.shares run.history run.application_part.handed;
   handed = handed;
   framed = λ frames sent.
       all_weaker (IsBlockOf live_config (lanes_of run)) (HoldsUnderOne frames live_config (lanes_of run))
@@ -68,5 +70,4 @@ run_keeps n lanes camera stream answer o e written written_after faults faults_a
 
 pub lane_runs_keep : LaneRunsKeepPromises
 lane_runs_keep n lanes camera stream answer o e written written_after faults faults_after h (inl run) is_run = run_keeps n lanes camera stream answer o e written written_after faults faults_after h run
-lane_runs_keep n lanes camera stream answer o e written written_after faults faults_after h (inr never) is_run =
-    runs_headline live_config [] h (omega arith) is_run tt (short_fills_nothing n.buffers never.events h never.short never.seen)
+lane_runs_keep n lanes camera stream answer o e written written_after faults faults_after h (inr never) is_run = never_keeps n answer o e written written_after faults faults_after h never is_run

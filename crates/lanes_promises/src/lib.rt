@@ -7,8 +7,9 @@
 
 ghost use Rattle.lanes_promises.specs.Laws.{LaneRunsKeepPromises, LanesPacketsAreSent};
 
-/// Each live run with lanes keeps the headline, with the lanes as its acquirers; and each buffer that it handed out holds
-/// a block of one of them, and its frame where all datagrams were sent from one map of frames.
+/// Each live run with lanes keeps the headline, with the lanes as its acquirers, and what it handed out by that headline
+/// the application took; and each buffer that it handed out holds a block of one of them, and its frame where all
+/// datagrams were sent from one map of frames.
 pub fn lane_runs_keep_promises()
     ensures { LaneRunsKeepPromises }
 {}

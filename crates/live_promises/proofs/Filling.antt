@@ -1,5 +1,5 @@
 -- Nobody fills buffers but the reader.
-use Rattle.std.proofs.Common.{◌≡◌, inl, inr, ℕ, ◌==◌, Bool, true, false, cond, List, [], ◌∷◌, ◌++◌, Ok, refl, sym, subst, arith, eq-eqb}
+use Rattle.std.proofs.Common.{◌≡◌, inl, inr, ℕ, ◌==◌, Bool, true, false, cond, List, [], ◌∷◌, ◌++◌, Ok, refl, sym, ap, subst, ◌∙◌, arith, eq-eqb}
 use Rattle.std.specs.Prelude.{⊤, length}
 use Rattle.std.specs.List.{AllByRecursion}
 use Rattle.gentl_types.specs.declared.buffer_id.BufferId.{BufferId}
@@ -121,7 +121,21 @@ none_fills : (by : ℕ) (es : List Event) → AreEvents is_beginning es → Fill
 none_fills by [] are = tt
 none_fills by (e ∷ es) are = (none_fill by e are.0, none_fills by es are.1)
 
+fills_none : (event : Event) → is_beginning event ≡ true → filled_by event ≡ []
+fills_none (Fill i f filled) is = absurd (cc)
+fills_none _ is = refl
+
+none_filled : (by : ℕ) (es : List Event) → AreEvents is_beginning es → filled (entries_of by es) ≡ []
+none_filled by [] are = refl
+none_filled by (e ∷ es) are = ap (λ xs. xs ++ filled (entries_of by es)) (fills_none e are.0) ∙ none_filled by es are.1
+
+short_begins : (buffers : ℕ) (es : List Event) → FallsShort live_size buffers es → AreEvents is_beginning es
+short_begins buffers es short =
+    subst (AreEvents is_beginning) (sym short.is)
+    (both_are is_beginning short.prepared short.last (each_begin live_size short.ids short.prepared short.each) (last_begins short.last short.looks))
+
 pub short_fills_nothing : (buffers : ℕ) (es : List Event) (h : List Entry) → FallsShort live_size buffers es → h ≡ entries_of 0 es → FillsByAcquirers [] h
-short_fills_nothing buffers es h short seen =
-    subst (FillsByAcquirers []) (sym seen)
-    (none_fills 0 es (subst (AreEvents is_beginning) (sym short.is) (both_are is_beginning short.prepared short.last (each_begin live_size short.ids short.prepared short.each) (last_begins short.last short.looks))))
+short_fills_nothing buffers es h short seen = subst (FillsByAcquirers []) (sym seen) (none_fills 0 es (short_begins buffers es short))
+
+pub short_unfilled : (buffers : ℕ) (es : List Event) (h : List Entry) → FallsShort live_size buffers es → h ≡ entries_of 0 es → filled h ≡ []
+short_unfilled buffers es h short seen = ap filled seen ∙ none_filled 0 es (short_begins buffers es short)

@@ -1,8 +1,9 @@
 -- Each live run keeps its promises.
-use Rattle.std.proofs.Common.{inl, inr, ℕ, List, [], ◌∷◌, ◌++◌, Option, refl, sym, subst, arith}
+use Rattle.std.proofs.Common.{◌≡◌, inl, inr, ℕ, List, [], ◌∷◌, ◌++◌, Option, refl, sym, subst, arith}
 use Rattle.std.specs.List.{AllByRecursion}
 use Rattle.board_machine.specs.declared.events.Entry.{Entry}
-use Rattle.board_machine.specs.Handout.{every_actor, handed_items}
+use Rattle.board_machine.specs.Handout.{every_actor, filled, handed_items}
+use Rattle.board_machine.specs.Histories.{Run}
 use Rattle.acquisition_machine.specs.Machine.{Input, stop}
 use Rattle.acquisition_machine.specs.Runs.{first_state}
 use Rattle.acquisition_machine.proofs.Order.{all_weaker}
@@ -14,13 +15,14 @@ use Rattle.gev_status.specs.declared.status.Status.{Status}
 use Rattle.gev_acq.specs.Acquired.{inputs_in}
 use Rattle.script_trace.proofs.Handing.{taken_all}
 use Rattle.gev_live.specs.Told.{Told, live_config, reader_side}
-use Rattle.gev_live.specs.LiveRun.{Numbers, LiveRun}
+use Rattle.gev_live.specs.LiveRun.{Numbers, LiveRun, NeverRan}
 use Rattle.run_promises.specs.Headline.{HoldsUnder}
 use Rattle.run_promises.proofs.Headlines.{runs_headline, blocks_frames}
-use Rattle.live_promises.specs.Promises.{reader_of, KeepsRun}
+use Rattle.live_promises.specs.Promises.{reader_of, KeepsRun, KeepsNothing}
 use Rattle.live_promises.specs.Laws.{LiveRunsKeepPromises}
 use Rattle.live_promises.proofs.Sending.{inputs_sent, inputs_clean}
-use Rattle.live_promises.proofs.Filling.{reader_alone, alone_acquires, filled_own, short_fills_nothing}
+use Rattle.live_promises.proofs.Filling.{reader_alone, alone_acquires, filled_own, short_fills_nothing, short_unfilled}
+use Rattle.live_promises.proofs.Accounts.{reader_account, none_handed}
 use Rattle.live_promises.proofs.Causing.{has_causes}
 
 -- what is taken are the reader's blocks
@@ -40,6 +42,7 @@ run_keeps n camera stream answer o e written written_after faults faults_after h
   headline = runs_headline live_config (reader_of run ∷ []) h (omega arith) run.history.run
       (record { clean = inputs_clean live_config first_state run.reader_part.made; retired = run.reader_part.fills }, tt)
       (alone_acquires (reader_of run) h (reader_alone n.mode n.buffers run.crew h run.history));
+  account = reader_account n.mode n.buffers run.crew (reader_of run) h refl run.history run.application_part.handed;
   handed = handed;
   framed = λ frames sent.
       all_weaker (IsRetired live_config (reader_of run).inputs) (HoldsUnder frames live_config (reader_of run).inputs)
@@ -51,7 +54,17 @@ run_keeps n camera stream answer o e written written_after faults faults_after h
     handed : AllByRecursion (IsRetired live_config (reader_of run).inputs) (handed_items h)
     handed = run_handed n camera stream answer o e written written_after faults faults_after h run
 
+pub never_keeps : (n : Numbers) (answer : Status) (o e : Told) (written written_after : Option (List ℕ)) (faults faults_after : ℕ) (h : List Entry)
+    → NeverRan n answer o e written written_after faults faults_after h → Run h → KeepsNothing h
+never_keeps n answer o e written written_after faults faults_after h never is_run = record {
+  headline = runs_headline live_config [] h (omega arith) is_run tt (short_fills_nothing n.buffers never.events h never.short never.seen);
+  unfilled = unfilled;
+  untaken = none_handed h unfilled;
+}
+  where
+    unfilled : filled h ≡ []
+    unfilled = short_unfilled n.buffers never.events h never.short never.seen
+
 pub live_runs_keep : LiveRunsKeepPromises
 live_runs_keep n camera stream answer o e written written_after faults faults_after h (inl run) is_run = run_keeps n camera stream answer o e written written_after faults faults_after h run
-live_runs_keep n camera stream answer o e written written_after faults faults_after h (inr never) is_run =
-    runs_headline live_config [] h (omega arith) is_run tt (short_fills_nothing n.buffers never.events h never.short never.seen)
+live_runs_keep n camera stream answer o e written written_after faults faults_after h (inr never) is_run = never_keeps n answer o e written written_after faults faults_after h never is_run

@@ -1,4 +1,5 @@
 pub mod Sending
 pub mod Filling
+pub mod Accounts
 pub mod Causing
 pub mod Keeping

@@ -252,7 +252,7 @@ recorded_of n camera stream lived answer o e turns kept journal written written_
         unwritten = nothing.1;
         no_fault = nothing.2;
       };
-      headline = live_runs_keep n camera stream lived o e None None 0 0 h (inr never.0) is_run;
+      promises = live_runs_keep n camera stream lived o e None None 0 0 h (inr never.0) is_run;
     })
 
 -- the same, by the journal as the script's writer was shown it

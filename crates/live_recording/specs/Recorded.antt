@@ -14,11 +14,10 @@ use Rattle.gev_record.specs.Taped.{datagram_of}
 use Rattle.gev_record.specs.Writing.{noted}
 use Rattle.gev_acq.specs.declared.turn.Turn.{Turn}
 use Rattle.gev_acq.specs.Acquired.{answers_in}
-use Rattle.gev_live.specs.Told.{Told, live_config}
+use Rattle.gev_live.specs.Told.{Told}
 use Rattle.gev_live.specs.Endings.{is_told, FailsLast}
 use Rattle.gev_live.specs.LiveRun.{Numbers, LiveRun, NeverRan}
-use Rattle.run_promises.specs.Headline.{KeepsHeadline}
-use Rattle.live_promises.specs.Promises.{KeepsRun}
+use Rattle.live_promises.specs.Promises.{KeepsRun, KeepsNothing}
 use Rattle.live_recording.specs.Marks.{marks_in, mark_of}
 use Rattle.live_recording.specs.Replayed.{ReplaysFills}
 
@@ -57,10 +56,10 @@ pub record RecordedRun (n : Numbers) (camera stream : Address) (answer : Status)
   pub replays : o.stream.received ≡ Some [] → is_told answer ≡ true
       → ReplaysFills (script_of (noted heard (marks_in [] run.reader_part.made))) run.crew.application h
 
--- Memory was wanting before the workers began, and nobody filled a buffer.
+-- Memory was wanting before the workers began, and nobody filled or took a buffer.
 pub record RecordedNothing (n : Numbers) (answer : Status) (o e : Told) (written written_after : Option (List ℕ)) (faults faults_after : ℕ) (h : List Entry) : Type 0 where
   pub never : NeverRan n answer o e written written_after faults faults_after h
-  pub headline : KeepsHeadline live_config [] h
+  pub promises : KeepsNothing h
 
 abbrev pub RecordsLive : Numbers → Address → Address → Status → Told → Told → List (Option (List ℕ)) → Option (List ℕ) → Option (List ℕ) → ℕ → ℕ → List Entry → Type 0
 RecordsLive n camera stream answer o e kept written written_after faults faults_after h =
