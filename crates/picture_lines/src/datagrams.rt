@@ -95,12 +95,7 @@ fn run_datagram(
 
 /// Runs a `d` line with these hex digits, and notes the looks of the blocks that retire. The bytes of the datagram come
 /// into the room, and those with extended identifiers into the wide room.
-pub fn datagram(
-    script: &mut Script,
-    digits: &[u8],
-    rooms: &mut DatagramRooms,
-    looks: &mut Looks,
-)
+pub fn datagram(script: &mut Script, digits: &[u8], rooms: &mut DatagramRooms, looks: &mut Looks)
     requires keeps { IsReplaying script.old.running }
     requires fits { Fits ROOM digits.now }
     ensures { NotesLine (script_line.datagram digits.now) script.old looks.old script.new looks.new }

@@ -111,12 +111,7 @@ fn feed_said(
 }
 
 /// Runs a line that feeds the acquisition. The answer is whether it's one.
-fn feed(
-    script: &mut Script,
-    looks: &mut Looks,
-    rooms: &mut DatagramRooms,
-    line: &[u8],
-) -> bool
+fn feed(script: &mut Script, looks: &mut Looks, rooms: &mut DatagramRooms, line: &[u8]) -> bool
     requires keeps { IsReplaying script.old.running }
     requires short { length line.now ≤ 20000 }
     ensures keeps { IsReplaying script.new.running }
@@ -131,13 +126,7 @@ fn feed(
 }
 
 /// Runs any other line.
-fn call(
-    rt: &impl Abort,
-    alloc: Global,
-    script: &mut Script,
-    rooms: &mut DatagramRooms,
-    line: &[u8],
-)
+fn call(rt: &impl Abort, alloc: Global, script: &mut Script, rooms: &mut DatagramRooms, line: &[u8])
     requires keeps { IsReplaying script.old.running }
     requires short { length line.now ≤ 20000 }
     ensures keeps { IsReplaying script.new.running }
@@ -186,14 +175,7 @@ fn check_lines(
     for (line, look) in lines {
         let bytes = line.as_bytes();
         assert!(rt; bytes.len() <= 20_000);
-        run(
-            rt,
-            alloc,
-            &mut script,
-            &mut looks,
-            &mut rooms,
-            bytes,
-        );
+        run(rt, alloc, &mut script, &mut looks, &mut rooms, bytes);
         assert_eq!(rt; looks.at(0), *look, "{line}");
         assert_eq!(rt; looks.at(1), None, "{line}");
     }
