@@ -36,7 +36,7 @@ fn come_to_host(
     tools: &mut Tools,
 ) -> Result<Option<RunEnd>, NoMemory>
     requires between { IsBetween stage.old }
-    requires time { stage.old.moment + 10 < 2 ^ 64 }
+    requires time { stage.old.moment + ROUND_TIME < 2 ^ 64 }
     requires empty { tools.old.arriving ≡ [] }
     ensures comes { IfOk result (λ end. ComesToHost stage.old end stage.new) }
     ensures empty { OnOk result (tools.new.arriving ≡ []) }
@@ -186,7 +186,7 @@ pub(crate) fn round<K: Sink>(
 ) -> Result<Option<RunEnd>, Stop>
     requires world { HasWorld stage.old host.old }
     requires between { IsBetween stage.old }
-    requires time { stage.old.moment + 10 < 2 ^ 64 }
+    requires time { stage.old.moment + ROUND_TIME < 2 ^ 64 }
     requires empty { tools.old.arriving ≡ [] }
     ensures ends { (acts : List HostAct) (w : World Receiver) → Stands stage.old host.old acts w
         → EndsRound result (round (run_of stage.old) soak_host w) (with_host_round (run_of stage.old) soak_host w acts) stage.new host.new (K.written sink.old) (K.written sink.new) (K.faults sink.old) (K.faults sink.new) }
