@@ -32,7 +32,7 @@ pub use acquisition_lines::{receive, start};
 pub use answers::{line_done, line_refused};
 pub use beginning::{begin, first_line};
 pub use board_lines::{CALLER, announce, queue};
-pub use datagram_rooms::{DatagramRooms, ROOM};
+pub use datagram_rooms::{DatagramRooms, ROOM, WIDE_ROOM};
 pub use fill_counts::FillCounts;
 pub use got::Got;
 pub use hex_digits::decode;
