@@ -2,7 +2,7 @@ use crate::ended::Ended;
 use crate::ending::forget;
 use crate::giving::give;
 use crate::hearing::hear;
-use crate::making::start;
+use crate::making::first_window;
 use crate::retiring::{restart, stop};
 use crate::rounds::tick;
 use crate::waiting::{first_request, next_ended, next_fill, next_request};
@@ -59,7 +59,7 @@ impl Acq {
         ensures opens { IfOk result (λ acq. open_count acq ≡ 0) }
         ensures asked { IfOk result (λ acq. asked_block acq ≡ None) }
     {
-        let window = start(alloc, config)?;
+        let window = first_window(alloc, config)?;
         Ok(Acq { window })
     }
 

@@ -38,7 +38,7 @@ fn pairs(alloc: Global, window: u8) -> Result<Vec<Spare>, NoMemory>
 }
 
 /// The first state: no block is open, and the first may be block 1.
-pub(crate) fn start(alloc: Global, config: AcqConfig) -> Result<Window, NoMemory>
+pub(crate) fn first_window(alloc: Global, config: AcqConfig) -> Result<Window, NoMemory>
     requires { IsConfig config }
     ensures config { IfOk result (λ m. m.config ≡ config) }
     ensures acts { IfOk result (λ m. Acts m first_state) }

@@ -50,8 +50,8 @@ with_sign (Payload n) s = record s { payload = max s.payload n }
 with_sign Other s = s
 
 -- one more datagram of a stream, at this moment
-abbrev pub heard : ℕ → Sign → Stream → Stream
-heard moment found s = with_sign found (record s { datagrams = one_more s.datagrams; ended = moment })
+abbrev pub with_one_more : ℕ → Sign → Stream → Stream
+with_one_more moment found s = with_sign found (record s { datagrams = one_more s.datagrams; ended = moment })
 
 -- a stream whose first leader, of this block, comes at this moment, before it's counted
 abbrev pub blank : Peer → Peer → ℕ → ℕ → Stream
@@ -74,14 +74,14 @@ blank sender receiver moment block = record {
 }
 
 abbrev pub begun : Peer → Peer → ℕ → Bool → ℕ → LeaderInfo → Stream
-begun sender receiver moment extended block info = heard moment (Leader extended block info) (blank sender receiver moment block)
+begun sender receiver moment extended block info = with_one_more moment (Leader extended block info) (blank sender receiver moment block)
 
 -- ---- the table
 
 -- the streams with one more datagram of the one at this place
-abbrev pub with_heard : ℕ → ℕ → Sign → Option Stream → List Stream → List Stream
-with_heard place moment found None streams = streams
-with_heard place moment found (Some s) streams = slice_set streams place (heard moment found s)
+abbrev pub with_one_more_at : ℕ → ℕ → Sign → Option Stream → List Stream → List Stream
+with_one_more_at place moment found None streams = streams
+with_one_more_at place moment found (Some s) streams = slice_set streams place (with_one_more moment found s)
 
 -- one leader more of a stream that isn't listed
 abbrev pub with_unlisted : Counts → Counts
@@ -98,7 +98,7 @@ with_new sender receiver moment Other t = t
 -- by the place of the pair's stream, if there is one
 abbrev pub with_datagram : Option ℕ → Peer → Peer → ℕ → Sign → TableState → TableState
 with_datagram (Some place) sender receiver moment found t =
-    record { streams = with_heard place moment found (slice_get t.streams place) t.streams; counts = t.counts }
+    record { streams = with_one_more_at place moment found (slice_get t.streams place) t.streams; counts = t.counts }
 with_datagram None sender receiver moment found t = with_new sender receiver moment found t
 
 abbrev pub with_carried : Carried → ℕ → TableState → TableState

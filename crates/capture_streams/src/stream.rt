@@ -1,6 +1,6 @@
 ghost use Rattle.std.specs.Prelude.{◌≡◌, ◌&&◌, ◌||◌, not, max};
 ghost use Rattle.gev_links.specs.Given.{one_more};
-ghost use Rattle.capture_streams.specs.Streams.{same_peer, is_between, with_leader, with_sign, heard, blank, begun};
+ghost use Rattle.capture_streams.specs.Streams.{same_peer, is_between, with_leader, with_sign, with_one_more, blank, begun};
 
 use crate::sign::Sign;
 use gev_types::Peer;
@@ -118,8 +118,8 @@ impl Stream {
     }
 
     /// The stream with one more datagram, at this moment.
-    pub(crate) fn heard(self, moment: u64, sign: Sign) -> Stream
-        ensures { result ≡ heard moment sign self }
+    pub(crate) fn with_one_more(self, moment: u64, sign: Sign) -> Stream
+        ensures { result ≡ with_one_more moment sign self }
     {
         let counted = Stream {
             datagrams: one_more(self.datagrams),
@@ -140,7 +140,7 @@ impl Stream {
     ) -> Stream
         ensures { result ≡ begun sender receiver moment extended block info }
     {
-        Stream::blank(sender, receiver, moment, block).heard(
+        Stream::blank(sender, receiver, moment, block).with_one_more(
             moment,
             Sign::Leader(extended, block, info),
         )

@@ -2,7 +2,7 @@ ghost use Rattle.std.specs.Prelude.{◌≡◌, ◌≤◌, ◌+◌, length, posit
 ghost use Rattle.gev_capture.specs.Contents.{seen_as, IsShort};
 ghost use Rattle.gev_capture.specs.Sightings.{Sighting};
 ghost use Rattle.capture_streams.specs.Signs.{sign};
-ghost use Rattle.capture_streams.specs.Streams.{is_between, with_heard, with_new, with_carried, empty_table, counted};
+ghost use Rattle.capture_streams.specs.Streams.{is_between, with_one_more_at, with_new, with_carried, empty_table, counted};
 
 use crate::counts::Counts;
 use crate::sign::Sign;
@@ -48,14 +48,14 @@ fn place_of(streams: &[Stream], sender: Peer, receiver: Peer) -> Option<usize>
 }
 
 /// One more datagram of the stream at this place.
-fn hear_at(streams: &mut Vec<Stream>, place: usize, moment: u64, sign: Sign)
-    ensures heard { streams.new.items ≡ with_heard place moment sign (slice_get streams.old.items place) streams.old.items }
+fn count_at(streams: &mut Vec<Stream>, place: usize, moment: u64, sign: Sign)
+    ensures counted { streams.new.items ≡ with_one_more_at place moment sign (slice_get streams.old.items place) streams.old.items }
     ensures room { vec_capacity streams.new ≡ vec_capacity streams.old }
 {
     let Some(stream) = streams.get(place).copied() else {
         return;
     };
-    streams[place] = stream.heard(moment, sign);
+    streams[place] = stream.with_one_more(moment, sign);
 }
 
 impl Table {
@@ -86,7 +86,7 @@ impl Table {
     }
 
     /// A datagram of a pair that is no stream yet.
-    fn hear_new(&mut self, sender: Peer, receiver: Peer, moment: u64, sign: Sign)
+    fn count_new(&mut self, sender: Peer, receiver: Peer, moment: u64, sign: Sign)
         ensures { self.new ≡ with_new sender receiver moment sign self.old }
     {
         let Sign::Leader(extended, block, info) = sign else {
@@ -101,14 +101,14 @@ impl Table {
     }
 
     /// One more datagram.
-    fn hear(&mut self, sender: Peer, receiver: Peer, moment: u64, bytes: &[u8])
+    fn count_datagram(&mut self, sender: Peer, receiver: Peer, moment: u64, bytes: &[u8])
         requires { length bytes.now ≤ 65527 }
         ensures { self.new ≡ with_carried (record { sender = sender; receiver = receiver; bytes = bytes.now }) moment self.old }
     {
         let sign = sign(bytes, self.room.as_mut_slice());
         match place_of(self.streams.as_slice(), sender, receiver) {
-            Some(place) => hear_at(&mut self.streams, place, moment, sign),
-            None => self.hear_new(sender, receiver, moment, sign),
+            Some(place) => count_at(&mut self.streams, place, moment, sign),
+            None => self.count_new(sender, receiver, moment, sign),
         }
     }
 
@@ -123,7 +123,7 @@ impl Table {
                 sender,
                 receiver,
                 bytes,
-            } => self.hear(sender, receiver, moment, bytes),
+            } => self.count_datagram(sender, receiver, moment, bytes),
             Content::Other => {}
             Content::Fragment => {}
             Content::Cut => {}

@@ -165,7 +165,7 @@ fn add_last(
 }
 
 /// A receiver that heard nothing yet.
-fn start(alloc: Global) -> Result<Player, NoMemory>
+fn new_player(alloc: Global) -> Result<Player, NoMemory>
     ensures { IfOk result (λ player. StandsIn player none_used first_state) }
 {
     Player::new(alloc, LIVE, BUFFER_SIZE)
@@ -187,7 +187,7 @@ pub fn write_script<L: Link, K: Sink>(
         (script_of (noted tape.now.kept marks.now)) }
 {
     let mut text = Vec::new(alloc);
-    let mut player = start(alloc)?;
+    let mut player = new_player(alloc)?;
     let mut used = NONE_USED;
     write_first(alloc, &mut text, sink)?;
     write_turns(alloc, &mut player, &mut used, tape, marks, &mut text, sink)?;
