@@ -4,7 +4,7 @@
 //! `specs/Trace.antt` says what a trace is, and `specs/Adding.antt` what each line adds to it, by the
 //! files on the lines: `BoardLines`, `StreamLines`, `HandleLines` and `StepLines`. `specs/Standing.antt`
 //! says which lines of a script are run, in which order, and which are refused; `specs/Ending.antt` has
-//! the last line of the report. `specs/Laws.antt` says what holds of every trace. No code of this crate
+//! the last lines of the report. `specs/Laws.antt` says what holds of every trace. No code of this crate
 //! runs: the functions carry the laws.
 #![tactic(auto)]
 
