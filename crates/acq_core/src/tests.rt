@@ -333,7 +333,11 @@ fn asks_for_packets_of_the_largest_image(rt: HostRuntime) -> Result<(), Fail> {
         rt.alloc(),
         "000000008200000000000000000000010001f07e0000000100002000",
     )?;
-    let mut acq = Acq::new(rt.alloc(), ONE_BLOCK)?;
+    let one_round = AcqConfig {
+        rounds: 1,
+        ..ONE_BLOCK
+    };
+    let mut acq = Acq::new(rt.alloc(), one_round)?;
     let buffer = Some((0, Buf::new(rt.alloc(), 67_108_864)?));
     assert_eq!(rt;
         tell_quietly(&rt, &mut acq, &leader, buffer),

@@ -83,12 +83,28 @@ fn scripts(rt: HostRuntime) -> Result<(), Fail> {
             ending: Ending::Done,
             report: b"a 1 8001123500000001\na 1 800e008300000002\nend executed=0\n",
         },
-        // A packet of a block that wasn't sent yet, and a frame while the channel is closed.
+        // A packet of a block that wasn't sent yet.
+        Row {
+            script: b"\
+            gevacq-camera 1\n\
+            c 1 420100820008000100000a0000000002\n\
+            c 1 420100820008000200000d000000c000\n\
+            c 1 42100040001400030000000000000003000000030000000000000001\n\
+            end\n",
+            ending: Ending::Done,
+            report: b"\
+            a 1 000000830004000100000001\n\
+            a 1 000000830004000200000001\n\
+            s 49152 8010000083000000000000000000000100000003\n\
+            end executed=2\n",
+        },
+        // The same, and frames while the channel is closed.
         Row {
             script: b"\
             gevacq-camera 1\n\
             frame\n\
             c 1 420100820008000100000a0000000002\n\
+            frame\n\
             c 1 420100820008000200000d000000c000\n\
             c 1 42100040001400030000000000000003000000030000000000000001\n\
             end\n",
@@ -96,6 +112,7 @@ fn scripts(rt: HostRuntime) -> Result<(), Fail> {
             report: b"\
             frame closed\n\
             a 1 000000830004000100000001\n\
+            frame closed\n\
             a 1 000000830004000200000001\n\
             s 49152 8010000083000000000000000000000100000003\n\
             end executed=2\n",

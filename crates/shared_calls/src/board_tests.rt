@@ -423,21 +423,24 @@ fn both_boards_flush_alike(rt: HostRuntime) -> Result<(), Fail> {
     run_calls(&rt, rt.alloc(), &rows)
 }
 
-// The stream is closed between a claim and its fill.
+// The stream is closed between a claim and its fill, by GenTL's call and by the mark alone.
 #[test]
 fn both_boards_close_alike(rt: HostRuntime) -> Result<(), Fail> {
-    let rows = [
-        announce(0, 1),
-        (Call::Queue(id(0, 1)), Ok(Answer::Done)),
-        (Call::Work(Work::Claim), Ok(Answer::Claimed(Some(0)))),
-        (Call::Close, Ok(Answer::Done)),
-        (Call::Work(Work::Fill), Ok(Answer::Closed)),
-        (Call::Work(Work::Lay), Ok(Answer::Done)),
-        (Call::Get, Err(-1006)),
-        (Call::Queue(id(0, 1)), Err(-1006)),
-        (Call::Revoke(id(0, 1)), Ok(Answer::Revoked(3))),
-    ];
-    run_calls(&rt, rt.alloc(), &rows)
+    for close in [Call::Close, Call::Mark] {
+        let rows = [
+            announce(0, 1),
+            (Call::Queue(id(0, 1)), Ok(Answer::Done)),
+            (Call::Work(Work::Claim), Ok(Answer::Claimed(Some(0)))),
+            (close, Ok(Answer::Done)),
+            (Call::Work(Work::Fill), Ok(Answer::Closed)),
+            (Call::Work(Work::Lay), Ok(Answer::Done)),
+            (Call::Get, Err(-1006)),
+            (Call::Queue(id(0, 1)), Err(-1006)),
+            (Call::Revoke(id(0, 1)), Ok(Answer::Revoked(3))),
+        ];
+        run_calls(&rt, rt.alloc(), &rows)?;
+    }
+    Ok(())
 }
 
 /// The worker gets the buffer of place 0 to where these rows leave it. There a queue and a revoke are refused, and

@@ -83,6 +83,24 @@ fn a_write_fails(rt: HostRuntime) -> Result<(), Fail> {
     Ok(())
 }
 
+/// Where the first read fails, or the first write, nothing is written of an empty script's report.
+#[test]
+fn the_first_call_fails(rt: HostRuntime) -> Result<(), Fail> {
+    let alloc = rt.alloc();
+    let words = word_list(alloc, &["replay"])?;
+    let script = b"gevacq 1 528 1 1000 100 2\nend\n";
+    for (read, write, answer) in [(1, 100, Status::ReadFault), (100, 1, Status::WriteFault)] {
+        let failing_reads = [read];
+        let failing_writes = [write];
+        let mut source = MemorySource::new(script, 1000, &failing_reads);
+        let mut sink = MemorySink::new(alloc, 1000, &failing_writes);
+        let status = plain_top(alloc, &words, &mut source, &mut sink);
+        assert_eq!(rt; status, answer);
+        assert!(rt; sink.written().is_empty());
+    }
+    Ok(())
+}
+
 /// A sink that takes nothing.
 #[test]
 fn nothing_is_taken(rt: HostRuntime) -> Result<(), Fail> {

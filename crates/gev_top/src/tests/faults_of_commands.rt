@@ -77,6 +77,27 @@ fn check_reads<R: Abort>(
     Ok(())
 }
 
+/// Each read up to the line that takes the pictured buffer fails in turn, and nothing is written.
+fn check_image_reads<R: Abort>(rt: &R, alloc: Global) -> Result<(), Fail> {
+    let words = word_list(alloc, &["image", "1"])?;
+    for failing in 1..=100 {
+        let failing = [failing];
+        let mut source = MemorySource::new(SCRIPT.as_bytes(), 13, &failing);
+        let mut sink = MemorySink::new(alloc, 1000, &[]);
+        let status = plain_top(alloc, &words, &mut source, &mut sink);
+        if status == Status::Done {
+            assert!(rt; failing[0] > 1);
+            assert_eq!(rt; sink.written(), PICTURE.as_bytes(), "{failing:?}");
+            assert_eq!(rt; source.faults(), 0);
+            return Ok(());
+        }
+        assert_eq!(rt; status, Status::ReadFault, "{failing:?}");
+        assert_eq!(rt; source.faults(), 1);
+        assert!(rt; sink.written().is_empty(), "{failing:?}");
+    }
+    Err(Fail::new("no run came to its end"))
+}
+
 /// Neither a source nor a sink fails unseen, whichever the call is.
 #[test]
 fn each_command_tells_of_faults(rt: HostRuntime) -> Result<(), Fail> {
@@ -91,6 +112,7 @@ fn each_command_tells_of_faults(rt: HostRuntime) -> Result<(), Fail> {
     check_writes(&rt, alloc, &["explain"], SCRIPT.as_bytes(), EXPLANATION)?;
     check_reads(&rt, alloc, &["explain"], SCRIPT.as_bytes(), EXPLANATION)?;
     check_writes(&rt, alloc, &["image", "1"], SCRIPT.as_bytes(), PICTURE)?;
+    check_image_reads(&rt, alloc)?;
     let script = CAMERA_SCRIPT.as_bytes();
     check_writes(&rt, alloc, &["camera"], script, CAMERA_REPORT)?;
     check_reads(&rt, alloc, &["camera"], script, CAMERA_REPORT)?;
