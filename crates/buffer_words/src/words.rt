@@ -69,7 +69,7 @@ impl Board {
     }
 
     /// A grab's exchange: the number found, which is the one that was read where the grab is done.
-    fn take_held(&self, seat: &mut Seat, place: u8, number: u64) -> u64
+    fn grab_held(&self, seat: &mut Seat, place: u8, number: u64) -> u64
         requires table { seat.old.table_id ≡ board_id self.now }
         requires idle { IsIdle seat.old.me }
         requires in_range { place < place_count }
@@ -99,7 +99,7 @@ impl Board {
         if !is_held_as(word, generation) {
             return Err(word);
         }
-        let found = self.take_held(seat, place, number);
+        let found = self.grab_held(seat, place, number);
         if found == number {
             Ok(())
         } else {
@@ -176,7 +176,7 @@ impl Board {
     }
 
     /// An enrol's exchange: the number found, which is the one that was read where the enrol is done.
-    fn take_vacant<J: Asked>(&self, seat: &mut Seat, place: u8, number: u64, size: u32) -> u64
+    fn enrol_vacant<J: Asked>(&self, seat: &mut Seat, place: u8, number: u64, size: u32) -> u64
         requires table { seat.old.table_id ≡ board_id self.now }
         requires idle { IsIdle seat.old.me }
         requires in_range { place < place_count }
@@ -214,7 +214,7 @@ impl Board {
         if !can_enrol(word) {
             return Some(Err(word));
         }
-        let found = self.take_vacant::<Brand>(seat, place, number, size);
+        let found = self.enrol_vacant::<Brand>(seat, place, number, size);
         if found == number {
             Some(Ok(word.generation + 1))
         } else {

@@ -46,7 +46,7 @@ fn count_output(board: &Board, pass: &mut Pass) -> u64
 }
 
 /// IS_GRABBING: 1 where the run word is 1, else 0.
-fn tell_grabbing(board: &Board, pass: &mut Pass) -> u64
+fn grabbing_value(board: &Board, pass: &mut Pass) -> u64
     requires table { pass.old.table ≡ board_id board.now }
     ensures entries { EntersOf pass.old (TellsGrabbing result) pass.new }
     ensures hands { SameHands pass.old pass.new }
@@ -73,14 +73,14 @@ pub fn ds_info(board: &Board, pass: &mut Pass, which: u32) -> Result<u64, GcErro
     match which {
         3 => Ok(count_announced(board, pass)),
         5 => Ok(count_output(board, pass)),
-        8 => Ok(tell_grabbing(board, pass)),
+        8 => Ok(grabbing_value(board, pass)),
         1000 => Ok(count_pool(board, pass)),
         _ => Err(GcError::NotAvailable(which)),
     }
 }
 
 /// 1 where one of the two queues has the place, else 0.
-fn tell_among(place: u8, pooled: &[u8], output: &[u8]) -> u64
+fn among_value(place: u8, pooled: &[u8], output: &[u8]) -> u64
     ensures { IsOneWhere result (1 ≤ times place pooled.now + times place output.now) }
 {
     if pooled.contains(&place) {
@@ -90,14 +90,14 @@ fn tell_among(place: u8, pooled: &[u8], output: &[u8]) -> u64
 }
 
 /// Whether the pool, at its look, or then the output, at its look, has the place: 1, else 0.
-fn tell_queued(board: &Board, pass: &mut Pass, place: u8) -> u64
+fn queued_value(board: &Board, pass: &mut Pass, place: u8) -> u64
     requires table { pass.old.table ≡ board_id board.now }
     ensures entries { EntersOf pass.old (LooksForPlace place result) pass.new }
     ensures hands { SameHands pass.old pass.new }
 {
     let pooled = board.look_pool(pass);
     let (output, _closed) = board.look_out(pass);
-    tell_among(place, pooled.as_slice(), output.as_slice())
+    among_value(place, pooled.as_slice(), output.as_slice())
 }
 
 /// DSGetBufferInfo: 1 SIZE in bytes, and 1000, a value of this project's own, 1 where the pool or
@@ -122,7 +122,7 @@ pub fn ds_buffer_info(
     }
     match which {
         1 => Ok(u64::from(word.size)),
-        1000 => Ok(tell_queued(board, pass, id.place)),
+        1000 => Ok(queued_value(board, pass, id.place)),
         _ => Err(GcError::NotAvailable(which)),
     }
 }

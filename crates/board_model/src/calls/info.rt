@@ -47,7 +47,7 @@ impl PlainBoard {
     }
 
     /// IS_GRABBING: 1 where the run word is 1.
-    pub(crate) fn tell_grabbing(&mut self, actor: u8) -> u64
+    pub(crate) fn grabbing_value(&mut self, actor: u8) -> u64
         requires actor { IsActor self.old.board actor }
         ensures entries { AddsOf self.old.board actor (TellsGrabbing result) self.new.board }
         ensures contents { self.new.contents ≡ self.old.contents }
@@ -74,14 +74,14 @@ impl PlainBoard {
         match which {
             3 => Ok(self.count_announced(actor)),
             5 => Ok(self.count_output(actor)),
-            8 => Ok(self.tell_grabbing(actor)),
+            8 => Ok(self.grabbing_value(actor)),
             1000 => Ok(self.count_pool(actor)),
             _ => Err(GcError::NotAvailable(which)),
         }
     }
 
     /// Whether the pool, at its look, or the output, at its look, has the place: 1, else 0.
-    pub(crate) fn tell_queued(&mut self, actor: u8, place: u8) -> u64
+    pub(crate) fn queued_value(&mut self, actor: u8, place: u8) -> u64
         requires actor { IsActor self.old.board actor }
         ensures entries { AddsOf self.old.board actor (LooksForPlace place result) self.new.board }
         ensures contents { self.new.contents ≡ self.old.contents }
@@ -114,7 +114,7 @@ impl PlainBoard {
         }
         match which {
             1 => Ok(u64::from(word.size)),
-            1000 => Ok(self.tell_queued(actor, id.place)),
+            1000 => Ok(self.queued_value(actor, id.place)),
             _ => Err(GcError::NotAvailable(which)),
         }
     }

@@ -28,7 +28,7 @@ fn lowest_of(number: u64) -> u8
 }
 
 /// Puts the places of a sweep in front of those that a pass has.
-pub(crate) fn take_on(held: &mut ArrayVec<u8, 15>, places: &ArrayVec<u8, 15>)
+pub(crate) fn prepend(held: &mut ArrayVec<u8, 15>, places: &ArrayVec<u8, 15>)
     requires room { length places.now.items + length held.old.items ≤ 15 }
     ensures { held.new.items ≡ places.now.items ++ held.old.items }
 {
@@ -52,7 +52,7 @@ impl Board {
             return Tried::Did(None);
         }
         let place = lowest_of(number);
-        let found = self.take_pooled::<Brand>(&mut pass.seat, number, place);
+        let found = self.claim_pooled::<Brand>(&mut pass.seat, number, place);
         if found != number {
             return Tried::Lost {
                 loaded: number,
@@ -70,8 +70,8 @@ impl Board {
         ensures rising { IsRising result.items }
         ensures hands { GetsAll result.items pass.old pass.new }
     {
-        let places = self.take_pool(&mut pass.seat);
-        take_on(&mut pass.held, &places);
+        let places = self.sweep_pool_word(&mut pass.seat);
+        prepend(&mut pass.held, &places);
         places
     }
 }

@@ -8,7 +8,7 @@ ghost use Rattle.buffer_words.specs.Tries.{IfDid, IfLost, LostTo};
 ghost use Rattle.buffer_words.specs.Output.{SeesOut};
 ghost use Rattle.buffer_words.specs.Handing.{HandsOne, DidFill};
 
-use crate::calls::claim::take_on;
+use crate::calls::claim::prepend;
 use crate::pass::{Pass, bring};
 use crate::steps::output::{first_place, is_marked};
 use crate::tried::Tried;
@@ -42,8 +42,8 @@ impl Board {
         ensures entry { Enters pass.old (event.SweepOut result.items) pass.new }
         ensures hands { GetsAll result.items pass.old pass.new }
     {
-        let places = self.take_all_out(&mut pass.seat);
-        take_on(&mut pass.held, &places);
+        let places = self.sweep_out_word(&mut pass.seat);
+        prepend(&mut pass.held, &places);
         places
     }
 

@@ -116,12 +116,12 @@ impl Board {
         ensures hands { Has place gone pass.old pass.new }
     {
         let buf = self.lift(pass, place);
-        self.give_up(pass, place);
+        self.vacate_lifted(pass, place);
         buf
     }
 
     /// Makes a place in hand Vacant, which is lifted.
-    fn give_up(&self, pass: &mut Pass, place: u8)
+    fn vacate_lifted(&self, pass: &mut Pass, place: u8)
         requires table { pass.old.table ≡ board_id self.now }
         requires holds { IsLifted pass.old place }
         ensures entry { Enters pass.old (event.Vacate place) pass.new }

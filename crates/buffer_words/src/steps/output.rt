@@ -94,7 +94,7 @@ impl Board {
     }
 
     /// Takes the buffers of all of the output's places in hand: the places, first in first.
-    pub(crate) fn take_all_out(&self, seat: &mut Seat) -> ArrayVec<u8, 15>
+    pub(crate) fn sweep_out_word(&self, seat: &mut Seat) -> ArrayVec<u8, 15>
         requires table { seat.old.table_id ≡ board_id self.now }
         requires idle { IsIdle seat.old.me }
         ensures table { seat.new.table_id ≡ seat.old.table_id }

@@ -90,7 +90,7 @@ impl Board {
     }
 
     /// A claim's exchange: the number found, which is the one that was read where the claim is done.
-    pub(crate) fn take_pooled<J: Asked>(&self, seat: &mut Seat, number: u64, place: u8) -> u64
+    pub(crate) fn claim_pooled<J: Asked>(&self, seat: &mut Seat, number: u64, place: u8) -> u64
         requires table { seat.old.table_id ≡ board_id self.now }
         requires idle { IsIdle seat.old.me }
         requires in_range { place < place_count }
@@ -107,7 +107,7 @@ impl Board {
     }
 
     /// Takes the buffers of all of the pool's places in hand: the places, lowest first.
-    pub(crate) fn take_pool(&self, seat: &mut Seat) -> ArrayVec<u8, 15>
+    pub(crate) fn sweep_pool_word(&self, seat: &mut Seat) -> ArrayVec<u8, 15>
         requires table { seat.old.table_id ≡ board_id self.now }
         requires idle { IsIdle seat.old.me }
         ensures table { seat.new.table_id ≡ seat.old.table_id }

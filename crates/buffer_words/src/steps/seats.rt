@@ -62,8 +62,8 @@ impl Board {
         self.cut(seat)
     }
 
-    /// Takes another pass in, whose actor is still to be ended.
-    fn take_in(&self, seat: &mut Seat, other: Seat)
+    /// Joins another seat to this one, whose actor is still to be ended.
+    fn join_seat(&self, seat: &mut Seat, other: Seat)
         requires table { seat.old.table_id ≡ board_id self.now }
         requires same { other.table_id ≡ board_id self.now }
         requires idle { IsIdle seat.old.me }
@@ -76,7 +76,7 @@ impl Board {
         self.table.shared.join_seat::<Meet>(seat, other);
     }
 
-    /// A join's load: ends the actor of the pass that was taken in.
+    /// A join's load: ends the actor of the seat that was joined.
     fn finish(&self, seat: &mut Seat)
         requires table { seat.old.table_id ≡ board_id self.now }
         requires joining { IsJoining seat.old.me }
@@ -98,7 +98,7 @@ impl Board {
         ensures table { seat.new.table_id ≡ seat.old.table_id }
         ensures met { HasMet seat.old.me other.me.0 seat.new.me }
     {
-        self.take_in(seat, other);
+        self.join_seat(seat, other);
         self.finish(seat);
     }
 }

@@ -18,7 +18,7 @@ returns-in-1-clause-entries c =
 
 pub returns-in-1000-clause-entries : goal.returns-in-1000-clause-entries
 returns-in-1000-clause-entries c =
-    told_queued _ _ _ _ c.args.which c.tell_queued.result c.args.id c.load-word.result c.in-1000.is (omega arith) c.if-is_gone.ensures c.load-word.ensures.step c.tell_queued.ensures.entries
+    told_queued _ _ _ _ c.args.which c.queued_value.result c.args.id c.load-word.result c.in-1000.is (omega arith) c.if-is_gone.ensures c.load-word.ensures.step c.queued_value.ensures.entries
 
 pub returns-in_default-clause-entries : goal.returns-in_default-clause-entries
 returns-in_default-clause-entries c =

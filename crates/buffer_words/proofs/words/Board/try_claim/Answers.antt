@@ -16,33 +16,33 @@ returns-then-number-eq0-clause-hands c =
 
 pub invariant_of-pass-then-found-number : goal.invariant_of-pass-then-found-number
 invariant_of-pass-then-found-number c =
-    try_lost_pass _ _ _ _ _ _ _ c.pass.invariant (c.see_pool-number.ensures.some c.if-number-eq0.false) (c.take_pooled-found.ensures.lost c.if-found-number.true)
+    try_lost_pass _ _ _ _ _ _ _ c.pass.invariant (c.see_pool-number.ensures.some c.if-number-eq0.false) (c.claim_pooled-found.ensures.lost c.if-found-number.true)
 
 pub returns-then-found-number-clause-lost : goal.returns-then-found-number-clause-lost
 returns-then-found-number-clause-lost c =
-    try_lost _ _ _ _ _ _ _ _ _ _ c.pass.view_is c.pass.invariant (c.take_pooled-found.ensures.table ∙ c.see_pool-number.ensures.table)
-    (c.see_pool-number.ensures.some c.if-number-eq0.false) (c.take_pooled-found.ensures.lost c.if-found-number.true) c.if-found-number.true
+    try_lost _ _ _ _ _ _ _ _ _ _ c.pass.view_is c.pass.invariant (c.claim_pooled-found.ensures.table ∙ c.see_pool-number.ensures.table)
+    (c.see_pool-number.ensures.some c.if-number-eq0.false) (c.claim_pooled-found.ensures.lost c.if-found-number.true) c.if-found-number.true
 
 pub insert-requires : goal.insert-requires
 insert-requires c =
-    let told = try_done _ _ _ _ _ _ _ (c.see_pool-number.ensures.some c.if-number-eq0.false) (c.take_pooled-found.ensures.done c.if-found-number.false) in
+    let told = try_done _ _ _ _ _ _ _ (c.see_pool-number.ensures.some c.if-number-eq0.false) (c.claim_pooled-found.ensures.done c.if-found-number.false) in
     let now = room_of _ _ _ (buffer_pass _ _ _ _ _ c.pass.invariant told (λ b. refl)) in
     (search rules, (omega arith, omega (arith, now)))
 
 pub invariant_of-pass-2 : goal.invariant_of-pass-2
 invariant_of-pass-2 c =
-    let told = try_done _ _ _ _ _ _ _ (c.see_pool-number.ensures.some c.if-number-eq0.false) (c.take_pooled-found.ensures.done c.if-found-number.false) in
-    subst (λ (l : List ℕ). IsPass l c.take_pooled-found.new.seat.me.0 c.take_pooled-found.new.seat.me.1) (sym c.insert.ensures.items)
+    let told = try_done _ _ _ _ _ _ _ (c.see_pool-number.ensures.some c.if-number-eq0.false) (c.claim_pooled-found.ensures.done c.if-found-number.false) in
+    subst (λ (l : List ℕ). IsPass l c.claim_pooled-found.new.seat.me.0 c.claim_pooled-found.new.seat.me.1) (sym c.insert.ensures.items)
     (buffer_pass _ _ _ _ _ c.pass.invariant told (λ b. refl))
 
 pub returns-clause-entry : goal.returns-clause-entry
 returns-clause-entry c =
-    let told = try_done _ _ _ _ _ _ _ (c.see_pool-number.ensures.some c.if-number-eq0.false) (c.take_pooled-found.ensures.done c.if-found-number.false) in
-    subst (λ (s : Token). Enters s (event.Claim (Some c.lowest_of-place.result)) (token c.take_pooled-found.new.seat.table_id c.take_pooled-found.new.seat.me)) c.pass.view_is
-    (enters_seat _ _ _ _ _ (c.take_pooled-found.ensures.table ∙ c.see_pool-number.ensures.table) told.takes.entered)
+    let told = try_done _ _ _ _ _ _ _ (c.see_pool-number.ensures.some c.if-number-eq0.false) (c.claim_pooled-found.ensures.done c.if-found-number.false) in
+    subst (λ (s : Token). Enters s (event.Claim (Some c.lowest_of-place.result)) (token c.claim_pooled-found.new.seat.table_id c.claim_pooled-found.new.seat.me)) c.pass.view_is
+    (enters_seat _ _ _ _ _ (c.claim_pooled-found.ensures.table ∙ c.see_pool-number.ensures.table) told.takes.entered)
 
 pub returns-clause-hands : goal.returns-clause-hands
 returns-clause-hands c =
-    let told = try_done _ _ _ _ _ _ _ (c.see_pool-number.ensures.some c.if-number-eq0.false) (c.take_pooled-found.ensures.done c.if-found-number.false) in
-    subst (λ (s : Token). Gets c.lowest_of-place.result s (token c.take_pooled-found.new.seat.table_id c.take_pooled-found.new.seat.me)) c.pass.view_is
+    let told = try_done _ _ _ _ _ _ _ (c.see_pool-number.ensures.some c.if-number-eq0.false) (c.claim_pooled-found.ensures.done c.if-found-number.false) in
+    subst (λ (s : Token). Gets c.lowest_of-place.result s (token c.claim_pooled-found.new.seat.table_id c.claim_pooled-found.new.seat.me)) c.pass.view_is
     (takes_gets _ _ _ _ _ _ _ c.lowest_of-place.ensures.in_range c.pass.invariant.carries told (buffer_pass _ _ _ _ _ c.pass.invariant told (λ b. refl)))

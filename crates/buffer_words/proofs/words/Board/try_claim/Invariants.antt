@@ -1,4 +1,4 @@
 use Rattle.buffer_words.proofs.words.Board.try_claim.Given as goal
 
-abbrev pub ghosts-take_pooled : goal.ghosts-take_pooled
-ghosts-take_pooled a = record { number = a.place }
+abbrev pub ghosts-claim_pooled : goal.ghosts-claim_pooled
+ghosts-claim_pooled a = record { number = a.place }

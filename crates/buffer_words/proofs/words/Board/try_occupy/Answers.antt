@@ -6,10 +6,10 @@ use Rattle.buffer_words.proofs.words.Board.try_occupy.Goals as goal
 
 pub returns-then-found-number-clause-done : goal.returns-then-found-number-clause-done
 returns-then-found-number-clause-done c =
-    enrol_done _ _ _ _ _ _ _ _ c.word_of-word.ensures c.if-not-can_enrol.ensures c.seek_vacancy-number.ensures.found c.take_vacant-found.ensures.done c.if-found-number.true
+    enrol_done _ _ _ _ _ _ _ _ c.word_of-word.ensures c.if-not-can_enrol.ensures c.seek_vacancy-number.ensures.found c.enrol_vacant-found.ensures.done c.if-found-number.true
 
 pub returns-else-found-number-clause-lost : goal.returns-else-found-number-clause-lost
 returns-else-found-number-clause-lost c =
     enrol_lost _ _ _ _ _ _ _ c.word_of-word.ensures c.if-not-can_enrol.ensures
     (c.seek_vacancy-number.ensures.found (subst (λ (w : Word). CanEnrol w) c.word_of-word.ensures c.if-not-can_enrol.ensures))
-    (c.take_vacant-found.ensures.lost c.if-found-number.false) c.if-found-number.false
+    (c.enrol_vacant-found.ensures.lost c.if-found-number.false) c.if-found-number.false

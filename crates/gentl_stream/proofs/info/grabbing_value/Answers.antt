@@ -1,6 +1,6 @@
 use Rattle.std.proofs.Common.{refl, inl, inr}
 use Rattle.buffer_words.proofs.Several.{of_one}
-use Rattle.gentl_stream.proofs.info.tell_grabbing.Goals as goal
+use Rattle.gentl_stream.proofs.info.grabbing_value.Goals as goal
 
 pub returns-then-look_run-eq1-clause-entries : goal.returns-then-look_run-eq1-clause-entries
 returns-then-look_run-eq1-clause-entries c =

@@ -3,7 +3,7 @@ use Rattle.board_machine.specs.declared.events.Event.TheVariants as event
 use Rattle.buffer_words.specs.Swept.{TakesAll}
 use Rattle.buffer_words.proofs.Fields.{one_fields}
 use Rattle.buffer_words.proofs.Outs.{sweeps_out}
-use Rattle.buffer_words.proofs.words.Board.take_all_out.Goals as goal
+use Rattle.buffer_words.proofs.words.Board.sweep_out_word.Goals as goal
 
 pub fetch_and-requires : goal.fetch_and-requires
 fetch_and-requires c = (c.requires.table, search rules, sweeps_out _ _ _ _ c.requires.idle refl)

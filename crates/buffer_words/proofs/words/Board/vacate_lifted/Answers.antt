@@ -2,7 +2,7 @@ use Rattle.std.proofs.Common.{refl}
 use Rattle.buffer_words.proofs.Turns.{slot_some}
 use Rattle.buffer_words.proofs.Carried.{carries_single}
 use Rattle.buffer_words.proofs.Handling.{lifted_some, below_of, brought_nothing, gave}
-use Rattle.buffer_words.proofs.words.Board.give_up.Goals as goal
+use Rattle.buffer_words.proofs.words.Board.vacate_lifted.Goals as goal
 
 pub bring-requires-clause-single : goal.bring-requires-clause-single
 bring-requires-clause-single c = carries_single _ _ _ c.pass.invariant.carries

@@ -2,7 +2,7 @@ use Rattle.std.proofs.Common.{rules, arith, ℕ, ◌+◌, ◌∙◌, ap}
 use Rattle.gentl_types.specs.declared.word.Word.{Word}
 use Rattle.buffer_words.specs.Codes.{code}
 use Rattle.buffer_words.proofs.Own.{enrols, away_word}
-use Rattle.buffer_words.proofs.words.Board.take_vacant.Goals as goal
+use Rattle.buffer_words.proofs.words.Board.enrol_vacant.Goals as goal
 
 pub compare_exchange-requires : goal.compare_exchange-requires
 compare_exchange-requires g c = (

@@ -1,5 +1,5 @@
 use Rattle.board_model.proofs.CallsInfo.{tells_grabbing, tells_idle}
-use Rattle.board_model.proofs.board.PlainBoard.tell_grabbing.Goals as goal
+use Rattle.board_model.proofs.board.PlainBoard.grabbing_value.Goals as goal
 
 pub returns-then-look_run-eq1-clause-entries : goal.returns-then-look_run-eq1-clause-entries
 returns-then-look_run-eq1-clause-entries c = tells_grabbing _ _ _ c.look_run.result c.if-look_run-eq1.true c.look_run.ensures.step

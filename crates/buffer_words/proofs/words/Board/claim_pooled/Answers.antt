@@ -2,7 +2,7 @@ use Rattle.std.proofs.Common.{rules, ◌∙◌, ◌≡◌, ap, subst, sym, ◌^�
 use Rattle.std.specs.Int.{bit_at}
 use Rattle.buffer_words.proofs.Bits.{bit_small}
 use Rattle.buffer_words.proofs.Pools.{claims}
-use Rattle.buffer_words.proofs.words.Board.take_pooled.Goals as goal
+use Rattle.buffer_words.proofs.words.Board.claim_pooled.Goals as goal
 
 pub compare_exchange-requires : goal.compare_exchange-requires
 compare_exchange-requires g c = (

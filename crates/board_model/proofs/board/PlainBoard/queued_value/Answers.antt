@@ -2,7 +2,7 @@ use Rattle.std.proofs.Common.{◌≡◌, refl, sym, inl, inr, arith}
 use Rattle.board_machine.specs.Places.{times}
 use Rattle.board_machine.proofs.Places.{any_times, none_times}
 use Rattle.board_model.proofs.CallsInfo.{looked_for, is_one, is_zero}
-use Rattle.board_model.proofs.board.PlainBoard.tell_queued.Goals as goal
+use Rattle.board_model.proofs.board.PlainBoard.queued_value.Goals as goal
 
 pub returns-then-contains-clause-entries : goal.returns-then-contains-clause-entries
 returns-then-contains-clause-entries c =

@@ -1,6 +1,6 @@
 use Rattle.std.proofs.Common.{sym, refl, inl, inr, arith}
 use Rattle.board_machine.proofs.Places.{any_times, none_times}
-use Rattle.gentl_stream.proofs.info.tell_among.Goals as goal
+use Rattle.gentl_stream.proofs.info.among_value.Goals as goal
 
 pub returns-then-contains : goal.returns-then-contains
 returns-then-contains c = inl (refl, omega (arith, any_times c.args.place c.args.pooled.now (sym c.if-contains.ensures.value)))

@@ -3,7 +3,7 @@ use Rattle.board_machine.specs.declared.events.Event.TheVariants as event
 use Rattle.buffer_words.specs.Swept.{TakesAll}
 use Rattle.buffer_words.proofs.Bits.{one_pool}
 use Rattle.buffer_words.proofs.Sweeps.{sweeps}
-use Rattle.buffer_words.proofs.words.Board.take_pool.Goals as goal
+use Rattle.buffer_words.proofs.words.Board.sweep_pool_word.Goals as goal
 
 pub swap-requires : goal.swap-requires
 swap-requires c = (c.requires.table, search rules, sweeps _ _ _ c.requires.idle)
