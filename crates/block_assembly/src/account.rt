@@ -129,7 +129,7 @@ fn lost_in(assembly: &Progress) -> Lost
 }
 
 /// The account of the block.
-pub(crate) fn told(assembly: &Progress) -> Account
+pub(crate) fn account_of(assembly: &Progress) -> Account
     requires sound { IsSound assembly.now }
     requires stands { (ks : List StreamPacket) × IsAssembly assembly.now ks }
     ensures { (ks : List StreamPacket) → IsAssembly assembly.now ks

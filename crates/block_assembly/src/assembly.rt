@@ -11,7 +11,7 @@ ghost use Rattle.block_assembly.specs.Assembly.{AssemblyStands, block_of};
 ghost use Rattle.block_assembly.specs.Accounts.{account_of};
 ghost use Rattle.block_assembly.specs.Verdicts.{IsRead, verdict_of};
 
-use crate::account::{Account, told};
+use crate::account::{Account, account_of};
 use crate::completing::{completes, top};
 use crate::judging::judge;
 use crate::keeping::act;
@@ -117,7 +117,7 @@ impl Assembly {
         ensures { (p b size : ℕ) (heard : List StreamPacket) → AssemblyStands self.now p b size heard
             → result ≡ account_of p size (kept p b heard) }
     {
-        told(&self.progress)
+        account_of(&self.progress)
     }
 
     /// The ids of the packets that were kept.

@@ -53,7 +53,7 @@ impl<'a> Link for DiscardingLink<'a> {
     }
 
     fn recv(&mut self, out: &mut [u8]) -> Result<Option<(usize, Peer)>, Failed> {
-        Ok(self.receptions.take(out))
+        Ok(self.receptions.answer_into(out))
     }
 
     fn peer(&self) -> Peer {

@@ -125,7 +125,7 @@ impl<'a> Link for MemoryLink<'a> {
             self.faults = self.faults.saturating_add(1);
             return Err(Failed);
         }
-        Ok(self.receptions.take(out))
+        Ok(self.receptions.answer_into(out))
     }
 
     fn peer(&self) -> Peer {

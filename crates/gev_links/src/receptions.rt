@@ -48,7 +48,7 @@ impl<'a> Receptions<'a> {
     }
 
     /// Answers a receive by the next member of the list, cut to the slice.
-    pub(crate) fn take(&mut self, out: &mut [u8]) -> Option<(usize, Peer)>
+    pub(crate) fn answer_into(&mut self, out: &mut [u8]) -> Option<(usize, Peer)>
         ensures count { IfSome result (λ datagram. datagram.0 ≤ length out.old) }
         ensures told { Tells self.old self.new (answer_of (Ok result) out.new) }
     {

@@ -6,6 +6,7 @@ ghost use Rattle.gev_script.specs.Fields.{most_u32, most_u64, number_after, next
 use crate::kind::ScriptKind;
 use crate::numbers::{number_in, u8_in, u32_of};
 use crate::parts::{next_part, one_part, two_parts};
+use gev_types::{MAX_PAYLOAD_SIZE, MAX_RECEIVED_PAYLOAD_SIZE};
 
 /// What separates words.
 pub(crate) const SPACE: u8 = b' ';
@@ -22,7 +23,11 @@ pub(crate) fn most_p(version: u64) -> u64
     ensures value { result ≡ most_p version }
     ensures few { result ≤ 8964 }
 {
-    if version == 2 { 8964 } else { 8952 }
+    if version == 2 {
+        u64::from(MAX_RECEIVED_PAYLOAD_SIZE)
+    } else {
+        u64::from(MAX_PAYLOAD_SIZE)
+    }
 }
 
 /// The one word that is left, as a number.

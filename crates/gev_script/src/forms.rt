@@ -12,6 +12,7 @@ use crate::kind::ScriptKind;
 use crate::line::Line;
 use crate::numbers::{hex_of, number_in, u8_in, u32_of};
 use crate::parts::{first_part, next_part, no_part, one_part, two_parts};
+use gev_types::MIN_PAYLOAD_SIZE;
 
 /// The block timeout, the age of requests and their rounds, the last numbers of a header.
 fn times_of(rest: Option<&[u8]>) -> Result<(u32, u32, u8), ScriptKind>
@@ -28,7 +29,7 @@ fn header_fields(rest: Option<&[u8]>) -> Result<Line<'_>, ScriptKind>
     ensures { seen result ≡ header_fields (parts_after 32 (option_map (λ r. r.now) rest.entry)) }
 {
     let (version, rest) = next_number(1, 2, rest)?;
-    let (p, rest) = next_number(528, most_p(version), rest)?;
+    let (p, rest) = next_number(u64::from(MIN_PAYLOAD_SIZE), most_p(version), rest)?;
     let (window, rest) = next_number(1, 4, rest)?;
     let (timeout, age, rounds) = times_of(rest)?;
     Ok(Line::Header {

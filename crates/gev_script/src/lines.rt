@@ -4,7 +4,7 @@ ghost use Rattle.gev_script.specs.Streams.{Nexts, Keeps};
 ghost use Rattle.gev_script.specs.Window.{numbered};
 
 use crate::line_end::LineEnd;
-use crate::window::{Window, take_line};
+use crate::window::{Window, hold_next_line};
 use gev_links::Source;
 use gev_types::NoMemory;
 use std::alloc::Global;
@@ -58,7 +58,7 @@ impl Lines {
         if let Some(end) = self.refusal {
             return Err(end);
         }
-        let taken = take_line(&mut self.window, source);
+        let taken = hold_next_line(&mut self.window, source);
         match numbered(self.given, taken) {
             Ok(number) => {
                 self.given = number;

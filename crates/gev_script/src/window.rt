@@ -187,8 +187,8 @@ fn read_from<S: Source>(source: &mut S, room: &mut [u8], end: usize) -> Result<u
     source.read(&mut room[end..])
 }
 
-/// Takes the next line, and reads only while the bytes that are held have none and aren't too long.
-pub(crate) fn take_line<S: Source>(window: &mut Window, source: &mut S) -> Result<(), LineEnd>
+/// Holds the next line, and reads only while the bytes that are held have none and aren't too long.
+pub(crate) fn hold_next_line<S: Source>(window: &mut Window, source: &mut S) -> Result<(), LineEnd>
     requires { length window.old.held ≤ 32768 }
     ensures takes { Takes result window.old window.new (S.left source.old) (S.left source.new) (S.faults source.old) (S.faults source.new) }
     ensures steady { result ≢ Err LineEnd.ReadFault → S.faults source.new ≡ S.faults source.old }

@@ -38,7 +38,7 @@ fn datagram_of(alloc: Global, channel: Channel, bytes: &[u8]) -> Result<Datagram
 }
 
 /// Puts a datagram at the end, or just before the last entry if it's swapped.
-fn place(items: &mut VecDeque<Datagram>, swapped: bool, datagram: Datagram)
+fn enqueue(items: &mut VecDeque<Datagram>, swapped: bool, datagram: Datagram)
     requires { deque_len items.old < deque_capacity items.old }
     ensures placed { items.new.items ≡ placed swapped datagram items.old.items }
     ensures len { deque_len items.new ≡ deque_len items.old + 1 }
@@ -57,7 +57,7 @@ fn place(items: &mut VecDeque<Datagram>, swapped: bool, datagram: Datagram)
     }
 }
 
-fn place_once(
+fn put_once(
     items: &mut VecDeque<Datagram>,
     swapped: bool,
     datagram: Datagram,
@@ -66,11 +66,11 @@ fn place_once(
     ensures same { OnErr result (items.new.items ≡ items.old.items) }
 {
     items.reserve(1)?;
-    place(items, swapped, datagram);
+    enqueue(items, swapped, datagram);
     Ok(())
 }
 
-fn place_twice(
+fn put_twice(
     items: &mut VecDeque<Datagram>,
     swapped: bool,
     datagram: Datagram,
@@ -80,8 +80,8 @@ fn place_twice(
     ensures same { OnErr result (items.new.items ≡ items.old.items) }
 {
     items.reserve(2)?;
-    place(items, swapped, datagram);
-    place(items, swapped, again);
+    enqueue(items, swapped, datagram);
+    enqueue(items, swapped, again);
     Ok(())
 }
 
@@ -111,12 +111,12 @@ impl LossyQueue {
             Fate::Lost => Ok(()),
             Fate::Once { swapped } => {
                 let datagram = datagram_of(self.alloc, channel, bytes)?;
-                place_once(&mut self.items, swapped, datagram)
+                put_once(&mut self.items, swapped, datagram)
             }
             Fate::Twice { swapped } => {
                 let datagram = datagram_of(self.alloc, channel, bytes)?;
                 let again = datagram_of(self.alloc, channel, bytes)?;
-                place_twice(&mut self.items, swapped, datagram, again)
+                put_twice(&mut self.items, swapped, datagram, again)
             }
         }
     }

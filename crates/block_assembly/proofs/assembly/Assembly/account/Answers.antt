@@ -1,5 +1,5 @@
 use Rattle.block_assembly.proofs.Accepts.{sound}
 use Rattle.block_assembly.proofs.assembly.Assembly.account.Goals as goal
 
-pub told-requires-clause-sound : goal.told-requires-clause-sound
-told-requires-clause-sound c = sound c.self.inside.progress c.self.invariant
+pub account_of-requires-clause-sound : goal.account_of-requires-clause-sound
+account_of-requires-clause-sound c = sound c.self.inside.progress c.self.invariant

@@ -1,7 +1,7 @@
 -- Behind the list one more nothing is told.
 use Rattle.std.proofs.Common.{arith}
 use Rattle.gev_links.proofs.Receiving.{silence_told}
-use Rattle.gev_links.proofs.receptions.Receptions.take.Goals as goal
+use Rattle.gev_links.proofs.receptions.Receptions.answer_into.Goals as goal
 
 pub returns-then-place-self-clause-told : goal.returns-then-place-self-clause-told
 returns-then-place-self-clause-told c =

@@ -1,5 +1,5 @@
 use Rattle.block_assembly.proofs.Told.{account_is}
-use Rattle.block_assembly.proofs.account.told.Goals as goal
+use Rattle.block_assembly.proofs.account.account_of.Goals as goal
 
 pub returns : goal.returns
 returns c ks s =

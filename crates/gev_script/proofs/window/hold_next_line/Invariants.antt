@@ -1,6 +1,6 @@
 use Rattle.std.proofs.Common.{◌≡◌, ◌-◌, ◌≤◌, length}
 use Rattle.gev_script.proofs.Windows.{Came}
-use Rattle.gev_script.proofs.window.take_line.Given as goal
+use Rattle.gev_script.proofs.window.hold_next_line.Given as goal
 
 abbrev pub invariant-loop-window : goal.invariant-loop-window
 invariant-loop-window g l = record {

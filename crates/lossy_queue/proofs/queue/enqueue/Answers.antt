@@ -1,7 +1,7 @@
 use Rattle.std.proofs.Common.{List, [], ◌∷◌, ◌++◌, ap, sym, ◌∙◌}
 use Rattle.lossy_queue.specs.declared.datagram.Datagram.{Datagram}
 use Rattle.lossy_queue.proofs.Places.{placed_before}
-use Rattle.lossy_queue.proofs.queue.place.Goals as goal
+use Rattle.lossy_queue.proofs.queue.enqueue.Goals as goal
 
 pub returns-in-Some-clause-placed : goal.returns-in-Some-clause-placed
 returns-in-Some-clause-placed c =
