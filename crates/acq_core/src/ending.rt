@@ -26,8 +26,8 @@ fn held(hold: &Hold) -> Option<Held>
     }
 }
 
-/// The floor as it is told.
-fn told_floor(floor: Option<u64>) -> Option<u64>
+/// The floor as it is shown.
+fn shown_floor(floor: Option<u64>) -> Option<u64>
     ensures { result ≡ shown (floor_of floor) }
 {
     floor
@@ -39,14 +39,14 @@ fn ended(slot: &Slot, floor: Option<u64>, cause: Cause) -> Ended
 {
     Ended {
         block: slot.block,
-        floor: told_floor(floor),
+        floor: shown_floor(floor),
         cause,
         held: held(&slot.hold),
     }
 }
 
-/// Tells of the block that retires, if that is wanted.
-pub(crate) fn tell(window: &mut Window, slot: &Slot, cause: Cause)
+/// Lists the end of the block that retires, if that is wanted.
+pub(crate) fn list_end(window: &mut Window, slot: &Slot, cause: Cause)
     requires { vec_len window.old.ends < vec_capacity window.old.ends }
     ensures ends { (p : ℕ) (o : Open) → SlotStands p slot.now o
         → window.new.ends.items ≡ window.old.ends.items ++ told_end window.old.telling (end_of p (floor_of window.old.floor) cause o) }

@@ -43,7 +43,7 @@ fn count_underrun(counts: &mut Counts, answer: &Option<(u8, Buf)>)
 }
 
 /// The bitmaps for one more block.
-fn take_spare(spare: &mut Vec<Spare>) -> Spare
+fn next_spare(spare: &mut Vec<Spare>) -> Spare
     requires some { 0 < vec_len spare.old }
     requires wide { AllByRecursion IsWide spare.old.items }
     ensures wide { IsWide result }
@@ -101,7 +101,7 @@ fn open(window: &mut Window, block: u64, answer: Option<(u8, Buf)>)
     ensures room { HasRoom window.new }
 {
     count_underrun(&mut window.counts, &answer);
-    let spare = take_spare(&mut window.spare);
+    let spare = next_spare(&mut window.spare);
     let slot = Slot {
         block,
         hold: hold(spare, block, window.config.p, answer),

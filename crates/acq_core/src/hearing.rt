@@ -17,7 +17,7 @@ use crate::counting::count;
 use crate::ended::Cause;
 use crate::retiring::{retire_first, settle};
 use crate::slot::Slot;
-use crate::slots::told_at;
+use crate::slots::tell_slot;
 use crate::window::Window;
 use acquisition_machine::{Need, Why};
 use block_image::does_fit;
@@ -71,7 +71,7 @@ fn tell_at(window: &mut Window, at: usize, packet: &Packet<'_>) -> Need
 {
     let p = window.config.p;
     let moment = window.moment;
-    told_at(&mut window.slots[at], p, packet, moment)
+    tell_slot(&mut window.slots[at], p, packet, moment)
 }
 
 /// In a full window the lowest block gives its place.

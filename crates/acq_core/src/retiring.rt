@@ -10,7 +10,7 @@ ghost use Rattle.acq_core.specs.Turning.{Gives};
 ghost use Rattle.acq_core.specs.Retiring.{ChangesSlots, RetiresFirst, RetiresAll};
 
 use crate::ended::Cause;
-use crate::ending::tell;
+use crate::ending::list_end;
 use crate::slots::{due_cause, release};
 use crate::window::Window;
 
@@ -26,7 +26,7 @@ pub(crate) fn retire_first(window: &mut Window, cause: Cause)
     ensures room { HasRoom window.new }
 {
     let slot = window.slots.remove(0);
-    tell(window, &slot, cause);
+    list_end(window, &slot, cause);
     window.floor = slot.block.checked_add(1);
     release(
         slot.hold,

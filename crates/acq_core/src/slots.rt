@@ -91,8 +91,8 @@ fn need(verdict: Verdict) -> Need
     }
 }
 
-/// The packet came for the slot's block; gives the answer to it.
-fn told(slot: &mut Slot, p: u32, packet: &Packet<'_>) -> Need
+/// Tells what the slot holds a packet of its block; gives the answer to it.
+fn tell_hold(slot: &mut Slot, p: u32, packet: &Packet<'_>) -> Need
     requires stands { IsSlot p slot.old }
     requires read { IsRead (view packet.now) }
     requires of_block { (head_of (view packet.now)).block ≡ slot.old.block }
@@ -105,15 +105,15 @@ fn told(slot: &mut Slot, p: u32, packet: &Packet<'_>) -> Need
     }
 }
 
-/// Takes a packet of the slot's block at this moment, and answers it.
-pub(crate) fn told_at(slot: &mut Slot, p: u32, packet: &Packet<'_>, moment: u64) -> Need
+/// Tells the slot a packet of its block at this moment; gives the answer to it.
+pub(crate) fn tell_slot(slot: &mut Slot, p: u32, packet: &Packet<'_>, moment: u64) -> Need
     requires stands { IsSlot p slot.old }
     requires read { IsRead (view packet.now) }
     requires of_block { (head_of (view packet.now)).block ≡ slot.old.block }
     ensures need { (o : Open) → SlotStands p slot.old o → result ≡ need_in p o (view packet.now) }
     ensures stands { (o : Open) → SlotStands p slot.old o → SlotStands p slot.new (heard_in moment p o (view packet.now)) }
 {
-    let need = told(slot, p, packet);
+    let need = tell_hold(slot, p, packet);
     if need == Need::Done {
         slot.last = moment;
     }

@@ -76,8 +76,8 @@ fn is_nothing(kind: io::ErrorKind) -> bool {
     )
 }
 
-/// Takes a datagram that is there.
-fn take(socket: &UdpSocket, out: &mut [u8]) -> Result<Option<(usize, Peer)>, Failed>
+/// Receives a datagram that waits, if there is one.
+fn receive_waiting(socket: &UdpSocket, out: &mut [u8]) -> Result<Option<(usize, Peer)>, Failed>
     ensures { IfOk result (λ came. IfSome came (λ datagram. datagram.0 ≤ length out.old)) }
 {
     match socket.recv_from(out) {
@@ -152,10 +152,10 @@ impl Link for UdpLink {
     }
 
     fn recv(&mut self, out: &mut [u8]) -> Result<Option<(usize, Peer)>, Failed> {
-        let mut looked = take(&self.socket, out);
+        let mut looked = receive_waiting(&self.socket, out);
         if self.waits && is_none(&looked) {
             wait(&self.socket);
-            looked = take(&self.socket, out);
+            looked = receive_waiting(&self.socket, out);
         }
         match looked {
             Ok(came) => Ok(came),

@@ -6,8 +6,8 @@ use Rattle.acq_core.specs.Giving.{given_as}
 use Rattle.acq_core.proofs.Opening.{some_spare, opens_gives}
 use Rattle.acq_core.proofs.giving.open.Goals as goal
 
-pub take_spare-spare-requires-clause-some : goal.take_spare-spare-requires-clause-some
-take_spare-spare-requires-clause-some c = some_spare c.args.window.now c.args.block c.requires.acts c.requires.room c.requires.asked
+pub next_spare-spare-requires-clause-some : goal.next_spare-spare-requires-clause-some
+next_spare-spare-requires-clause-some c = some_spare c.args.window.now c.args.block c.requires.acts c.requires.room c.requires.asked
 
 pub returns-clause-gives : goal.returns-clause-gives
 returns-clause-gives c s acts sound =

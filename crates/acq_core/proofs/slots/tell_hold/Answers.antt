@@ -2,7 +2,7 @@ use Rattle.std.proofs.Common.{ap, ◌∙◌}
 use Rattle.gvsp_wire.specs.View.{view}
 use Rattle.acq_core.specs.Hearing.{need_of_verdict}
 use Rattle.acq_core.proofs.Judging.{need_stands}
-use Rattle.acq_core.proofs.slots.told.Goals as goal
+use Rattle.acq_core.proofs.slots.tell_hold.Goals as goal
 
 pub returns-in-With-clause-need : goal.returns-in-With-clause-need
 returns-in-With-clause-need c o s =
