@@ -1,4 +1,5 @@
-//! The workers of a live run: what a reader, a camera and an application do on the board that they share.
+//! The acquisition's side of a live run, on the board that threads share: a receiver that is served
+//! through a pass, and the reader's turns over two links.
 #![tactic(auto)]
 
 mod acquiring; // all turns of the reader

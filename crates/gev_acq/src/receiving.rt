@@ -16,8 +16,8 @@ use gev_links::Gate;
 use mode_calls::Mode;
 use std::sync::Wait;
 
-/// Gives a datagram to the receiver. What retires is filled. Where the receiver asks for a buffer, one is
-/// claimed, and the datagram is given once more.
+/// Tells the receiver a datagram. What retires is filled. Where the receiver asks for a buffer, one is
+/// claimed, and the datagram is told once more.
 pub fn receive<R: Wait, G: Gate>(
     rt: &R,
     board: &Board,
@@ -38,10 +38,10 @@ pub fn receive<R: Wait, G: Gate>(
     ensures backs { Backs pass.new (buffers acq.new) }
     ensures alone { HoldsAlone pass.old (buffers acq.old) → HoldsAlone pass.new (buffers acq.new) }
 {
-    match tell(rt, board, pass, acq, gate, bytes, mode) {
+    match fill_what_retires(rt, board, pass, acq, gate, bytes, mode) {
         Need::Buffer(block) => {
             let claim = claim_one(rt, board, pass, acq, mode);
-            let kept = is_done(tell(rt, board, pass, acq, gate, bytes, mode));
+            let kept = is_done(fill_what_retires(rt, board, pass, acq, gate, bytes, mode));
             Heard {
                 kept,
                 opened: block,
@@ -71,8 +71,8 @@ fn is_done(need: Need) -> bool
     }
 }
 
-/// Gives a datagram to the receiver once, and fills what retires.
-fn tell<R: Wait, G: Gate>(
+/// Tells the receiver a datagram, and fills what retires. The answer is what the datagram needs.
+fn fill_what_retires<R: Wait, G: Gate>(
     rt: &R,
     board: &Board,
     pass: &mut Pass,

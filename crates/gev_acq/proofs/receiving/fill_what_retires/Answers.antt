@@ -2,7 +2,7 @@
 use Rattle.std.proofs.Common.{refl}
 use Rattle.acquisition_machine.specs.Machine.{datagram}
 use Rattle.gev_acq.proofs.Serves.{serves_filled}
-use Rattle.gev_acq.proofs.receiving.tell.Goals as goal
+use Rattle.gev_acq.proofs.receiving.fill_what_retires.Goals as goal
 
 pub returns-clause-tells : goal.returns-clause-tells
 returns-clause-tells g c = record {
