@@ -23,12 +23,16 @@ use Rattle.acquisition_notes.proofs.Reasoned.{notes_are_reasoned}
 use Rattle.acquisition_notes.proofs.OfInputs.{IsOfInput, notes_are_of_inputs}
 use Rattle.script_trace.specs.Trace.{Trace}
 use Rattle.script_trace.specs.Opening.{opening}
+use Rattle.script_trace.specs.Ending.{filled_blocks}
+use Rattle.script_trace.proofs.BlockFills.{opening_agrees}
 use Rattle.script_trace.specs.Wide.{Wide, nothing_wide, meaning, kept_behind}
 use Rattle.script_trace.specs.Standing.{Standing, running, config_of}
 use Rattle.script_trace.specs.Standing.{first as at_first}
 use Rattle.script_notes.specs.LineNotes.{inputs_as, notes_as}
 use Rattle.script_notes.specs.Explaining.{Telling, untold, begins, since_after, ExplainsFirst, ExplainsLater, ExplainRuns}
 use Rattle.script_notes.specs.Laws.{is_idle, is_unwidened, HasSizes, StandsTold, ScriptsAreAccounted}
+use Rattle.script_notes.proofs.Filled.{wholes, wholes_in, Agrees, Fills, fills_told, filled_counted, whole_counted}
+use Rattle.script_notes.proofs.Others.{read_by_other}
 use Rattle.script_notes.proofs.Lines.{Adds, line_adds}
 
 -- what holds between two lines
@@ -39,6 +43,8 @@ record Keeps (c : AcqConfig) (w : Wide) (t : Trace) (notes since : List Note) : 
   opened : times_so is_opening notes ≡ times_so is_ending notes + length (After c t.inputs).opens
   blocks : Accounts (After c t.inputs).floor (spans since)
   reasons : AllByRecursion (IsReasonedNote c) notes
+  agrees : Agrees c t
+  wholes : wholes notes ≡ wholes_in (filled_blocks t)
 
 -- ---- notes of inputs
 
@@ -117,6 +123,7 @@ line_keeps c w v t after notes since added inputs sizes a k =
     λ test. times-append test notes added ∙ ap (λ (m : ℕ). times_so test notes + m) (ap (times_so test) a.are ∙ times-append test a.front theirs) in
     let balance = run_balances c a.words a.dropped s inputs sizes.window (blocks_are_in_order c t.inputs sizes.window) in
     let opens : length (After c after.inputs).opens ≡ length (after_from c s inputs).opens = ap (λ (u : State). length u.opens) next in
+    let fills : Fills c t after a.words inputs = a.fills k.agrees in
     record {
       counts = counted-append notes added no_counts
           ∙ ap (counted added) k.counts
@@ -132,6 +139,8 @@ line_keeps c w v t after notes since added inputs sizes a k =
       reasons = all_append (IsReasonedNote c) notes added k.reasons
           (subst (λ l. AllByRecursion (IsReasonedNote c) l) (sym a.are)
           (all_append (IsReasonedNote c) a.front theirs a.is_front.reasons (notes_are_reasoned c a.words a.dropped s inputs sizes.payload)));
+      agrees = fills.agrees;
+      wholes = ap (λ l. wholes (notes ++ l)) a.are ∙ fills_told c t after a.words a.dropped notes a.front inputs k.wholes a.is_front.wholes fills;
     }
 
 -- ---- all lines
@@ -148,12 +157,14 @@ opening_keeps c version = record {
   opened = omega arith;
   blocks = inl (refl, refl);
   reasons = tt;
+  agrees = opening_agrees c;
+  wholes = refl;
 }
 
 -- the kept words may differ in the greatest block
 same_refused : (c : AcqConfig) (v : Wide) (t after : Trace) (notes since : List Note) → Keeps c v after notes since → Keeps c (kept_behind v t after) after notes since
 same_refused c v t after notes since k =
-    record { counts = k.counts; idle = k.idle; refused = k.refused; opened = k.opened; blocks = k.blocks; reasons = k.reasons }
+    record { counts = k.counts; idle = k.idle; refused = k.refused; opened = k.opened; blocks = k.blocks; reasons = k.reasons; agrees = k.agrees; wholes = k.wholes }
 
 later_keeps : (c : AcqConfig) (w : Wide) (t : Trace) (notes since : List Note) (n : ℕ) (line text : List ℕ) (new : Telling) → ExplainsLater c w t notes since n line text new
     → KeepsSo notes since (running c w t) → KeepsSo new.notes new.since new.standing
@@ -161,7 +172,7 @@ later_keeps c w t notes since n line text new e k =
     let r = e.replays in
     let added : List Note = notes_as c w t r.says (meaning w t r.says) e.report r.kept r.trace r.does in
     let inputs : List Input = inputs_as c w t r.says (meaning w t r.says) e.report r.kept r.trace r.does in
-    let a : Adds c w r.kept t r.trace added inputs = line_adds c w t r.says (meaning w t r.says) e.report r.kept r.trace refl r.does in
+    let a : Adds c w r.kept t r.trace added inputs = line_adds c w t r.says (meaning w t r.says) e.report r.kept r.trace (read_by_other line r.says r.read) refl r.does in
     let made : HasSizes c → Keeps c (kept_behind r.kept t r.trace) r.trace (notes ++ added) (since_after inputs since added) =
     λ sizes. same_refused c r.kept t r.trace (notes ++ added) (since_after inputs since added) (line_keeps c w r.kept t r.trace notes since added inputs sizes a (k sizes)) in
     subst (λ (m : Telling). KeepsSo m.notes m.since m.standing) (sym e.now)
@@ -198,6 +209,8 @@ told_so notes since (running c w t) k = λ sizes.
       opened = h.opened;
       blocks = accounted (After c t.inputs).floor (spans since) h.blocks;
       reasons = h.reasons;
+      fills = filled_counted notes (filled_blocks t) h.wholes;
+      complete = whole_counted notes (filled_blocks t) h.wholes;
     }
 
 pub scripts_are_accounted : ScriptsAreAccounted

@@ -4,5 +4,7 @@ pub mod ReportTexts
 pub mod Shapes
 pub mod Said
 pub mod Reports
+pub mod Filled
+pub mod Others
 pub mod Lines
 pub mod Accounts

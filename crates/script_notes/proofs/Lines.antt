@@ -22,10 +22,13 @@ use Rattle.acquisition_notes.specs.Spans.{spans}
 use Rattle.acquisition_notes.specs.Laws.{IsReasonedNote}
 use Rattle.script_trace.specs.Trace.{Trace, Part, grown, board}
 use Rattle.script_trace.specs.Wide.{Wide, Meaning, itself, wider, none, is_standard, standard_meaning, meaning_decoded, meaning, meaning_widened, DoesAs}
+use Rattle.script_trace.specs.Adding.{AddsPart}
+use Rattle.script_trace.proofs.BlockFills.{IsByOther}
 use Rattle.script_notes.specs.Drops.{drops_in}
 use Rattle.script_notes.specs.LineNotes.{datagram_length, idle_notes, part_notes, refused_notes, refused_decoded, refused_with, inputs_as, notes_as}
 use Rattle.script_notes.specs.Laws.{is_idle, is_unwidened}
 use Rattle.script_notes.proofs.Shapes.{IsShaped, line_shaped}
+use Rattle.script_notes.proofs.Filled.{wholes, Agrees, Fills, line_fills, nothing_fills}
 
 -- notes in front of those of inputs: they count nothing of the acquisition
 pub record IsFront (c : AcqConfig) (xs : List Note) (still more : ℕ) : Type 0 where
@@ -36,6 +39,7 @@ pub record IsFront (c : AcqConfig) (xs : List Note) (still more : ℕ) : Type 0 
   pub ends : times_so is_ending xs ≡ 0
   pub spans : spans xs ≡ []
   pub reasons : AllByRecursion (IsReasonedNote c) xs
+  pub wholes : wholes xs ≡ []
 
 -- What a line adds.
 pub record Adds (c : AcqConfig) (w v : Wide) (t after : Trace) (notes : List Note) (inputs : List Input) : Type 0 where
@@ -50,14 +54,15 @@ pub record Adds (c : AcqConfig) (w v : Wide) (t after : Trace) (notes : List Not
   pub shape : HasNoRestart inputs ⊎ (inputs ≡ restart ∷ [])
   pub idle : after.idle ≡ t.idle + still
   pub refused : v.refused ≡ w.refused + more
+  pub fills : Agrees c t → Fills c t after words inputs
 
 one_idle : (c : AcqConfig) (l : ScriptLine) (count : ℕ) → count ≤ 1 → IsFront c (idle_notes l count) count 0
 one_idle c l count few = go (cases_eq count 0) where
   nothing : (k : ℕ) → 0 ≡ k → IsFront c [] k 0
-  nothing k e = record { counts = λ n. refl; idle = e; refused = refl; opens = refl; ends = refl; spans = refl; reasons = tt }
+  nothing k e = record { counts = λ n. refl; idle = e; refused = refl; opens = refl; ends = refl; spans = refl; reasons = tt; wholes = refl }
 
   something : (k : ℕ) → 1 ≡ k → IsFront c (idle (datagram_length l) ∷ []) k 0
-  something k e = record { counts = λ n. refl; idle = omega (arith, e); refused = omega arith; opens = omega arith; ends = omega arith; spans = refl; reasons = (tt, tt) }
+  something k e = record { counts = λ n. refl; idle = omega (arith, e); refused = omega arith; opens = omega arith; ends = omega arith; spans = refl; reasons = (tt, tt); wholes = refl }
 
   go : (count ≡ 0) ⊎ (count ≡ 0 → ⊥) → IsFront c (idle_notes l count) count 0
   go (inl zero_is) =
@@ -66,21 +71,24 @@ one_idle c l count few = go (cases_eq count 0) where
       subst (λ (v : Bool). IsFront c (if v then [] else idle (datagram_length l) ∷ []) count 0) (sym (ne_eqb count 0 other)) (something count (omega arith))
 
 -- a part that a line spells
-part_adds : (c : AcqConfig) (w v : Wide) (t after : Trace) (l : ScriptLine) (part : Part) → after ≡ grown t part → v.refused ≡ w.refused → IsShaped part
+part_adds : (c : AcqConfig) (w v : Wide) (t after : Trace) (l : ScriptLine) (part : Part) → after ≡ grown t part → v.refused ≡ w.refused → IsByOther l → AddsPart c t l part
     → Adds c w v t after (part_notes c t l part) part.inputs
-part_adds c w v t after l part is same shape = record {
-  front = idle_notes l part.idle;
-  words = board t;
-  dropped = drops_in t part;
-  still = part.idle;
-  more = 0;
-  is_front = one_idle c l part.idle shape.idle;
-  are = refl;
-  inputs_are = ap (λ (u : Trace). u.inputs) is;
-  shape = shape.inputs;
-  idle = ap (λ (u : Trace). u.idle) is;
-  refused = omega (arith, same);
-}
+part_adds c w v t after l part is same other adds =
+    let shape : IsShaped part = line_shaped c t l part other adds.spells in
+    record {
+      front = idle_notes l part.idle;
+      words = board t;
+      dropped = drops_in t part;
+      still = part.idle;
+      more = 0;
+      is_front = one_idle c l part.idle shape.idle;
+      are = refl;
+      inputs_are = ap (λ (u : Trace). u.inputs) is;
+      shape = shape.inputs;
+      idle = ap (λ (u : Trace). u.idle) is;
+      refused = omega (arith, same);
+      fills = λ before. subst (λ (u : Trace). Fills c t u (board t) part.inputs) (sym is) (line_fills c t l part other adds shape before);
+    }
 
 -- ---- a datagram that is refused
 
@@ -109,7 +117,7 @@ refused_line w t _ e = absurd cc
 front_refused : (c : AcqConfig) (xs : List Note) → IsRefused xs → IsFront c xs 0 1
 front_refused c xs r =
     subst (λ l. IsFront c l 0 1) (sym r.is)
-    (record { counts = λ n. refl; idle = omega arith; refused = omega arith; opens = omega arith; ends = omega arith; spans = refl; reasons = (tt, tt) })
+    (record { counts = λ n. refl; idle = omega arith; refused = omega arith; opens = omega arith; ends = omega arith; spans = refl; reasons = (tt, tt); wholes = refl })
 
 append_nil : {X : Type 0} (xs : List X) → xs ++ [] ≡ xs
 append_nil [] = refl
@@ -117,14 +125,12 @@ append_nil (x ∷ xs) = ap (λ l. x ∷ l) (append_nil xs)
 
 -- ---- a line
 
-pub line_adds : (c : AcqConfig) (w : Wide) (t : Trace) (l : ScriptLine) (m : Meaning) (report : List ℕ) (v : Wide) (after : Trace) → meaning w t l ≡ m → (d : DoesAs c w t l m report v after)
+pub line_adds : (c : AcqConfig) (w : Wide) (t : Trace) (l : ScriptLine) (m : Meaning) (report : List ℕ) (v : Wide) (after : Trace) → IsByOther l → meaning w t l ≡ m → (d : DoesAs c w t l m report v after)
     → Adds c w v t after (notes_as c w t l m report v after d) (inputs_as c w t l m report v after d)
-line_adds c w t l itself report v after means d =
-    part_adds c w v t after l d.0.part d.0.is (ap (λ (u : Wide). u.refused) d.1) (line_shaped c t l d.0.part d.0.adds.spells)
-line_adds c w t l (wider block bytes) report v after means d =
-    part_adds c w v t after (line.datagram (encode_lower bytes)) d.0.part d.0.is (ap (λ (u : Wide). u.refused) d.1)
-    (line_shaped c t (line.datagram (encode_lower bytes)) d.0.part d.0.adds.spells)
-line_adds c w t l none report v after means d = record {
+line_adds c w t l itself report v after other means d = part_adds c w v t after l d.0.part d.0.is (ap (λ (u : Wide). u.refused) d.1) other d.0.adds
+line_adds c w t l (wider block bytes) report v after other means d =
+    part_adds c w v t after (line.datagram (encode_lower bytes)) d.0.part d.0.is (ap (λ (u : Wide). u.refused) d.1) tt d.0.adds
+line_adds c w t l none report v after other means d = record {
   front = refused_notes w l;
   words = board t;
   dropped = [];
@@ -136,4 +142,5 @@ line_adds c w t l none report v after means d = record {
   shape = inl tt;
   idle = omega (arith, ap (λ (u : Trace). u.idle) d.1);
   refused = ap (λ (u : Wide). u.refused) d.2;
+  fills = nothing_fills c t after d.1;
 }

@@ -1,17 +1,18 @@
 -- What explanations are, in words of their own.
-use Rattle.std.specs.Prelude.{◌≡◌, ⊤, ℕ, ◌+◌, ◌≤◌, Bool, true, false, List, length}
+use Rattle.std.specs.Prelude.{◌≡◌, ⊤, ℕ, ◌+◌, ◌≤◌, ◌&&◌, Bool, true, false, List, length, count_by}
 use Rattle.std.specs.List.{AllByRecursion}
 use Rattle.script_runs.specs.declared.ran.Ran.{Ran}
 use Rattle.script_runs.specs.Runs.{RunsLines}
 use Rattle.script_runs.specs.Verdicts.{Judges}
 use Rattle.acquisition_machine.specs.declared.config.AcqConfig.{AcqConfig}
 use Rattle.acquisition_machine.specs.Runs.{no_counts, After}
-use Rattle.acquisition_notes.specs.Notes.{Note, idle, unwidened}
+use Rattle.acquisition_notes.specs.Notes.{Note, idle, unwidened, done}
 use Rattle.acquisition_notes.specs.Counted.{counted, is_opening, is_ending, times_so}
 use Rattle.acquisition_notes.specs.Spans.{spans, AreAccounted}
 use Rattle.acquisition_notes.specs.Laws.{IsReasonedNote}
 use Rattle.script_trace.specs.Trace.{Trace}
 use Rattle.script_trace.specs.Wide.{Wide}
+use Rattle.script_trace.specs.Ending.{filled_blocks}
 use Rattle.script_trace.specs.Standing.{Standing, running, ReplayRuns, replay_verdict, IsBehind}
 use Rattle.script_trace.specs.Standing.{first as at_first}
 use Rattle.script_notes.specs.NoteLines.{LeavesOut}
@@ -50,7 +51,17 @@ abbrev pub is_unwidened : Note → Bool
 is_unwidened (unwidened e) = true
 is_unwidened _ = false
 
--- Every datagram, every block and every opened block is accounted for, and each outcome is reasoned.
+-- a block retired, and its buffer went into the output
+abbrev pub is_filled : Note → Bool
+is_filled (done o) = o.out
+is_filled _ = false
+
+-- so did a whole image
+abbrev pub is_filled_whole : Note → Bool
+is_filled_whole (done o) = o.out && o.complete
+is_filled_whole _ = false
+
+-- Every datagram, every block, every opened block and every fill is accounted for, and each outcome is reasoned.
 pub record KeepsAccount (c : AcqConfig) (w : Wide) (t : Trace) (notes since : List Note) : Type 0 where
   -- each count of the acquisition is that of the notes
   pub counts : counted notes no_counts ≡ (After c t.inputs).counts
@@ -60,6 +71,9 @@ pub record KeepsAccount (c : AcqConfig) (w : Wide) (t : Trace) (notes since : Li
   -- of the last acquisition, and of each before it as long as it lasted
   pub blocks : AreAccounted (spans since) (After c t.inputs).floor
   pub reasons : AllByRecursion (IsReasonedNote c) notes
+  -- what the report's last line tells as the acquisition's fills, and as those of whole images
+  pub fills : times_so is_filled notes ≡ length (filled_blocks t)
+  pub complete : times_so is_filled_whole notes ≡ count_by (λ x. x.filling.rec.complete) (filled_blocks t)
 
 -- the numbers of every configuration that a header gives
 pub record HasSizes (c : AcqConfig) : Type 0 where

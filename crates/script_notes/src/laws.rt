@@ -8,8 +8,8 @@ pub fn explanations_hold_reports()
     ensures { ExplanationsHoldReports }
 {}
 
-/// At every line of every script the notes so far account for each datagram, each block and each opened
-/// block, and name the reasons of each block that retired.
+/// At every line of every script the notes so far account for each datagram, each block, each opened block and
+/// each fill of the acquisition, and name the reasons of each block that retired.
 pub fn scripts_are_accounted()
     ensures { ScriptsAreAccounted }
 {}

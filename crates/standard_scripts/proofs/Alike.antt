@@ -1,7 +1,8 @@
 -- A narrowed script leads to the trace of the script that was narrowed.
 use Rattle.std.proofs.Common.{◌≡◌, ℕ, ◌≤◌, ◌^◌, max, true, false, Bool, List, [], ◌∷◌, ◌++◌, length, slice_index, nat_lt, Ok, refl, sym, ap, subst, ◌∙◌, append_assoc, append-nil}
 use Rattle.std.proofs.lemmas.Bool.{cond-true, and_from, eq-eqb, le-leb, le-ltb, not_from_false}
-use Rattle.hex.specs.Hex.{decode_of}
+use Rattle.std.specs.List.{AllByRecursion}
+use Rattle.hex.specs.Hex.{decode_of, encode_lower}
 use Rattle.stream_packets.specs.Packets.{StreamPacket, head_of}
 use Rattle.gvsp_wire.specs.Plain.{plain}
 use Rattle.gvsp_wire.specs.Reading.{is_extended}
@@ -13,9 +14,15 @@ use Rattle.gev_script.specs.Lines as line
 use Rattle.gev_script.specs.Lines.{ScriptLine}
 use Rattle.acquisition_machine.specs.declared.config.AcqConfig.{AcqConfig}
 use Rattle.script_trace.specs.Trace.{Trace, Part, board, grown}
-use Rattle.script_trace.specs.Adding.{AddsPart}
-use Rattle.script_trace.specs.Wide.{Wide, is_standard_at, is_standard, itself, wider, meaning_widened, standard_meaning, meaning_decoded, meaning, said_by, DoesAs, Does, kept_behind}
-use Rattle.standard_scripts.specs.Narrowing.{Narrows, stays, packet, NarrowsAll, IsNoMoment, RunAlike}
+use Rattle.acquisition_machine.specs.Machine.{tick}
+use Rattle.acquisition_machine.specs.Runs.{turn}
+use Rattle.script_trace.specs.StreamLines.{TickLine}
+use Rattle.script_trace.specs.Adding.{Spells, AddsPart, Leads}
+use Rattle.script_trace.specs.Wide.{Wide, is_standard_at, is_standard, itself, wider, meaning_widened, standard_meaning, meaning_decoded, meaning, standard_text, said_by, DoesAs, Does, kept_behind}
+use Rattle.script_notes.proofs.Feeds.{AreLines}
+use Rattle.script_notes.proofs.Said.{line_says}
+use Rattle.standard_scripts.specs.Narrowing.{LeadsWide, Narrows, stays, packet, NarrowsAll, IsNoMoment, RunAlike}
+use Rattle.standard_scripts.proofs.Requests.{Alike, alike_none, alike_same, alike_both, requests_alike, alike_others}
 
 -- ---- one datagram
 
@@ -48,10 +55,22 @@ record DoesOne (c : AcqConfig) (w : Wide) (t : Trace) (l m : ScriptLine) (part :
   does : Does c w t m report kept (grown t part)
   refused : kept.refused ≡ w.refused
   same : IsNoMoment l → report ≡ part.text
+  alike : Alike part.text report
 
 no_moment_says : (c : AcqConfig) (t : Trace) (l : ScriptLine) (widened : Bool) (text : List ℕ) → IsNoMoment l → said_by c t l widened text ≡ text
 no_moment_says c t (line.tick moment) widened text h = absurd h
 no_moment_says c t _ widened text h = refl
+
+-- a moment's line has its requests in the one form or in the other
+moment_alike : (c : AcqConfig) (t : Trace) (moment : ℕ) (widened : Bool) (part : Part) → AreLines false part.text → TickLine c t moment part
+    → Alike part.text (said_by c t (line.tick moment) widened part.text)
+moment_alike c t moment true part plain s =
+    subst (λ l. Alike l (standard_text (turn c t.inputs (tick moment)).requests)) (sym (ap (λ (p : Part). p.text) s.is)) (requests_alike (turn c t.inputs (tick moment)).requests)
+moment_alike c t moment false part plain s = alike_same part.text plain
+
+says_alike : (c : AcqConfig) (t : Trace) (l : ScriptLine) (widened : Bool) (part : Part) → AreLines false part.text → Spells c t l part → Alike part.text (said_by c t l widened part.text)
+says_alike c t (line.tick moment) widened part plain s = moment_alike c t moment widened part plain s
+says_alike c t _ widened part plain s = alike_same part.text plain
 
 does_one : (c : AcqConfig) (w : Wide) (t : Trace) (l m : ScriptLine) (part : Part) (kept : Wide) → AddsPart c t l part → Narrows w t l m kept → DoesOne c w t l m part kept
 does_one c w t _ _ part _ adds (stays l means) = record {
@@ -59,6 +78,7 @@ does_one c w t _ _ part _ adds (stays l means) = record {
   does = subst (λ meant. DoesAs c w t l meant (said_by c t l w.widened part.text) w (grown t part)) (sym means) (record { part = part; adds = adds; said = refl; is = refl }, refl);
   refused = refl;
   same = λ h. no_moment_says c t l w.widened part.text h;
+  alike = says_alike c t l w.widened part (line_says c t l part adds.spells) adds.spells;
 }
 does_one c w t _ _ part _ adds (packet x digits second runs few may spelled) = record {
   report = part.text;
@@ -66,29 +86,61 @@ does_one c w t _ _ part _ adds (packet x digits second runs few may spelled) = r
       (record { part = part; adds = adds; said = refl; is = refl }, refl);
   refused = refl;
   same = λ h. refl;
+  alike = alike_same part.text (line_says c t (line.datagram (encode_lower (plain x))) part adds.spells);
 }
 
 -- ---- all lines
 
-pub run_alike : (c : AcqConfig) (w : Wide) (t : Trace) (lines others : List ScriptLine) (v : Wide) (new : Trace) → NarrowsAll c w t lines others v new → RunAlike c w t lines others v new
-run_alike c w t [] [] v new (kept, is) = record {
+-- the same with the lines of both reports
+record RunsAlike (c : AcqConfig) (w : Wide) (t : Trace) (lines others : List ScriptLine) (v : Wide) (new : Trace) : Type 0 where
+  extended : Leads c t lines new
+  report : List ℕ
+  narrowed : LeadsWide c w t others report v new
+  none_refused : v.refused ≡ w.refused
+  said : List ℕ
+  extended_said : new.text ≡ t.text ++ said
+  alike : Alike said report
+  same_report : AllByRecursion IsNoMoment lines → new.text ≡ t.text ++ report
+
+runs_alike : (c : AcqConfig) (w : Wide) (t : Trace) (lines others : List ScriptLine) (v : Wide) (new : Trace) → NarrowsAll c w t lines others v new → RunsAlike c w t lines others v new
+runs_alike c w t [] [] v new (kept, is) = record {
   extended = is;
   report = [];
   narrowed = (refl, kept, is);
   none_refused = ap (λ (u : Wide). u.refused) kept;
+  said = [];
+  extended_said = ap (λ (u : Trace). u.text) is ∙ sym (append-nil t.text);
+  alike = alike_none;
   same_report = λ h. ap (λ (u : Trace). u.text) is ∙ sym (append-nil t.text);
 }
-run_alike c w t [] (m ∷ others) v new h = absurd h
-run_alike c w t (l ∷ lines) [] v new h = absurd h
-run_alike c w t (l ∷ lines) (m ∷ others) v new (part, kept, adds, narrows, more) =
+runs_alike c w t [] (m ∷ others) v new h = absurd h
+runs_alike c w t (l ∷ lines) [] v new h = absurd h
+runs_alike c w t (l ∷ lines) (m ∷ others) v new (part, kept, adds, narrows, more) =
     let one : DoesOne c w t l m part kept = does_one c w t l m part kept adds narrows in
-    let later : RunAlike c (kept_behind kept t (grown t part)) (grown t part) lines others v new = run_alike c (kept_behind kept t (grown t part)) (grown t part) lines others v new more in
+    let later : RunsAlike c (kept_behind kept t (grown t part)) (grown t part) lines others v new = runs_alike c (kept_behind kept t (grown t part)) (grown t part) lines others v new more in
     record {
       extended = (part, adds, later.extended);
       report = one.report ++ later.report;
       narrowed = (one.report, kept, grown t part, later.report, one.does, later.narrowed, refl);
       none_refused = later.none_refused ∙ one.refused;
+      said = part.text ++ later.said;
+      extended_said = later.extended_said ∙ append_assoc t.text part.text later.said;
+      alike = alike_both part.text later.said one.report later.report one.alike later.alike;
       same_report = λ h.
           later.same_report h.1
           ∙ (ap (λ u. (t.text ++ u) ++ later.report) (sym (one.same h.0)) ∙ append_assoc t.text one.report later.report);
+    }
+
+pub run_alike : (c : AcqConfig) (w : Wide) (t : Trace) (lines others : List ScriptLine) (v : Wide) (new : Trace) → NarrowsAll c w t lines others v new → RunAlike c w t lines others v new
+run_alike c w t lines others v new h =
+    let r : RunsAlike c w t lines others v new = runs_alike c w t lines others v new h in
+    record {
+      extended = r.extended;
+      report = r.report;
+      narrowed = r.narrowed;
+      none_refused = r.none_refused;
+      said = r.said;
+      extended_said = r.extended_said;
+      same_but_requests = alike_others r.said r.report r.alike;
+      same_report = r.same_report;
     }

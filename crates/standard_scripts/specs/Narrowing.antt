@@ -1,12 +1,13 @@
 -- Lines of a script of version 2 whose datagrams are those of other lines, with standard identifiers.
-use Rattle.std.specs.Prelude.{◌≡◌, ⊤, ℕ, ◌≤◌, ◌^◌, max, true, List, [], ◌∷◌, ◌++◌, Ok}
-use Rattle.std.specs.List.{AllByRecursion}
+use Rattle.std.specs.Prelude.{◌≡◌, ⊤, ℕ, ◌≤◌, ◌^◌, ◌==◌, max, not, true, Bool, List, [], ◌∷◌, ◌++◌, codes, Ok}
+use Rattle.std.specs.List.{AllByRecursion, filter, starts_with}
 use Rattle.hex.specs.Hex.{decode_of, encode_lower}
 use Rattle.stream_packets.specs.Packets.{StreamPacket, head_of}
 use Rattle.gvsp_wire.specs.Plain.{plain}
 use Rattle.gvsp_std.specs.Narrowed.{std_plain, MayNarrow}
 use Rattle.gev_script.specs.Lines as line
 use Rattle.gev_script.specs.Lines.{ScriptLine}
+use Rattle.gev_script.specs.Words.{parts_of}
 use Rattle.acquisition_machine.specs.declared.config.AcqConfig.{AcqConfig}
 use Rattle.script_trace.specs.Trace.{Trace, Part, board, grown}
 use Rattle.script_trace.specs.Adding.{AddsPart, Leads}
@@ -35,17 +36,28 @@ NarrowsAll c w t (l ∷ lines) (m ∷ others) v new =
 NarrowsAll c w t [] (m ∷ others) v new = ⊥
 NarrowsAll c w t (l ∷ lines) [] v new = ⊥
 
+-- the line's first word is `request`
+abbrev pub is_request_line : List ℕ → Bool
+is_request_line line = starts_with (λ a b. a == b) line (codes "request ")
+
+-- the other lines of a report, in order, each without its line feed
+abbrev pub other_lines : List ℕ → List (List ℕ)
+other_lines report = filter (λ line. not (is_request_line line)) (parts_of 10 report)
+
 -- The line makes no request.
 abbrev pub IsNoMoment : ScriptLine → Type 0
 IsNoMoment (line.tick moment) = ⊥
 IsNoMoment _ = ⊤
 
--- Both lead to one trace.
+-- Both lead to one trace, and their reports are the same but for lines that begin with `request `.
 pub record RunAlike (c : AcqConfig) (w : Wide) (t : Trace) (lines others : List ScriptLine) (v : Wide) (new : Trace) : Type 0 where
   pub extended : Leads c t lines new
   pub report : List ℕ
   pub narrowed : LeadsWide c w t others report v new
   pub none_refused : v.refused ≡ w.refused
+  pub said : List ℕ
+  pub extended_said : new.text ≡ t.text ++ said
+  pub same_but_requests : other_lines said ≡ other_lines report
   pub same_report : AllByRecursion IsNoMoment lines → new.text ≡ t.text ++ report
 
 abbrev pub NarrowedRunAlike : Type 0

@@ -4,7 +4,8 @@ ghost use Rattle.standard_scripts.specs.Narrowing.{NarrowedRunAlike};
 
 /// Where the datagrams of a script's lines are narrowed, each of a packet that its 16 bits stand for, version 2
 /// leads to the trace that the lines themselves lead to: the same entries, inputs, handles and idle datagrams.
-/// No datagram is refused, and where no line is `t` the report is the same, since it differs in requests alone.
+/// No datagram is refused, and the report is the same but for lines that begin with `request `; where no line is
+/// `t` there are none.
 pub fn narrowed_scripts_run_alike()
     ensures { NarrowedRunAlike }
 {}
