@@ -90,7 +90,7 @@ fn check_words<R: Abort + Threads + Wait + Sync>(
     Ok(())
 }
 
-// A live run whose stream is silent spends its turns, and gives its three links back.
+// A live run whose stream is silent spends its turns, with one lane and with two, and gives its three links back.
 #[test]
 fn a_live_run_is_made_over_ports(rt: HostRuntime) -> Result<(), Fail> {
     let answers = [
@@ -99,21 +99,24 @@ fn a_live_run_is_made_over_ports(rt: HostRuntime) -> Result<(), Fail> {
         Some((ACKS[2], CAMERA)),
         Some((ACKS[3], CAMERA)),
     ];
-    let mut ports = quiet_ports(rt.alloc(), &answers, &[])?;
-    check_words(
-        &rt,
-        rt.alloc(),
-        &["live", "1", "20", "10", "1", "3"],
-        "",
-        &mut ports,
-        Status::TurnsSpent {
-            turns: 3,
-            frames: 0,
-        },
-        "live frames=20 taken=0\n",
-        3,
-        true,
-    )
+    for lanes in ["1", "2"] {
+        let mut ports = quiet_ports(rt.alloc(), &answers, &[])?;
+        check_words(
+            &rt,
+            rt.alloc(),
+            &["live", "1", "20", "10", lanes, "3"],
+            "",
+            &mut ports,
+            Status::TurnsSpent {
+                turns: 3,
+                frames: 0,
+            },
+            "live frames=20 taken=0\n",
+            3,
+            true,
+        )?;
+    }
+    Ok(())
 }
 
 /// What a recorded run of three silent turns writes; the setup reads the moments before 4.
@@ -197,7 +200,7 @@ fn a_write_of_a_recorded_run_fails(rt: HostRuntime) -> Result<(), Fail> {
 fn binds_that_fail_give_back_what_came(rt: HostRuntime) -> Result<(), Fail> {
     let rows: [(&[u64], usize); 3] = [(&[1], 0), (&[2], 1), (&[3], 2)];
     let both: [&[&str]; 2] = [
-        &["live", "1", "20", "10", "1", "3"],
+        &["live", "1", "1", "1", "1", "1"],
         &["record", "1", "20", "10", "3"],
     ];
     for (failing, back) in rows {
