@@ -1,5 +1,5 @@
 -- A capture that is read record by record, and how its run ends.
-use Rattle.std.proofs.Common.{◌≡◌, ℕ, ◌+◌, ◌-◌, ◌^◌, ◌<◌, ◌≤◌, List, [], ◌∷◌, ◌++◌, length, drop, Option, Some, None, Result, Ok, Err, refl, ap, sym, ◌∙◌, subst, arith, inl, inr, append_assoc, length-append}
+use Rattle.std.proofs.Common.{◌≡◌, ℕ, ◌+◌, ◌-◌, ◌^◌, ◌<◌, List, [], ◌∷◌, ◌++◌, length, drop, Option, Some, None, Result, Ok, Err, refl, ap, sym, ◌∙◌, subst, arith, inl, inr, append_assoc, length-append}
 use Rattle.std.specs.Prelude.{◌⊎◌, false, OnOk, is_err}
 use Rattle.std.proofs.lemmas.List.{append-nil}
 use Rattle.gev_links.specs.Faults.{Rose}
@@ -7,13 +7,12 @@ use Rattle.gev_links.specs.Told.{Gives, IsSpent, Appends, WritesFront}
 use Rattle.gev_script.proofs.Tellings.{Gives-append, Gives-same}
 use Rattle.script_runs.specs.Verdicts.{IfTold}
 use Rattle.gev_capture.specs.declared.kind.CaptureKind.{CaptureKind}
-use Rattle.gev_capture.specs.declared.kind.CaptureKind.TheVariants.{Cut}
 use Rattle.gev_capture.specs.declared.capture_end.CaptureEnd.{CaptureEnd}
 use Rattle.gev_capture.specs.declared.capture_end.CaptureEnd.TheVariants.{Ended, Refused}
 use Rattle.gev_capture.specs.declared.capture_end.CaptureEnd.TheVariants as capture_end
 use Rattle.gev_capture.specs.declared.moments.Moments.{Moments}
-use Rattle.gev_capture.specs.Files.{Packet, Format, fresh, Told, refused, given, told}
-use Rattle.gev_capture.specs.Captures.{Read, Refusal, IsOpen, IsAtEnd, IsRefused, EndsAs, AreRecords, with_packet, packets_in, HasCaptured}
+use Rattle.gev_capture.specs.Files.{Packet, Format, fresh, Told, refused, told}
+use Rattle.gev_capture.specs.Captures.{Read, Refusal, IsOpen, IsAtEnd, IsRefused, EndsAs, with_packet, packets_in, HasCaptured}
 use Rattle.gev_capture.specs.Laws.{Stays}
 use Rattle.gev_capture.specs.Sightings.{Sighting, no_moments, sighted, sightings}
 use Rattle.gev_capture.specs.Reading.{ReadsOn, CauseOfEnd}
@@ -25,65 +24,10 @@ use Rattle.gev_capture.proofs.Walking.{walks_more, walks_next, walks_end, walks_
 use Rattle.capture_runs.specs.declared.ending.Ending.{Ending}
 use Rattle.capture_runs.specs.declared.ending.Ending.TheVariants.{Done, BadCapture, ReadFault, WriteFault, NoMemory}
 use Rattle.capture_runs.specs.Texts.{Texts, said, state, broken, whole, Tells}
-use Rattle.capture_runs.specs.Ends.{WasCaptured, WasRead, RunEnds, AnswersContent}
-use Rattle.capture_runs.specs.Turns.{moments_behind, Drains, rest_text, planned_ending, EndsWith, GoesOn, BreaksOff, RunsOut, TurnEnds}
+use Rattle.capture_runs.specs.Ends.{WasCaptured, WasRead, StopsShort, at_end, at_fault, between, RunEnds, AnswersContent}
+use Rattle.capture_runs.specs.Turns.{moments_behind, Drains, rest_text, EndsWith, GoesOn, BreaksOff, TurnEnds}
+use Rattle.capture_runs.proofs.Fronts.{drains_none, drains_more, drained_whole, drained_front, front_none, front_more, still_front}
 use Rattle.capture_runs.proofs.Behind.{moments_behind-append, sighted-append, said-append, state-append}
-
--- ---- what is written
-
-pub Appends-same : (w : Option (List ℕ)) → Appends w w []
-Appends-same None = refl
-Appends-same (Some w) = ap (λ (l : List ℕ). Some l) (sym (append-nil w))
-
-pub Appends-append : (w x y : Option (List ℕ)) (xs ys : List ℕ) → Appends w x xs → Appends x y ys → Appends w y (xs ++ ys)
-Appends-append None x y xs ys g h = subst (λ (v : Option (List ℕ)). Appends v y ys) g h
-Appends-append (Some w) x y xs ys g h =
-    let last : Appends (Some (w ++ xs)) y ys = subst (λ (v : Option (List ℕ)). Appends v y ys) g h in
-    last ∙ ap (λ (t : List ℕ). Some t) (append_assoc w xs ys)
-
--- nothing is written yet
-pub drains_none : (w : Option (List ℕ)) (text : List ℕ) → Drains w w text text
-drains_none w text = record { front = []; parts = refl; appended = Appends-same w }
-
--- more text comes, and more is written
-pub drains_more : (w x y : Option (List ℕ)) (text more held held_after : List ℕ) → Drains w x text held → Drains x y (held ++ more) held_after → Drains w y (text ++ more) held_after
-drains_more w x y text more held held_after d e = record {
-  front = d.front ++ e.front;
-  parts =
-      ap (λ (t : List ℕ). t ++ more) d.parts ∙ append_assoc d.front held more ∙ ap (λ (t : List ℕ). d.front ++ t) e.parts
-      ∙ sym (append_assoc d.front e.front held_after);
-  appended = Appends-append w x y d.front e.front d.appended e.appended;
-}
-
--- the rest of the text is written
-pub drained_whole : (w x y : Option (List ℕ)) (text more held : List ℕ) → Drains w x text held → Appends x y (held ++ more) → Appends w y (text ++ more)
-drained_whole w x y text more held d e =
-    subst (λ (t : List ℕ). Appends w y t)
-    (sym (append_assoc d.front held more) ∙ ap (λ (t : List ℕ). t ++ more) (sym d.parts))
-    (Appends-append w x y d.front (held ++ more) d.appended e)
-
--- a front of the rest is written
-pub drained_front : (w x y : Option (List ℕ)) (text more held : List ℕ) → Drains w x text held → WritesFront x y (held ++ more) → WritesFront w y (text ++ more)
-drained_front w x y text more held d e = record {
-  front = d.front ++ e.front;
-  rest = e.rest;
-  parts =
-      ap (λ (t : List ℕ). t ++ more) d.parts ∙ append_assoc d.front held more ∙ ap (λ (t : List ℕ). d.front ++ t) e.parts
-      ∙ sym (append_assoc d.front e.front e.rest);
-  appended = Appends-append w x y d.front e.front d.appended e.appended;
-}
-
-pub front_none : (w x : Option (List ℕ)) (text : List ℕ) → x ≡ w → WritesFront w x text
-front_none w x text e = record { front = []; rest = text; parts = refl; appended = subst (λ (v : Option (List ℕ)). Appends w v []) (sym e) (Appends-same w) }
-
--- a front of a text is one of a longer text
-pub front_more : (w x : Option (List ℕ)) (text more : List ℕ) → WritesFront w x text → WritesFront w x (text ++ more)
-front_more w x text more f = record {
-  front = f.front;
-  rest = f.rest ++ more;
-  parts = ap (λ (t : List ℕ). t ++ more) f.parts ∙ append_assoc f.front f.rest more;
-  appended = f.appended;
-}
 
 -- ---- records so far
 
@@ -232,11 +176,23 @@ module _ {P : Type 0} where
       ∙ ap (λ (r : P). said t p xs ++ said t q ys ++ end r) (state-append t p xs ys)
       ∙ append_assoc (said t p xs) (said t q ys) (end (state t q ys))
 
-  -- a front of the text of the records so far and of others was written
+  -- a front of what is told of packets is one of the text of each capture that begins with them
+  front_on : (t : Texts P) (p : P) (out : List ℕ) (ps more : List Packet) (written written_after : Option (List ℕ))
+      → WritesFront written written_after (out ++ said t p (sightings ps)) → WritesFront written written_after (out ++ whole t p (sightings (ps ++ more)))
+  front_on t p out ps more written written_after f =
+      let xs = sightings ps in
+      let zs = sighted (moments_behind no_moments ps) more in
+      subst (λ (text : List ℕ). WritesFront written written_after text)
+      (append_assoc out (said t p xs) (whole t (state t p xs) zs)
+      ∙ ap (λ (l : List ℕ). out ++ l)
+      (sym (whole-append t p xs zs) ∙ ap (λ (l : List Sighting). whole t p l) (sym (sighted-append no_moments ps more))))
+      (front_more written written_after (out ++ said t p xs) (whole t (state t p xs) zs) f)
+
+  -- a front of what is told of the records so far and of others was written
   front_written : (t : Texts P) (p : P) (m : Moments) (rs more : List Read) (out held : List ℕ) (written written_mid written_after : Option (List ℕ))
       → m ≡ moments_behind no_moments (packets_in rs) → Drains written written_mid (out ++ said t p (sightings (packets_in rs))) held
-      → WritesFront written_mid written_after (held ++ whole t (state t p (sightings (packets_in rs))) (sighted m (packets_in more)))
-      → WritesFront written written_after (out ++ whole t p (sightings (packets_in (rs ++ more))))
+      → WritesFront written_mid written_after (held ++ said t (state t p (sightings (packets_in rs))) (sighted m (packets_in more)))
+      → WritesFront written written_after (out ++ said t p (sightings (packets_in (rs ++ more))))
   front_written t p m rs more out held written written_mid written_after e d f =
       let xs = sightings (packets_in rs) in
       let ys = sighted m (packets_in more) in
@@ -244,17 +200,113 @@ module _ {P : Type 0} where
       ap (λ (ps : List Packet). sightings ps) (packets_append rs more) ∙ sighted-append no_moments (packets_in rs) (packets_in more)
       ∙ ap (λ (k : Moments). xs ++ sighted k (packets_in more)) (sym e) in
       subst (λ (text : List ℕ). WritesFront written written_after text)
-      (append_assoc out (said t p xs) (whole t (state t p xs) ys)
-      ∙ ap (λ (l : List ℕ). out ++ l) (sym (whole-append t p xs ys) ∙ ap (λ (l : List Sighting). whole t p l) (sym sights)))
-      (drained_front written written_mid written_after (out ++ said t p xs) (whole t (state t p xs) ys) held d f)
+      (append_assoc out (said t p xs) (said t (state t p xs) ys)
+      ∙ ap (λ (l : List ℕ). out ++ l) (sym (said-append t p xs ys) ∙ ap (λ (l : List Sighting). said t p l) (sym sights)))
+      (drained_front written written_mid written_after (out ++ said t p xs) (said t (state t p xs) ys) held d f)
 
-  -- nothing more was written
-  still_front : (t : Texts P) (p : P) (xs : List Sighting) (out held : List ℕ) (written written_mid written_after : Option (List ℕ))
-      → Drains written written_mid (out ++ said t p xs) held → written_after ≡ written_mid → WritesFront written written_after (out ++ whole t p xs)
-  still_front t p xs out held written written_mid written_after d e =
+  -- ---- what was read
+
+  -- the capture is at its end
+  was_ended : (t : Texts P) (Begun Stands : P → Type 0) (reader : CaptureState) (m : Moments) (out held : List ℕ) (left mid left_after written written_mid : Option (List ℕ)) (Q : List Packet → Type 0)
+      (s : Stood t Begun Stands reader m out held left mid written written_mid)
+      → ReadsOn reader.format reader.held mid left_after (λ bytes. IsAtEnd reader.format bytes × IsSpent left_after) → Q (packets_in s.records) → WasCaptured left left_after None Q
+  was_ended t Begun Stands reader m out held left mid left_after written written_mid Q s read q =
+      let all = s.all ++ read.more in
+      let came = Gives-append left mid left_after s.all read.more s.came read.given in
+      let walked = came_with t Begun Stands reader m out held read.more left mid left_after written written_mid s in
+      let captured = captured_of all s.records reader.format (reader.held ++ read.more) None walked read.holds.0 in
+      record {
+        bytes = all;
+        packets = packets_in s.records;
+        given = came;
+        captured = captured;
+        content = content_spent left left_after all (packets_in s.records) None came read.holds.1 captured;
+        holds = q;
+      }
+
+  -- its next record is refused
+  was_refused : (t : Texts P) (Begun Stands : P → Type 0) (reader : CaptureState) (m : Moments) (out held : List ℕ) (left mid left_after written written_mid : Option (List ℕ)) (Q : List Packet → Type 0) (kind : CaptureKind) (n : ℕ)
+      (s : Stood t Begun Stands reader m out held left mid written written_mid) → length s.records + 1 ≡ n
+      → ReadsOn reader.format reader.held mid left_after (λ bytes. IsRefused kind reader.format bytes × ((told reader.format bytes ≡ refused kind) ⊎ IsSpent left_after))
+      → Q (packets_in s.records) → WasCaptured left left_after (refusal_at n kind) Q
+  was_refused t Begun Stands reader m out held left mid left_after written written_mid Q kind n s number read q =
+      let all = s.all ++ read.more in
+      let rest = reader.held ++ read.more in
+      let came = Gives-append left mid left_after s.all read.more s.came read.given in
+      let walked = came_with t Begun Stands reader m out held read.more left mid left_after written written_mid s in
+      let captured = captured_of all s.records reader.format rest (refusal_at (length s.records + 1) kind) walked (refl, read.holds.0) in
+      record {
+        bytes = all;
+        packets = packets_in s.records;
+        given = came;
+        captured = subst (λ (k : ℕ). HasCaptured all (packets_in s.records) (refusal_at k kind)) number captured;
+        content =
+            subst (λ (k : ℕ). IfTold left (λ content. HasCaptured content (packets_in s.records) (refusal_at k kind))) number
+            (content_cut left left_after all s.records reader.format rest kind came walked captured read.holds.1);
+        holds = q;
+      }
+
+  -- these bytes came behind the records so far
+  was_read : (t : Texts P) (Begun Stands : P → Type 0) (reader : CaptureState) (m : Moments) (out held more : List ℕ) (left mid left_after written written_mid : Option (List ℕ)) (Q : List Read → Format → List ℕ → Type 0)
+      (s : Stood t Begun Stands reader m out held left mid written written_mid) → Gives mid left_after more → Q s.records reader.format (reader.held ++ more) → WasRead left left_after Q
+  was_read t Begun Stands reader m out held more left mid left_after written written_mid Q s came q = record {
+    bytes = s.all ++ more;
+    records = s.records;
+    now = reader.format;
+    rest = reader.held ++ more;
+    given = Gives-append left mid left_after s.all more s.came came;
+    walks = came_with t Begun Stands reader m out held more left mid left_after written written_mid s;
+    holds = q;
+  }
+
+  -- ---- a run that stops short
+
+  ended_short : (t : Texts P) (Begun Stands : P → Type 0) (reader : CaptureState) (m : Moments) (out held : List ℕ) (left mid left_after : Option (List ℕ)) (reads reads_mid reads_after : ℕ) (written written_mid written_after : Option (List ℕ))
+      (end : CaptureEnd) (s : Stood t Begun Stands reader m out held left mid written written_mid) → reads_mid ≡ reads
+      → ReadsOn reader.format reader.held mid left_after (λ bytes. CauseOfEnd end reader.format bytes left_after reads_mid reads_after) → (p : P) → Begun p
+      → WritesFront written_mid written_after (held ++ rest_text t (state t p (sightings (packets_in s.records))) end)
+      → StopsShort (λ xs. out ++ whole t p xs) (λ xs. out ++ broken t p xs) left left_after reads reads_after written written_after
+  ended_short t Begun Stands reader m out held left mid left_after reads reads_mid reads_after written written_mid written_after Ended s e read p begun front =
+      let xs = sightings (packets_in s.records) in
       let end = t.finish (state t p xs) ++ t.close (state t p xs) in
-      subst (λ (text : List ℕ). WritesFront written written_after text) (append_assoc out (said t p xs) end)
-      (drained_front written written_mid written_after (out ++ said t p xs) end held d (front_none written_mid written_after (held ++ end) e))
+      at_end None
+      (was_ended t Begun Stands reader m out held left mid left_after written written_mid (λ packets. WritesFront written written_after (out ++ whole t p (sightings packets))) s read
+      (subst (λ (text : List ℕ). WritesFront written written_after text) (append_assoc out (said t p xs) end)
+      (drained_front written written_mid written_after (out ++ said t p xs) end held (s.drained p begun) front)))
+  ended_short t Begun Stands reader m out held left mid left_after reads reads_mid reads_after written written_mid written_after (Refused kind) s e read p begun front =
+      let xs = sightings (packets_in s.records) in
+      let end = t.finish (state t p xs) ++ t.close (state t p xs) in
+      at_end (refusal_at (length s.records + 1) kind)
+      (was_refused t Begun Stands reader m out held left mid left_after written written_mid (λ packets. WritesFront written written_after (out ++ whole t p (sightings packets))) kind (length s.records + 1) s refl read
+      (subst (λ (text : List ℕ). WritesFront written written_after text) (append_assoc out (said t p xs) end)
+      (drained_front written written_mid written_after (out ++ said t p xs) end held (s.drained p begun) front)))
+  ended_short t Begun Stands reader m out held left mid left_after reads reads_mid reads_after written written_mid written_after capture_end.ReadFault s e read p begun front =
+      let xs = sightings (packets_in s.records) in
+      at_fault (subst (λ (k : ℕ). Rose k reads_after) e read.holds.1)
+      (was_read t Begun Stands reader m out held read.more left mid left_after written written_mid
+      (λ records now rest. IsOpen now rest × WritesFront written written_after (out ++ broken t p (sightings (packets_in records)))) s read.given (
+        read.holds.0,
+        subst (λ (text : List ℕ). WritesFront written written_after text) (append_assoc out (said t p xs) (t.finish (state t p xs)))
+            (drained_front written written_mid written_after (out ++ said t p xs) (t.finish (state t p xs)) held (s.drained p begun) front),
+      ))
+
+  broken_off : (t : Texts P) (Begun Stands : P → Type 0) (reader : CaptureState) (m : Moments) (out held : List ℕ) (left mid left_after : Option (List ℕ)) (reads reads_after : ℕ) (written written_mid written_after : Option (List ℕ))
+      → Stood t Begun Stands reader m out held left mid written written_mid → BreaksOff t Stands reader m held mid left_after written_mid written_after → (p : P) → Begun p
+      → StopsShort (λ xs. out ++ whole t p xs) (λ xs. out ++ broken t p xs) left left_after reads reads_after written written_after
+  broken_off t Begun Stands reader m out held left mid left_after reads reads_after written written_mid written_after s b p begun =
+      let all = s.all ++ b.more in
+      between
+      (record {
+        bytes = all;
+        records = s.records ++ b.records;
+        now = b.now;
+        rest = b.rest;
+        given = Gives-append left mid left_after s.all b.more s.came b.given;
+        walks = walks_on fresh all s.records reader.format (reader.held ++ b.more) b.records b.now b.rest (came_with t Begun Stands reader m out held b.more left mid left_after written written_mid s) b.walks;
+        holds = λ more.
+            front_on t p out (packets_in (s.records ++ b.records)) more written written_after
+            (front_written t p m s.records b.records out held written written_mid written_after s.moments (s.drained p begun) (b.front (state t p (sightings (packets_in s.records))) (s.told p begun)));
+      })
 
   pub stood_ends : (t : Texts P) (Begun Stands : P → Type 0) (reader : CaptureState) (m : Moments) (out held : List ℕ)
       (left mid left_after : Option (List ℕ)) (reads reads_mid reads_after : ℕ) (written written_mid written_after : Option (List ℕ)) (writes writes_mid writes_after : ℕ) (ending : Ending)
@@ -263,85 +315,46 @@ module _ {P : Type 0} where
       → (p : P) → Begun p
       → RunEnds (λ xs. out ++ whole t p xs) (λ xs. out ++ broken t p xs) ending left left_after reads reads_after written written_after writes writes_after
   stood_ends t Begun Stands reader m out held left mid left_after reads reads_mid reads_after written written_mid written_after writes writes_mid writes_after Done s e f turn p begun =
-      let all = s.all ++ turn.0.more in
-      let came = Gives-append left mid left_after s.all turn.0.more s.came turn.0.given in
-      let walked = came_with t Begun Stands reader m out held turn.0.more left mid left_after written written_mid s in
-      let captured = captured_of all s.records reader.format (reader.held ++ turn.0.more) None walked turn.0.holds.0 in
-      record {
-        bytes = all;
-        packets = packets_in s.records;
-        given = came;
-        captured = captured;
-        content = content_spent left left_after all (packets_in s.records) None came turn.0.holds.1 captured;
-        holds = whole_written t Begun Stands p (sightings (packets_in s.records)) out held written written_mid written_after (s.drained p begun) (turn.1 (state t p (sightings (packets_in s.records))) (s.told p begun));
-      }
+      was_ended t Begun Stands reader m out held left mid left_after written written_mid (λ packets. Appends written written_after (out ++ whole t p (sightings packets))) s turn.0
+      (whole_written t Begun Stands p (sightings (packets_in s.records)) out held written written_mid written_after (s.drained p begun) (turn.1 (state t p (sightings (packets_in s.records))) (s.told p begun)))
   stood_ends t Begun Stands reader m out held left mid left_after reads reads_mid reads_after written written_mid written_after writes writes_mid writes_after (BadCapture n kind) s e f turn p begun =
-      let all = s.all ++ turn.1.more in
-      let rest = reader.held ++ turn.1.more in
-      let came = Gives-append left mid left_after s.all turn.1.more s.came turn.1.given in
-      let walked = came_with t Begun Stands reader m out held turn.1.more left mid left_after written written_mid s in
-      let captured = captured_of all s.records reader.format rest (refusal_at (length s.records + 1) kind) walked (refl, turn.1.holds.0) in
       let number : length s.records + 1 ≡ n = omega (arith, turn.0, s.count) in
-      record {
-        bytes = all;
-        packets = packets_in s.records;
-        given = came;
-        captured = subst (λ (k : ℕ). HasCaptured all (packets_in s.records) (refusal_at k kind)) number captured;
-        content =
-            subst (λ (k : ℕ). IfTold left (λ content. HasCaptured content (packets_in s.records) (refusal_at k kind))) number
-            (content_cut left left_after all s.records reader.format rest kind came walked captured turn.1.holds.1);
-        holds = whole_written t Begun Stands p (sightings (packets_in s.records)) out held written written_mid written_after (s.drained p begun) (turn.2 (state t p (sightings (packets_in s.records))) (s.told p begun));
-      }
-  stood_ends t Begun Stands reader m out held left mid left_after reads reads_mid reads_after written written_mid written_after writes writes_mid writes_after ReadFault s e f turn p begun =
-      let all = s.all ++ turn.1.more in (
-        subst (λ (k : ℕ). Rose k reads_after) e turn.0,
-        record {
-          bytes = all;
-          records = s.records;
-          now = reader.format;
-          rest = reader.held ++ turn.1.more;
-          given = Gives-append left mid left_after s.all turn.1.more s.came turn.1.given;
-          walks = came_with t Begun Stands reader m out held turn.1.more left mid left_after written written_mid s;
-          holds = (turn.1.holds, broken_written t p (sightings (packets_in s.records)) out held written written_mid written_after (s.drained p begun) (turn.2 (state t p (sightings (packets_in s.records))) (s.told p begun)));
-        },
-      )
-  stood_ends t Begun Stands reader m out held left mid left_after reads reads_mid reads_after written written_mid written_after writes writes_mid writes_after WriteFault s e f turn p begun =
-      let b = turn.1 in
-      let all = s.all ++ b.more in (
-        subst (λ (k : ℕ). Rose k writes_after) f turn.0,
-        record {
-          bytes = all;
-          records = s.records ++ b.records;
-          now = b.now;
-          rest = b.rest;
-          given = Gives-append left mid left_after s.all b.more s.came b.given;
-          walks = walks_on fresh all s.records reader.format (reader.held ++ b.more) b.records b.now b.rest (came_with t Begun Stands reader m out held b.more left mid left_after written written_mid s) b.walks;
-          holds = front_written t p m s.records b.records out held written written_mid written_after s.moments (s.drained p begun) (b.front (state t p (sightings (packets_in s.records))) (s.told p begun));
-        },
-      )
+      was_refused t Begun Stands reader m out held left mid left_after written written_mid (λ packets. Appends written written_after (out ++ whole t p (sightings packets))) kind n s number turn.1
+      (whole_written t Begun Stands p (sightings (packets_in s.records)) out held written written_mid written_after (s.drained p begun) (turn.2 (state t p (sightings (packets_in s.records))) (s.told p begun)))
+  stood_ends t Begun Stands reader m out held left mid left_after reads reads_mid reads_after written written_mid written_after writes writes_mid writes_after ReadFault s e f turn p begun = (
+    subst (λ (k : ℕ). Rose k reads_after) e turn.0,
+    was_read t Begun Stands reader m out held turn.1.more left mid left_after written written_mid
+        (λ records now rest. IsOpen now rest × Appends written written_after (out ++ broken t p (sightings (packets_in records)))) s turn.1.given
+        (turn.1.holds, broken_written t p (sightings (packets_in s.records)) out held written written_mid written_after (s.drained p begun) (turn.2 (state t p (sightings (packets_in s.records))) (s.told p begun))),
+  )
+  stood_ends t Begun Stands reader m out held left mid left_after reads reads_mid reads_after written written_mid written_after writes writes_mid writes_after WriteFault s e f (rose, inl short) p begun = (
+    subst (λ (k : ℕ). Rose k writes_after) f rose,
+    ended_short t Begun Stands reader m out held left mid left_after reads reads_mid reads_after written written_mid written_after short.end s e short.read p begun
+        (short.front (state t p (sightings (packets_in s.records))) (s.told p begun)),
+  )
+  stood_ends t Begun Stands reader m out held left mid left_after reads reads_mid reads_after written written_mid written_after writes writes_mid writes_after WriteFault s e f (rose, inr off) p begun =
+      (subst (λ (k : ℕ). Rose k writes_after) f rose, broken_off t Begun Stands reader m out held left mid left_after reads reads_after written written_mid written_after s off p begun)
   stood_ends t Begun Stands reader m out held left mid left_after reads reads_mid reads_after written written_mid written_after writes writes_mid writes_after NoMemory s e f turn p begun =
-      record {
-        bytes = s.all ++ turn.more;
-        records = s.records;
-        now = reader.format;
-        rest = reader.held ++ turn.more;
-        given = Gives-append left mid left_after s.all turn.more s.came turn.given;
-        walks = came_with t Begun Stands reader m out held turn.more left mid left_after written written_mid s;
-        holds = still_front t p (sightings (packets_in s.records)) out held written written_mid written_after (s.drained p begun) turn.unwritten;
-      }
+      between
+      (was_read t Begun Stands reader m out held turn.more left mid left_after written written_mid
+      (λ records now rest. (more : List Packet) → WritesFront written written_after (out ++ whole t p (sightings (packets_in records ++ more)))) s turn.given
+      (λ more. front_on t p out (packets_in s.records) more written written_after
+      (still_front (out ++ said t p (sightings (packets_in s.records))) held written written_mid written_after (s.drained p begun) turn.unwritten)))
 
 -- a run that had no memory to begin
 pub run_none : {P : Type 0} (t : Texts P) (p : P) (out : List ℕ) (left : Option (List ℕ)) (reads : ℕ) (written : Option (List ℕ)) (writes : ℕ)
     → RunEnds (λ xs. out ++ whole t p xs) (λ xs. out ++ broken t p xs) NoMemory left left reads reads written written writes writes
-run_none t p out left reads written writes = record {
-  bytes = [];
-  records = [];
-  now = fresh;
-  rest = [];
-  given = Gives-same left;
-  walks = (refl, refl);
-  holds = front_none written written (out ++ whole t p []) refl;
-}
+run_none t p out left reads written writes =
+    between
+    (record {
+      bytes = [];
+      records = [];
+      now = fresh;
+      rest = [];
+      given = Gives-same left;
+      walks = (refl, refl);
+      holds = λ more. front_none written written (out ++ whole t p (sightings more)) refl;
+    })
 
 -- ---- one turn
 
@@ -374,18 +387,8 @@ module _ {P : Type 0} where
         reads_weaker reader.format reader.held left left_after (λ bytes. CauseOfEnd capture_end.ReadFault reader.format bytes left_after reads reads_after) (λ bytes. IsOpen reader.format bytes) (λ bytes h. h.0) r,
         ends.1,
       )
-  turn_ended t Stands end n WriteFault reader reader_after m held left left_after reads reads_after written written_after writes writes_after c nexts ends = (
-    ends.0,
-    record {
-      more = nexts.more;
-      given = nexts.given;
-      records = [];
-      now = reader.format;
-      rest = reader.held ++ nexts.more;
-      walks = (refl, refl);
-      front = ends.1;
-    },
-  )
+  turn_ended t Stands end n WriteFault reader reader_after m held left left_after reads reads_after written written_after writes writes_after c nexts ends =
+      (ends.0, inl (record { end = end; read = ended_by end end reader reader_after left left_after reads reads_after refl nexts; front = ends.1 }))
   turn_ended t Stands end n NoMemory reader reader_after m held left left_after reads reads_after written written_after writes writes_after c nexts ends =
       record { more = nexts.more; given = nexts.given; unwritten = ends }
 
@@ -397,22 +400,18 @@ module _ {P : Type 0} where
       → Rose writes writes_after → WritesFront written written_after held_mid
       → TurnEnds t Stands WriteFault reader m held left left_after reads reads_after written written_after writes writes_after
   turn_broken t Stands Stands_after reader reader_after m held held_mid left left_after written written_after reads reads_after writes writes_after nexts tells rose front =
-      let r = read_with nexts.1.holds.size reader_after.format reader_after.packet in
-      let ys = sighted m (with_packet reader_after.packet []) in (
+      let r = read_with nexts.1.holds.size reader_after.format reader_after.packet in (
         rose,
-        record {
-          more = nexts.1.more;
-          given = nexts.1.given;
-          records = r ∷ [];
-          now = reader_after.format;
-          rest = drop nexts.1.holds.size (reader.held ++ nexts.1.more);
-          walks = (nexts.1.holds.told_so, (refl, refl));
-          front = λ p stands.
-              let end = t.finish (state t p ys) ++ t.close (state t p ys) in
-              subst (λ (text : List ℕ). WritesFront written written_after text)
-              (ap (λ (text : List ℕ). text ++ end) (tells p stands).added ∙ append_assoc held (said t p ys) end)
-              (front_more written written_after held_mid end front);
-        },
+        inr
+            (record {
+              more = nexts.1.more;
+              given = nexts.1.given;
+              records = r ∷ [];
+              now = reader_after.format;
+              rest = drop nexts.1.holds.size (reader.held ++ nexts.1.more);
+              walks = (nexts.1.holds.told_so, (refl, refl));
+              front = λ p stands. subst (λ (text : List ℕ). WritesFront written written_after text) (tells p stands).added front;
+            }),
       )
 
   -- a record came, its packet was told of, and some text was written
@@ -464,6 +463,26 @@ captured_as_well : (left left_after : Option (List ℕ)) (end : Option Refusal) 
 captured_as_well left left_after end P Q f r =
     record { bytes = r.bytes; packets = r.packets; given = r.given; captured = r.captured; content = r.content; holds = f r.packets r.holds }
 
+short_as : (w v b d : List Sighting → List ℕ) → ((xs : List Sighting) → w xs ≡ v xs) → ((xs : List Sighting) → b xs ≡ d xs)
+    → (left left_after : Option (List ℕ)) (reads reads_after : ℕ) (written written_after : Option (List ℕ))
+    → StopsShort w b left left_after reads reads_after written written_after → StopsShort v d left left_after reads reads_after written written_after
+short_as w v b d e f left left_after reads reads_after written written_after (at_end end h) =
+    at_end end
+    (captured_as_well left left_after end (λ ps. WritesFront written written_after (w (sightings ps))) (λ ps. WritesFront written written_after (v (sightings ps)))
+    (λ ps. subst (λ (t : List ℕ). WritesFront written written_after t) (e (sightings ps))) h)
+short_as w v b d e f left left_after reads reads_after written written_after (at_fault rose h) =
+    at_fault rose
+    (read_as_well left left_after
+    (λ rs now rest. IsOpen now rest × WritesFront written written_after (b (sightings (packets_in rs))))
+    (λ rs now rest. IsOpen now rest × WritesFront written written_after (d (sightings (packets_in rs))))
+    (λ rs now rest g. (g.0, subst (λ (t : List ℕ). WritesFront written written_after t) (f (sightings (packets_in rs))) g.1)) h)
+short_as w v b d e f left left_after reads reads_after written written_after (between h) =
+    between
+    (read_as_well left left_after
+    (λ rs now rest. (more : List Packet) → WritesFront written written_after (w (sightings (packets_in rs ++ more))))
+    (λ rs now rest. (more : List Packet) → WritesFront written written_after (v (sightings (packets_in rs ++ more))))
+    (λ rs now rest g more. subst (λ (t : List ℕ). WritesFront written written_after t) (e (sightings (packets_in rs ++ more))) (g more)) h)
+
 pub ends_as : (w v b d : List Sighting → List ℕ) → ((xs : List Sighting) → w xs ≡ v xs) → ((xs : List Sighting) → b xs ≡ d xs)
     → (ending : Ending) (left left_after : Option (List ℕ)) (reads reads_after : ℕ) (written written_after : Option (List ℕ)) (writes writes_after : ℕ)
     → RunEnds w b ending left left_after reads reads_after written written_after writes writes_after → RunEnds v d ending left left_after reads reads_after written written_after writes writes_after
@@ -479,13 +498,6 @@ ends_as w v b d e f ReadFault left left_after reads reads_after written written_
       (λ rs now rest. IsOpen now rest × Appends written written_after (b (sightings (packets_in rs)))) (λ rs now rest. IsOpen now rest × Appends written written_after (d (sightings (packets_in rs))))
       (λ rs now rest g. (g.0, subst (λ (t : List ℕ). Appends written written_after t) (f (sightings (packets_in rs))) g.1)) h.1,
 )
-ends_as w v b d e f WriteFault left left_after reads reads_after written written_after writes writes_after h = (
-  h.0,
-  read_as_well left left_after
-      (λ rs now rest. WritesFront written written_after (w (sightings (packets_in rs)))) (λ rs now rest. WritesFront written written_after (v (sightings (packets_in rs))))
-      (λ rs now rest. subst (λ (t : List ℕ). WritesFront written written_after t) (e (sightings (packets_in rs)))) h.1,
-)
-ends_as w v b d e f NoMemory left left_after reads reads_after written written_after writes writes_after h =
-    read_as_well left left_after
-    (λ rs now rest. WritesFront written written_after (w (sightings (packets_in rs)))) (λ rs now rest. WritesFront written written_after (v (sightings (packets_in rs))))
-    (λ rs now rest. subst (λ (t : List ℕ). WritesFront written written_after t) (e (sightings (packets_in rs)))) h
+ends_as w v b d e f WriteFault left left_after reads reads_after written written_after writes writes_after h =
+    (h.0, short_as w v b d e f left left_after reads reads_after written written_after h.1)
+ends_as w v b d e f NoMemory left left_after reads reads_after written written_after writes writes_after h = short_as w v b d e f left left_after reads reads_after written written_after h

@@ -1,5 +1,5 @@
 -- How a run over a capture ended, and what it has read and written.
-use Rattle.std.specs.Prelude.{◌≡◌, ⊤, ℕ, List, Option, Some, None}
+use Rattle.std.specs.Prelude.{◌≡◌, ⊤, ℕ, List, ◌++◌, Option, Some, None}
 use Rattle.gev_links.specs.Faults.{Rose}
 use Rattle.gev_links.specs.Told.{Gives, Appends, WritesFront}
 use Rattle.script_runs.specs.Verdicts.{IfTold}
@@ -31,6 +31,19 @@ pub record WasRead (left left_after : Option (List ℕ)) (P : List Read → Form
   pub walks : Walks fresh bytes records now rest
   pub holds : P records now rest
 
+-- What was written is a front of the text, where writing failed or memory ran out.
+pub data StopsShort (whole broken : List Sighting → List ℕ) (left left_after : Option (List ℕ)) (reads reads_after : ℕ) (written written_after : Option (List ℕ)) : Type 0 where
+  -- the capture was read to its end, or to a record that is refused: of its text
+  at_end : (end : Option Refusal) → WasCaptured left left_after end (λ packets. WritesFront written written_after (whole (sightings packets)))
+      → StopsShort whole broken left left_after reads reads_after written written_after
+  -- reading failed: of what is written then
+  at_fault : Rose reads reads_after
+      → WasRead left left_after (λ records now rest. IsOpen now rest × WritesFront written written_after (broken (sightings (packets_in records))))
+      → StopsShort whole broken left left_after reads reads_after written written_after
+  -- more was to be read: of the text of each capture that begins with these records, whatever packets follow
+  between : WasRead left left_after (λ records now rest. (more : List Packet) → WritesFront written written_after (whole (sightings (packets_in records ++ more))))
+      → StopsShort whole broken left left_after reads reads_after written written_after
+
 -- By the ending, where `whole` is the text of a capture with these packets, and `broken` that of one whose
 -- reading failed behind them: the capture's text was written, or a front of it.
 abbrev pub RunEnds : (List Sighting → List ℕ) → (List Sighting → List ℕ) → Ending → Option (List ℕ) → Option (List ℕ) → ℕ → ℕ → Option (List ℕ) → Option (List ℕ) → ℕ → ℕ → Type 0
@@ -42,10 +55,9 @@ RunEnds whole broken ReadFault left left_after reads reads_after written written
     Rose reads reads_after
     × WasRead left left_after (λ records now rest. IsOpen now rest × Appends written written_after (broken (sightings (packets_in records))))
 RunEnds whole broken WriteFault left left_after reads reads_after written written_after writes writes_after =
-    Rose writes writes_after
-    × WasRead left left_after (λ records now rest. WritesFront written written_after (whole (sightings (packets_in records))))
+    Rose writes writes_after × StopsShort whole broken left left_after reads reads_after written written_after
 RunEnds whole broken NoMemory left left_after reads reads_after written written_after writes writes_after =
-    WasRead left left_after (λ records now rest. WritesFront written written_after (whole (sightings (packets_in records))))
+    StopsShort whole broken left left_after reads reads_after written written_after
 
 -- The capture was read to its end, or to a record that is refused.
 abbrev pub IsWhole : Ending → Type 0

@@ -1,5 +1,5 @@
 -- One turn of the loop: a record is read and told of, or the run ends.
-use Rattle.std.specs.Prelude.{⊤, ◌≡◌, ◌⊎◌, ℕ, ◌+◌, List, [], ◌∷◌, ◌++◌, Option, Some, None, Result, Ok, Err}
+use Rattle.std.specs.Prelude.{⊤, ◌≡◌, ◌⊎◌, ℕ, ◌+◌, List, [], ◌∷◌, ◌++◌, Option, Result, Ok, Err}
 use Rattle.gev_links.specs.Faults.{Rose}
 use Rattle.gev_links.specs.Told.{Gives, IsSpent, Appends, WritesFront}
 use Rattle.gev_capture.specs.declared.capture_end.CaptureEnd.{CaptureEnd}
@@ -9,13 +9,13 @@ use Rattle.gev_capture.specs.declared.moments.Moments.{Moments}
 use Rattle.gev_capture.specs.Files.{Packet, Format, refused, told}
 use Rattle.gev_capture.specs.Captures.{Read, IsOpen, IsAtEnd, IsRefused, with_packet, packets_in}
 use Rattle.gev_capture.specs.Sightings.{moments_after, sighted}
-use Rattle.gev_capture.specs.Reading.{ReadsOn}
+use Rattle.gev_capture.specs.Reading.{ReadsOn, CauseOfEnd}
 use Rattle.gev_capture.specs.Walking.{CaptureState, IsNext, Walks}
 use Rattle.capture_runs.specs.declared.ending.Ending.{Ending}
 use Rattle.capture_runs.specs.declared.ending.Ending.TheVariants.{Done, BadCapture, ReadFault, WriteFault, NoMemory}
 use Rattle.capture_runs.specs.declared.stop.Stop.{Stop}
 use Rattle.capture_runs.specs.declared.stop.Stop.TheVariants as stops
-use Rattle.capture_runs.specs.Texts.{Texts, said, state, whole, Tells}
+use Rattle.capture_runs.specs.Texts.{Texts, said, state}
 
 -- the moments behind packets
 abbrev pub moments_behind : Moments → List Packet → Moments
@@ -55,7 +55,7 @@ EndsWith {P} t Stands end n (BadCapture number kind) held written written_after 
 EndsWith {P} t Stands end n ReadFault held written written_after writes writes_after =
     (end ≡ capture_end.ReadFault) × ((p : P) → Stands p → Appends written written_after (held ++ t.finish p))
 EndsWith {P} t Stands end n WriteFault held written written_after writes writes_after =
-    Rose writes writes_after × ((p : P) → Stands p → WritesFront written written_after (held ++ (t.finish p ++ t.close p)))
+    Rose writes writes_after × ((p : P) → Stands p → WritesFront written written_after (held ++ rest_text t p end))
 EndsWith t Stands end n NoMemory held written written_after writes writes_after = written_after ≡ written
 
 -- A record was read and its packet told of, of which some text was written.
@@ -67,7 +67,13 @@ pub record GoesOn {P : Type 0} (t : Texts P) (Stands Stands_after : P → Type 0
   pub told : (p : P) → Stands p → Stands_after (state t p (sighted m (with_packet reader_after.packet [])))
   pub drained : (p : P) → Stands p → Drains written written_after (held ++ said t p (sighted m (with_packet reader_after.packet []))) held_after
 
--- A front of the text was written, of at most one record more.
+-- No further record came, and a front of the text was written that is still to be written then.
+pub record EndsShort {P : Type 0} (t : Texts P) (Stands : P → Type 0) (reader : CaptureState) (held : List ℕ) (left left_after : Option (List ℕ)) (reads reads_after : ℕ) (written written_after : Option (List ℕ)) : Type 0 where
+  pub end : CaptureEnd
+  pub read : ReadsOn reader.format reader.held left left_after (λ bytes. CauseOfEnd end reader.format bytes left_after reads reads_after)
+  pub front : (p : P) → Stands p → WritesFront written written_after (held ++ rest_text t p end)
+
+-- A front of the text was written that is told of at most one record more.
 pub record BreaksOff {P : Type 0} (t : Texts P) (Stands : P → Type 0) (reader : CaptureState) (m : Moments) (held : List ℕ) (left left_after written written_after : Option (List ℕ)) : Type 0 where
   pub more : List ℕ
   pub given : Gives left left_after more
@@ -75,7 +81,7 @@ pub record BreaksOff {P : Type 0} (t : Texts P) (Stands : P → Type 0) (reader 
   pub now : Format
   pub rest : List ℕ
   pub walks : Walks reader.format (reader.held ++ more) records now rest
-  pub front : (p : P) → Stands p → WritesFront written written_after (held ++ whole t p (sighted m (packets_in records)))
+  pub front : (p : P) → Stands p → WritesFront written written_after (held ++ said t p (sighted m (packets_in records)))
 
 -- nothing was written
 pub record RunsOut (reader : CaptureState) (left left_after written written_after : Option (List ℕ)) : Type 0 where
@@ -97,6 +103,8 @@ TurnEnds {P} t Stands ReadFault reader m held left left_after reads reads_after 
     × ReadsOn reader.format reader.held left left_after (λ bytes. IsOpen reader.format bytes)
     × ((p : P) → Stands p → Appends written written_after (held ++ t.finish p))
 TurnEnds t Stands WriteFault reader m held left left_after reads reads_after written written_after writes writes_after =
-    Rose writes writes_after × BreaksOff t Stands reader m held left left_after written written_after
+    Rose writes writes_after
+    × (EndsShort t Stands reader held left left_after reads reads_after written written_after
+    ⊎ BreaksOff t Stands reader m held left left_after written written_after)
 TurnEnds t Stands NoMemory reader m held left left_after reads reads_after written written_after writes writes_after =
     RunsOut reader left left_after written written_after

@@ -1,4 +1,4 @@
-use Rattle.std.specs.Prelude.{ℕ, List, ◌++◌}
+use Rattle.std.specs.Prelude.{List, ◌++◌}
 use Rattle.gev_capture.specs.Sightings.{Sighting}
 use Rattle.capture_runs.specs.Texts.{whole, broken}
 use Rattle.capture_runs.proofs.Walked.{run_none, answers_told}

@@ -1,4 +1,4 @@
-use Rattle.std.proofs.Common.{◌≡◌, ◌≤◌, ℕ, refl, ap, subst, sym, ◌∙◌, arith}
+use Rattle.std.proofs.Common.{◌≡◌, refl, ap, ◌∙◌, arith}
 use Rattle.gev_capture.specs.Walking.{CaptureState}
 use Rattle.capture_runs.proofs.Walked.{stood_none, stood_on, stood_ends}
 use Rattle.capture_runs.proofs.running.run_records.Goals as goal
