@@ -53,10 +53,10 @@ pub(crate) fn claim(player: &mut Player, used: &mut Used, place: u8, claimed: bo
     ensures { (q : _) → StandsAt player.old used.old q → IsFreeFor place q → StandsAt player.new used.new (q ++ claim_told (told_outcome claimed place) ∷ []) }
 {
     if claimed {
-        player.claim(Some(place));
+        player.give(Some(place));
         *used = used.take(place);
     } else {
-        player.claim(None);
+        player.give(None);
     }
 }
 

@@ -4,8 +4,8 @@ use Rattle.gev_record.proofs.replica.claim.Goals as goal
 pub returns-then-claimed : goal.returns-then-claimed
 returns-then-claimed c =
     λ q s free. rw c.if-claimed.true
-    (given_one c.args.player.now c.claim.new.self c.args.used.now c.take.result c.args.place q s free c.requires.asked c.claim.ensures.plays c.take.ensures)
+    (given_one c.args.player.now c.give.new.self c.args.used.now c.take.result c.args.place q s free c.requires.asked c.give.ensures.plays c.take.ensures)
 
 pub returns-else-claimed : goal.returns-else-claimed
 returns-else-claimed c =
-    λ q s free. rw c.if-claimed.false (given_none c.args.player.now c.claim-else-claimed.new.self c.args.used.now c.args.place q s c.claim-else-claimed.ensures.plays)
+    λ q s free. rw c.if-claimed.false (given_none c.args.player.now c.give-else-claimed.new.self c.args.used.now c.args.place q s c.give-else-claimed.ensures.plays)
