@@ -1,7 +1,7 @@
 use Rattle.std.specs.Prelude.{length}
 use Rattle.gvsp_std.proofs.Written.{widened_fits}
 use Rattle.capture_script.proofs.Heard.{hears_wide, hears_refused, front_is}
-use Rattle.capture_script.proofs.hearing.hear_standard.Goals as goal
+use Rattle.capture_script.proofs.hearing.receive_standard.Goals as goal
 
 pub widen-requires-clause-room : goal.widen-requires-clause-room
 widen-requires-clause-room c = widened_fits c.args.widener.now c.args.bytes.now (length c.args.room.now) c.requires.room

@@ -1,7 +1,7 @@
 use Rattle.std.proofs.Common.{ℕ, ap, sym, ◌∙◌}
 use Rattle.capture_script.specs.Playing.{is_standard}
 use Rattle.capture_script.proofs.Heard.{hears_plain}
-use Rattle.capture_script.proofs.hearing.hear_bytes.Goals as goal
+use Rattle.capture_script.proofs.hearing.receive_bytes.Goals as goal
 
 pub returns-clause-hears : goal.returns-clause-hears
 returns-clause-hears c s =

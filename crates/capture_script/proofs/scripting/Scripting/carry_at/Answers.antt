@@ -1,7 +1,7 @@
 use Rattle.std.proofs.lemmas.Result.{on_ok_weaker}
 use Rattle.capture_script.specs.Script.{ticks, carries}
 use Rattle.capture_script.proofs.Adding.{both_add}
-use Rattle.capture_script.proofs.scripting.Scripting.tell.Goals as goal
+use Rattle.capture_script.proofs.scripting.Scripting.carry_at.Goals as goal
 
 pub returns : goal.returns
 returns c =
