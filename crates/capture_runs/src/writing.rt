@@ -15,7 +15,7 @@ use gev_types::NoMemory;
 const HELD_BACK: usize = 65_536;
 
 /// Writes the text that is held back, once it's long.
-pub(crate) fn drain<K: Sink>(sink: &mut K, out: &mut Vec<u8>) -> Result<(), Failed>
+pub(crate) fn write_if_long<K: Sink>(sink: &mut K, out: &mut Vec<u8>) -> Result<(), Failed>
     ensures drained { OnOk result (Drains (K.written sink.old) (K.written sink.new) out.old.items out.new.items) }
     ensures no_fault { OnOk result (K.faults sink.new ≡ K.faults sink.old) }
     ensures front { OnErr result (WritesFront (K.written sink.old) (K.written sink.new) out.old.items) }
