@@ -1,5 +1,5 @@
 use Rattle.script_tape.proofs.Retired.{tells_done}
-use Rattle.script_tape.proofs.gaps.tell_done.Goals as goal
+use Rattle.script_tape.proofs.gaps.tape_done.Goals as goal
 
 pub returns : goal.returns
 returns c config b low cause o is same out =
