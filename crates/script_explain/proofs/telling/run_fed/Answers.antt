@@ -2,7 +2,7 @@ use Rattle.gev_script.specs.Lines.{view}
 use Rattle.script_explain.specs.Explains.{ToldLine}
 use Rattle.std.proofs.Common.{sym, subst}
 use Rattle.script_explain.proofs.Started.{line_told}
-use Rattle.script_explain.proofs.telling.tell_fed.Goals as goal
+use Rattle.script_explain.proofs.telling.run_fed.Goals as goal
 
 pub returns : goal.returns
 returns c =

@@ -1,6 +1,6 @@
 use Rattle.gev_script.specs.Lines.{view}
 use Rattle.script_explain.proofs.States.{untold_result}
-use Rattle.script_explain.proofs.telling.tell_said.Goals as goal
+use Rattle.script_explain.proofs.telling.run_said.Goals as goal
 
 pub returns-then-not-is_fed : goal.returns-then-not-is_fed
 returns-then-not-is_fed c =
