@@ -2,7 +2,7 @@ use Rattle.std.proofs.Common.{◌∙◌, sym, subst, List}
 use Rattle.acquisition_machine.specs.Blocks.{Given}
 use Rattle.script_replay.specs.Acquiring.{AreAway}
 use Rattle.picture_lines.proofs.Driven.{ticks_so}
-use Rattle.picture_lines.proofs.lines.pass_to.Goals as goal
+use Rattle.picture_lines.proofs.lines.tick_stream.Goals as goal
 
 pub returns : goal.returns
 returns c =
