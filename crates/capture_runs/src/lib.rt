@@ -5,11 +5,11 @@
 //! written by its ending.
 #![tactic(auto)]
 
-mod draining; // text on its way to a sink
 mod ending; // how a run ended
 mod running; // the loop over the records
 mod stop; // why a text wasn't written
 mod telling; // who writes the text of the packets
+mod writing; // text on its way to a sink
 
 pub use ending::Ending;
 pub use running::run_capture;

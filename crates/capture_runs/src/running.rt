@@ -8,10 +8,10 @@ ghost use Rattle.capture_runs.specs.Ends.{RunEnds, IsWhole, AnswersContent};
 ghost use Rattle.capture_runs.specs.Turns.{moments_behind, planned_ending, EndsWith, GoesOn, TurnEnds};
 ghost use Rattle.capture_runs.specs.declared.ending.Ending.{Ending as EndingOf};
 
-use crate::draining::{drain, write_rest};
 use crate::ending::Ending;
 use crate::stop::Stop;
 use crate::telling::Telling;
+use crate::writing::{write_if_long, write_rest};
 use gev_capture::{CaptureEnd, Moments, Reader, content_of};
 use gev_links::{Failed, Sink, Source};
 use gev_types::NoMemory;
@@ -105,7 +105,7 @@ fn run_next<S: Source, K: Sink, T: Telling>(
     if tell_packet(reader, moments, telling, out).is_err() {
         return Some(Ending::NoMemory);
     }
-    match drain(sink, out) {
+    match write_if_long(sink, out) {
         Ok(()) => None,
         Err(Failed) => Some(Ending::WriteFault),
     }

@@ -27,7 +27,7 @@ fn is_standard(top: u64, bytes: &[u8]) -> bool
 
 /// Tells a datagram with standard identifiers as one with extended ones, which comes into the room. One whose id names
 /// no block isn't told.
-fn hear_standard(
+fn receive_standard(
     player: &mut Player,
     p: u32,
     widener: &mut Widener,
@@ -49,7 +49,7 @@ fn hear_standard(
 }
 
 /// Tells a datagram, and gives a buffer where it asks for one. Answers how many buffers were filled.
-pub(crate) fn hear_bytes(
+pub(crate) fn receive_bytes(
     player: &mut Player,
     p: u32,
     widener: &mut Widener,
@@ -65,7 +65,7 @@ pub(crate) fn hear_bytes(
 {
     let top = widener.top();
     if is_standard(top, bytes) {
-        return hear_standard(player, p, widener, room, bytes);
+        return receive_standard(player, p, widener, room, bytes);
     }
     tell(player, p, bytes)
 }

@@ -2,7 +2,7 @@ ghost use Rattle.std.specs.Prelude.{◌≡◌, ◌≤◌, length, IfOk};
 ghost use Rattle.capture_script.specs.Playing.{Played, nothing_played, heard, ticked, stopped};
 ghost use Rattle.capture_script.specs.Standing.{StandsAt, PlaysLine};
 
-use crate::hearing::hear_bytes;
+use crate::hearing::receive_bytes;
 use crate::turning::{tell_moment, tell_stop};
 use gev_types::NoMemory;
 use gvsp_std::Widener;
@@ -11,7 +11,7 @@ use std::marker::Model;
 use take_lines::{AcqConfig, Player};
 
 /// The most bytes of a datagram in a script.
-const MOST_BYTES: usize = 9999;
+pub(crate) const MOST_BYTES: usize = 9999;
 
 /// The acquisition that a script plays, of which each line says how many buffers it fills. They go back at once.
 ///
@@ -67,11 +67,11 @@ impl Playing {
     }
 
     /// A datagram comes, and finds a buffer if it needs one. Answers how many buffers are filled.
-    pub fn hear(&mut self, bytes: &[u8]) -> u8
+    pub fn receive(&mut self, bytes: &[u8]) -> u8
         requires { length bytes.now ≤ 9999 }
         ensures { (s : Played) → StandsAt self.old s → PlaysLine (heard self.old.p self.old.size bytes.now s) self.old self.new result }
     {
-        hear_bytes(
+        receive_bytes(
             &mut self.player,
             self.p,
             &mut self.widener,

@@ -4,7 +4,7 @@ ghost use Rattle.capture_runs.specs.Ends.{RunEnds, IsWhole, AnswersContent};
 ghost use Rattle.capture_script.specs.Script.{Scripted, new_script, opening_lines, text_of, both, goes_on, ticks, carries, is_for, carried, capture_script, begun_script};
 ghost use Rattle.capture_script.specs.Scripting.{StandsFor, AddsLines};
 
-use crate::playing::Playing;
+use crate::playing::{MOST_BYTES, Playing};
 use crate::writing::{add_datagram, add_opening, add_takes};
 use capture_runs::{Ending, Telling, run_capture};
 use gev_capture::Content;
@@ -20,9 +20,6 @@ const MOST_DIGITS: usize = 19_998;
 
 /// The most bytes of text that are held back: 65,536, and the lines of a packet.
 const MOST_HELD: usize = 90_000;
-
-/// The most bytes of a datagram in a script.
-const MOST_BYTES: usize = 9999;
 
 /// Who writes the script of the datagrams to one port. Contracts see the port, what was played, and the moment of the
 /// last `t` line.
@@ -82,11 +79,11 @@ impl Scripting {
         ensures { OnOk result ((s : Scripted) → StandsFor self.old s → AddsLines (carries bytes.now s) self.new out.old.items out.new.items) }
     {
         add_datagram(self.alloc, bytes, self.room.as_mut_slice(), out)?;
-        add_takes(self.alloc, self.playing.hear(bytes), out)
+        add_takes(self.alloc, self.playing.receive(bytes), out)
     }
 
     /// The datagram comes at this moment.
-    fn tell(&mut self, moment: u64, bytes: &[u8], out: &mut Vec<u8>) -> Result<(), NoMemory>
+    fn carry_at(&mut self, moment: u64, bytes: &[u8], out: &mut Vec<u8>) -> Result<(), NoMemory>
         requires some { 1 ≤ length bytes.now }
         requires few { length bytes.now ≤ 9999 }
         ensures { OnOk result ((s : Scripted) → StandsFor self.old s
@@ -97,7 +94,7 @@ impl Scripting {
     }
 
     /// The datagram comes at this moment, sent to the port `to`.
-    fn receive(
+    fn carry_for(
         &mut self,
         moment: u64,
         to: u16,
@@ -108,7 +105,7 @@ impl Scripting {
             → AddsLines (carried moment to bytes.now s) self.new out.old.items out.new.items) }
     {
         if is_for(self.port, to, bytes) {
-            return self.tell(moment, bytes, out);
+            return self.carry_at(moment, bytes, out);
         }
         Ok(())
     }
@@ -135,7 +132,7 @@ impl Telling for Scripting {
                 sender: _,
                 receiver,
                 bytes,
-            } => self.receive(moment, receiver.port, bytes, out),
+            } => self.carry_for(moment, receiver.port, bytes, out),
             Content::Other => Ok(()),
             Content::Fragment => Ok(()),
             Content::Cut => Ok(()),

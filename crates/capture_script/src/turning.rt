@@ -28,7 +28,7 @@ fn tell_again(player: &mut Player, p: u32, bytes: &[u8]) -> u8
     ensures size { player.new.size ≡ player.old.size }
     ensures few { result ≤ 4 }
 {
-    player.claim(Some(0));
+    player.give(Some(0));
     let (_need, back) = player.datagram(bytes);
     count(&back)
 }

@@ -1,4 +1,4 @@
-//! Requests that are written, and told.
+//! Requests that are written, and put on the tape.
 
 ghost use Rattle.std.specs.Prelude.{◌≡◌, ◌++◌, [], Bool, List, OnOk};
 ghost use Rattle.gev_report.specs.ReplayLines.{request_line};
@@ -14,7 +14,7 @@ use gev_report::line_request;
 use gev_types::NoMemory;
 use note_tape::Told;
 use script_replay::line_standard;
-use script_tape::tell_asked;
+use script_tape::tape_asked;
 use std::alloc::Global;
 
 /// Adds the line of a request, in the standard form or as it is.
@@ -32,9 +32,9 @@ fn write_request(
     line_request(alloc, command, out)
 }
 
-/// Adds the line of each request that waits in the receiver, first in first, and tells it with the number of
-/// its block's round.
-pub(crate) fn tell_requests(
+/// Adds the line of each request that waits in the receiver, first in first, and puts it on the tape with the
+/// number of its block's round.
+pub(crate) fn tape_requests(
     alloc: Global,
     acq: &mut Acq,
     standard: bool,
@@ -49,7 +49,7 @@ pub(crate) fn tell_requests(
     ensures rest { OnOk result (KeepsBlocks acq.old acq.new) }
 {
     while let Some((resend, round)) = acq.first_request() {
-        tell_asked(tape, resend, round)?;
+        tape_asked(tape, resend, round)?;
         match acq.next_request() {
             Some(command) => write_request(alloc, standard, &command, out)?,
             None => {}

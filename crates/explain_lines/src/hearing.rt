@@ -1,4 +1,4 @@
-//! Datagrams that are heard, and told.
+//! Datagrams that are received, and what became of them on the tape.
 
 ghost use Rattle.std.specs.Prelude.{◌≡◌, ◌++◌, ◌∷◌, [], IfOk, OnOk, Option};
 ghost use Rattle.board_machine.specs.Machine.{Board, Item};
@@ -11,17 +11,17 @@ ghost use Rattle.script_replay.specs.Acquiring.{IsAtRest, AreAway, Drives};
 ghost use Rattle.explain_lines.specs.Marks.{KeepsMarks};
 ghost use Rattle.explain_lines.specs.Hearing.{IsTelling, SettlesTold, TellsPart, HearsIn, way_notes, claim_notes};
 
-use crate::retired::{id_at, tell_retired};
+use crate::retired::{id_at, tape_retired};
 use acq_core::{Acq, Need};
 use board_model::PlainBoard;
 use buffer_modes::Mode;
 use gev_types::NoMemory;
 use note_tape::Told;
 use script_replay::{FillCounts, Got, give_claimed};
-use script_tape::{tell_dropped, tell_need};
+use script_tape::{tape_dropped, tape_need};
 
-/// Tells a datagram, fills the buffers that come back, and tells what became of all. The answer is what the
-/// datagram needs.
+/// Tells a datagram, fills the buffers that come back, and puts what became of all on the tape. The answer is what
+/// the datagram needs.
 fn fill_what_retires(
     board: &mut PlainBoard,
     acq: &mut Acq,
@@ -38,23 +38,23 @@ fn fill_what_retires(
     ensures { IfOk result (λ need. SettlesTold mode bytes.now board.old acq.old counts.old tape.old.items need board.new acq.new counts.new tape.new.items) }
 {
     let need = acq.datagram(bytes);
-    tell_need(tape, need, bytes)?;
-    tell_retired(board, acq, counts, mode, tape)?;
+    tape_need(tape, need, bytes)?;
+    tape_retired(board, acq, counts, mode, tape)?;
     Ok(need)
 }
 
-/// Tells the image that a claimed place had, where it was dropped for the claim.
-fn tell_way(tape: &mut Vec<Told>, board: &PlainBoard, got: Got) -> Result<(), NoMemory>
+/// Puts the image that a claimed place had on the tape, where it was dropped for the claim.
+fn tape_way(tape: &mut Vec<Told>, board: &PlainBoard, got: Got) -> Result<(), NoMemory>
     ensures { OnOk result ((before : Board) → KeepsMarks before board.now.board → Tells tape.old.items tape.new.items (way_notes before got.place got.dropped)) }
 {
     match got.dropped {
-        Some(block) => tell_dropped(tape, block, id_at(board, got.place)),
+        Some(block) => tape_dropped(tape, block, id_at(board, got.place)),
         None => Ok(()),
     }
 }
 
-/// Tells what a claim for this block got.
-fn tell_claim(
+/// Puts on the tape what a claim for this block got.
+fn tape_claim(
     tape: &mut Vec<Told>,
     board: &PlainBoard,
     block: u64,
@@ -64,7 +64,7 @@ fn tell_claim(
 {
     match got {
         Some(got) => {
-            tell_way(tape, board, got)?;
+            tape_way(tape, board, got)?;
             tape.push(Told::Opened(block, Some(id_at(board, got.place))))?;
             Ok(())
         }
@@ -76,7 +76,7 @@ fn tell_claim(
 }
 
 /// Tells a datagram. Where it wants a buffer, one is claimed by the mode, and the datagram is told again.
-/// What becomes of all is told on the tape.
+/// What becomes of all is put on the tape.
 pub(crate) fn receive(
     board: &mut PlainBoard,
     acq: &mut Acq,
@@ -94,7 +94,7 @@ pub(crate) fn receive(
     match fill_what_retires(board, acq, counts, mode, bytes, tape)? {
         Need::Buffer(block) => {
             let got = give_claimed(board, acq, counts, mode);
-            tell_claim(tape, board, block, got)?;
+            tape_claim(tape, board, block, got)?;
             fill_what_retires(board, acq, counts, mode, bytes, tape)?;
             Ok(())
         }

@@ -5,10 +5,10 @@
 //! which images gave way to others, and what was asked for.
 #![tactic(auto)]
 
-mod asking; // requests that are written, and told
-mod hearing; // datagrams that are heard, and told
+mod asking; // requests that are written, and put on the tape
+mod hearing; // datagrams that are received, and what became of them
 mod lines; // the lines `stop`, `t` and `d`
-mod retired; // blocks that retire, and are told
+mod retired; // blocks that retire, and are put on the tape
 #[cfg(test)]
 mod tests;
 

@@ -10,9 +10,9 @@ ghost use Rattle.script_replay.specs.Replays.{IsReplaying, Fits};
 ghost use Rattle.explain_lines.specs.Hearing.{StopsIn, TellsPart, TicksTold};
 ghost use Rattle.explain_lines.specs.Telling.{GoesTold, TellsLine};
 
-use crate::asking::tell_requests;
+use crate::asking::tape_requests;
 use crate::hearing::receive;
-use crate::retired::tell_retired;
+use crate::retired::tape_retired;
 use acq_core::Acq;
 use board_model::PlainBoard;
 use buffer_modes::Mode;
@@ -45,7 +45,7 @@ fn stop_stream(
         Ok(()) => {
             acq.tell_ends();
             acq.stop();
-            tell_retired(board, acq, counts, mode, tape)?;
+            tape_retired(board, acq, counts, mode, tape)?;
             line_done(alloc, "stop", out)
         }
         Err(error) => line_refused(alloc, "stop", error, out),
@@ -99,8 +99,8 @@ fn tick_stream(
 {
     acq.tell_ends();
     acq.tick(moment);
-    tell_retired(board, acq, counts, mode, tape)?;
-    tell_requests(alloc, acq, standard, tape, out)
+    tape_retired(board, acq, counts, mode, tape)?;
+    tape_requests(alloc, acq, standard, tape, out)
 }
 
 /// Runs a `t` line as `script_replay` does: adds its report to the empty `out`, and to the empty tape what

@@ -1,4 +1,4 @@
-//! What retires is filled, and told.
+//! What retires is filled, and put on the tape.
 
 ghost use Rattle.std.specs.Prelude.{◌≡◌, ◌++◌, ◌∷◌, [], List, map, OnOk};
 ghost use Rattle.board_machine.specs.Machine.{Board, Item, IsActor};
@@ -23,7 +23,7 @@ use gentl_types::BufferId;
 use gev_types::{NoMemory, PLACES};
 use note_tape::Told;
 use script_replay::{FillCounts, fill_one};
-use script_tape::{tell_done, tell_dropped, tell_gap};
+use script_tape::{tape_done, tape_dropped, tape_gap};
 
 /// The id of the buffer that a place has.
 pub(crate) fn id_at(board: &PlainBoard, place: u8) -> BufferId
@@ -38,26 +38,26 @@ pub(crate) fn id_at(board: &PlainBoard, place: u8) -> BufferId
     BufferId { place, generation }
 }
 
-/// Tells an image that gave way to another.
-fn tell_one(tape: &mut Vec<Told>, board: &PlainBoard, one: &Gone) -> Result<(), NoMemory>
+/// Puts an image that gave way to another on the tape.
+fn tape_one(tape: &mut Vec<Told>, board: &PlainBoard, one: &Gone) -> Result<(), NoMemory>
     ensures { OnOk result ((before : Board) → KeepsMarks before board.now.board → Tells tape.old.items tape.new.items (drops one.now.block (buffer_at before one.now.place) ∷ [])) }
 {
-    tell_dropped(tape, one.block, id_at(board, one.place))
+    tape_dropped(tape, one.block, id_at(board, one.place))
 }
 
-/// Tells which images gave way to another.
-fn tell_gone(tape: &mut Vec<Told>, board: &PlainBoard, gone: &[Gone]) -> Result<(), NoMemory>
+/// Puts on the tape which images gave way to another.
+fn tape_gone(tape: &mut Vec<Told>, board: &PlainBoard, gone: &[Gone]) -> Result<(), NoMemory>
     ensures { OnOk result ((before : Board) → KeepsMarks before board.now.board → (xs : List Item) → gone.now ≡ map gone_of xs
         → Tells tape.old.items tape.new.items (drop_notes before xs)) }
 {
     for one in gone {
-        tell_one(tape, board, one)?;
+        tape_one(tape, board, one)?;
     }
     Ok(())
 }
 
-/// Fills a block's buffer, and tells it.
-fn tell_filled(
+/// Fills a block's buffer, and puts the block on the tape.
+fn tape_filled(
     board: &mut PlainBoard,
     counts: &mut FillCounts,
     mode: Mode,
@@ -72,12 +72,12 @@ fn tell_filled(
     let buffer = Some(id_at(board, fill.place));
     let mut gone = ArrayVec::new();
     let filled = fill_one(board, counts, mode, fill, &mut gone);
-    tell_gone(tape, board, gone.as_slice())?;
-    tell_done(tape, end, buffer, filled)
+    tape_gone(tape, board, gone.as_slice())?;
+    tape_done(tape, end, buffer, filled)
 }
 
-/// Fills each buffer that waits in the receiver, first in first, and tells each block that retired.
-pub(crate) fn tell_retired(
+/// Fills each buffer that waits in the receiver, first in first, and puts each block that retired on the tape.
+pub(crate) fn tape_retired(
     board: &mut PlainBoard,
     acq: &mut Acq,
     counts: &mut FillCounts,
@@ -96,12 +96,12 @@ pub(crate) fn tell_retired(
     ensures away { OnOk result (AreAway board.new (buffers acq.new)) }
 {
     while let Some(end) = acq.next_ended() {
-        tell_gap(tape, end.floor, end.block)?;
+        tape_gap(tape, end.floor, end.block)?;
         if end.held.is_none() {
-            tell_done(tape, end, None, false)?;
+            tape_done(tape, end, None, false)?;
         } else {
             match acq.next_fill() {
-                Some(fill) => tell_filled(board, counts, mode, end, fill, tape)?,
+                Some(fill) => tape_filled(board, counts, mode, end, fill, tape)?,
                 None => {}
             }
         }

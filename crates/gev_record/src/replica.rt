@@ -48,15 +48,15 @@ pub(crate) fn tell(
 }
 
 /// Gives the outcome of a claim: a buffer at this place, or none.
-pub(crate) fn claim(player: &mut Player, used: &mut Used, place: u8, claimed: bool)
+pub(crate) fn give_outcome(player: &mut Player, used: &mut Used, place: u8, claimed: bool)
     requires asked { IsSome (asked_in player.old) }
     ensures { (q : _) → StandsAt player.old used.old q → IsFreeFor place q → StandsAt player.new used.new (q ++ claim_told (told_outcome claimed place) ∷ []) }
 {
     if claimed {
-        player.claim(Some(place));
-        *used = used.take(place);
+        player.give(Some(place));
+        *used = used.occupy(place);
     } else {
-        player.claim(None);
+        player.give(None);
     }
 }
 

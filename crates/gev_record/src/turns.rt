@@ -7,7 +7,7 @@ ghost use Rattle.gev_record.specs.Standing.{TakesInputs, queued_at, turn_of};
 ghost use Rattle.gev_record.specs.Writing.{text_of};
 
 use crate::lines::add_datagram;
-use crate::replica::{claim, tell, tick};
+use crate::replica::{give_outcome, tell, tick};
 use crate::used::Used;
 use acquisition_laws::Mark;
 use gev_script::Line;
@@ -33,7 +33,7 @@ fn add_queue(alloc: Global, place: u8, mark: Mark, text: &mut Vec<u8>) -> Result
 }
 
 /// Tells what came in a turn, and adds its lines.
-fn hear(
+fn receive(
     alloc: Global,
     player: &mut Player,
     used: &mut Used,
@@ -51,7 +51,7 @@ fn hear(
     add_datagram(alloc, bytes, text)?;
     match tell(alloc, player, used, bytes, text)? {
         Need::Buffer(_) => {
-            claim(player, used, place, mark.claimed);
+            give_outcome(player, used, place, mark.claimed);
             tell(alloc, player, used, bytes, text)?;
             Ok(())
         }
@@ -76,7 +76,7 @@ pub(crate) fn add_heard(
     if bytes.is_empty() {
         return tick(alloc, player, used, mark.moment, text);
     }
-    hear(alloc, player, used, bytes, mark, text)?;
+    receive(alloc, player, used, bytes, mark, text)?;
     tick(alloc, player, used, mark.moment, text)
 }
 

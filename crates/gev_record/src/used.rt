@@ -56,7 +56,7 @@ impl Used {
     }
 
     /// The place is an open block's.
-    pub(crate) fn take(self, place: u8) -> Used
+    pub(crate) fn occupy(self, place: u8) -> Used
         ensures { result ≡ taken place self }
     {
         match place {

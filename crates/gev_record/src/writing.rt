@@ -39,11 +39,11 @@ fn add_first(alloc: Global, text: &mut Vec<u8>) -> Result<(), NoMemory>
 {
     let header = Line::Header {
         version: 1,
-        p: 1452,
-        window: 2,
-        timeout: 200,
-        age: 20,
-        rounds: 3,
+        p: LIVE.p,
+        window: LIVE.window,
+        timeout: LIVE.timeout,
+        age: LIVE.age,
+        rounds: LIVE.rounds,
     };
     let announce = Line::Announce {
         size: u64::from(BUFFER_SIZE),

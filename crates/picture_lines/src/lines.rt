@@ -74,7 +74,7 @@ fn drop_requests(acq: &mut Acq)
 }
 
 /// Tells the moment, in milliseconds: old blocks retire and their buffers are filled.
-fn pass_to(
+fn tick_stream(
     board: &mut PlainBoard,
     acq: &mut Acq,
     counts: &mut FillCounts,
@@ -95,7 +95,7 @@ fn run_tick(running: &mut Running, moment: u64, looks: &mut Looks)
     requires keeps { IsReplaying running.old }
     ensures { GoesNoting (script_line.tick moment) running.old looks.old running.new looks.new }
 {
-    pass_to(
+    tick_stream(
         &mut running.board,
         &mut running.acq,
         &mut running.counts,

@@ -8,7 +8,7 @@ ghost use Rattle.script_explain.specs.Explains.{IsKept, RunsAs, RefusesAs, Stand
 
 use crate::explained::Explained;
 use crate::rooms::Rooms;
-use crate::telling::tell_line;
+use crate::telling::run_later;
 use crate::writing::write_line;
 use gev_types::NoMemory;
 use note_tape::none_counted;
@@ -82,7 +82,7 @@ impl Headed for Rooms {
         line: &[u8],
         out: &mut Vec<u8>,
     ) -> Result<Ran, Stop> {
-        let ran = tell_line(alloc, &mut explained.script, self, line)?;
+        let ran = run_later(alloc, &mut explained.script, self, line)?;
         match write_line(explained, ran, number, self, out) {
             Ok(()) => Ok(ran),
             Err(NoMemory) => Err(Stop::NoMemory),

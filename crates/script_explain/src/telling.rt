@@ -60,8 +60,8 @@ fn feed(
     }
 }
 
-/// Does the same, and leaves the script as it stands behind a line.
-fn tell_fed(
+/// Runs a line that tells the acquisition, and leaves the script as it stands behind a line.
+fn run_fed(
     alloc: Global,
     script: &mut Script,
     rooms: &mut DatagramRooms,
@@ -84,7 +84,7 @@ fn tell_fed(
 }
 
 /// Runs the line that these bytes say.
-fn tell_said(
+fn run_said(
     alloc: Global,
     script: &mut Script,
     rooms: &mut Rooms,
@@ -104,7 +104,7 @@ fn tell_said(
     if !is_fed(says) {
         return later_line(alloc, script, &mut rooms.datagram, line, &mut rooms.report);
     }
-    match tell_fed(
+    match run_fed(
         alloc,
         script,
         &mut rooms.datagram,
@@ -119,7 +119,7 @@ fn tell_said(
 
 /// Runs a line behind the first as a replay does, given without its line feed. Its report and what is told of it
 /// stand in the rooms afterwards.
-pub(crate) fn tell_line(
+pub(crate) fn run_later(
     alloc: Global,
     script: &mut Script,
     rooms: &mut Rooms,
@@ -137,6 +137,6 @@ pub(crate) fn tell_line(
     }
     match parse_line(line) {
         Err(kind) => Err(Stop::Refused(kind)),
-        Ok(says) => tell_said(alloc, script, rooms, line, says),
+        Ok(says) => run_said(alloc, script, rooms, line, says),
     }
 }

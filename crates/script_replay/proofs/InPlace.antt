@@ -15,6 +15,7 @@ use Rattle.gev_script.specs.Numbers.{is_hex, is_hex_digit}
 use Rattle.gev_script.specs.Grammar.{line_of, first_name}
 use Rattle.gev_script.specs.Spelling.{IsScriptLine, TakesPlace}
 use Rattle.script_trace.specs.Standing.{is_out_of_place}
+use Rattle.script_replay.specs.declared.datagram_rooms.TheConstants.{ROOM}
 use Rattle.script_replay.specs.Replays.{Fits, IsLaterIn}
 use Rattle.script_replay.proofs.FirstNames.{begins_so, name_of_line}
 
@@ -65,7 +66,7 @@ place_in act.Close (Some place) h = absurd h
 out_of : (text : List ℕ) (l : ScriptLine) → line_of text ≡ Ok l → is_out_of_place (Ok (name_of_line l)) ≡ true → is_out_of_place (first_name text) ≡ false → ⊥
 out_of text l read out in_place = let both : true ≡ false = sym out ∙ sym (ap is_out_of_place (begins_so text l read)) ∙ in_place in cc
 
-pub later_in : (text : List ℕ) (l : ScriptLine) → line_of text ≡ Ok l → IsScriptLine l → is_out_of_place (first_name text) ≡ false → IsLaterIn 10000 l
+pub later_in : (text : List ℕ) (l : ScriptLine) → line_of text ≡ Ok l → IsScriptLine l → is_out_of_place (first_name text) ≡ false → IsLaterIn ROOM l
 later_in text (line.header c) read is in_place = out_of text (line.header c) read refl in_place
 later_in text (line.announce size) read is in_place = tt
 later_in text (line.queue place generation) read is in_place = tt
@@ -74,7 +75,7 @@ later_in text (line.flush operation) read is in_place = tt
 later_in text line.start read is in_place = tt
 later_in text (line.stop flags) read is in_place = tt
 later_in text (line.tick moment) read is in_place = tt
-later_in text (line.datagram digits) read is in_place = hex_fits digits 10000 is.hex (omega (arith, is.short))
+later_in text (line.datagram digits) read is in_place = hex_fits digits ROOM is.hex (omega (arith, is.short))
 later_in text line.take read is in_place = tt
 later_in text line.kill read is in_place = tt
 later_in text line.event_flush read is in_place = tt

@@ -34,7 +34,7 @@ pub fn is_out_of_place(name: Result<Name, ScriptKind>) -> bool
 }
 
 /// Adds how many buffers were dropped, where a line set the mode.
-fn tell_dropped(alloc: Global, running: &Running, out: &mut Vec<u8>) -> Result<(), NoMemory>
+fn add_dropped(alloc: Global, running: &Running, out: &mut Vec<u8>) -> Result<(), NoMemory>
     ensures { OnOk result (out.new.items ≡ out.old.items ++ dropped_text running.now.told_mode running.now.counts.dropped) }
 {
     if !running.told_mode {
@@ -44,7 +44,7 @@ fn tell_dropped(alloc: Global, running: &Running, out: &mut Vec<u8>) -> Result<(
 }
 
 /// Adds the last lines of the report.
-fn tell_end(alloc: Global, script: &Script, out: &mut Vec<u8>) -> Result<(), NoMemory>
+fn add_end(alloc: Global, script: &Script, out: &mut Vec<u8>) -> Result<(), NoMemory>
     requires empty { out.old.items ≡ [] }
     ensures { OnOk result ((w : Wide) (t : Trace) → StandsAt script.now.running t → KeepsWide script.now.widening w
         → out.new.items ≡ end_text (config_of script.now.running.acq) w.refused t) }
@@ -65,7 +65,7 @@ fn tell_end(alloc: Global, script: &Script, out: &mut Vec<u8>) -> Result<(), NoM
         notice: counts.notice,
         idle: running.idle,
     };
-    tell_dropped(alloc, running, out)?;
+    add_dropped(alloc, running, out)?;
     line_end(alloc, &all, out)
 }
 
@@ -84,7 +84,7 @@ fn run_said(
 {
     match says {
         Line::End => {
-            tell_end(alloc, script, out)?;
+            add_end(alloc, script, out)?;
             Ok(Ran::Ended)
         }
         other => {

@@ -8,8 +8,8 @@ use gev_types::NoMemory;
 use gvcp_aux::Resend;
 use note_tape::Told;
 
-/// Tells a request, in the round of this number of its block.
-pub fn tell_asked(tape: &mut Vec<Told>, resend: Resend, round: u8) -> Result<(), NoMemory>
+/// Puts a request on the tape, in the round of this number of its block.
+pub fn tape_asked(tape: &mut Vec<Told>, resend: Resend, round: u8) -> Result<(), NoMemory>
     ensures { OnOk result (Tells tape.old.items tape.new.items (asks resend.block (resend.first, resend.last) round ∷ [])) }
 {
     tape.push(Told::Asked(resend, round))?;

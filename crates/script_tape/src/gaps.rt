@@ -17,8 +17,8 @@ use gentl_types::BufferId;
 use gev_types::NoMemory;
 use note_tape::Told;
 
-/// Tells which blocks were never opened between the floor and a block that retires.
-pub fn tell_gap(tape: &mut Vec<Told>, floor: Option<u64>, block: u64) -> Result<(), NoMemory>
+/// Puts on the tape which blocks were never opened between the floor and a block that retires.
+pub fn tape_gap(tape: &mut Vec<Told>, floor: Option<u64>, block: u64) -> Result<(), NoMemory>
     ensures { (low : ℕ) → floor ≡ shown low → OnOk result (Tells tape.old.items tape.new.items (gap low block)) }
 {
     match floor {
@@ -37,16 +37,16 @@ pub fn tell_gap(tape: &mut Vec<Told>, floor: Option<u64>, block: u64) -> Result<
     }
 }
 
-/// Tells an image of this block, in this buffer, that gave way to another.
-pub fn tell_dropped(tape: &mut Vec<Told>, block: u64, buffer: BufferId) -> Result<(), NoMemory>
+/// Puts an image of this block, in this buffer, on the tape, which gave way to another.
+pub fn tape_dropped(tape: &mut Vec<Told>, block: u64, buffer: BufferId) -> Result<(), NoMemory>
     ensures { OnOk result (Tells tape.old.items tape.new.items (drops block buffer ∷ [])) }
 {
     tape.push(Told::Dropped(block, buffer))?;
     Ok(())
 }
 
-/// Tells a block that retired: with its buffer, which was filled or not, or without one.
-pub fn tell_done(
+/// Puts a block that retired on the tape: with its buffer, which was filled or not, or without one.
+pub fn tape_done(
     tape: &mut Vec<Told>,
     end: Ended,
     buffer: Option<BufferId>,

@@ -41,8 +41,8 @@ fn named(packet: Packet<'_>) -> Named
     }
 }
 
-/// Tells of a datagram that was ignored.
-fn tell_ignored(tape: &mut Vec<Told>, why: Why, bytes: &[u8]) -> Result<(), NoMemory>
+/// Puts a datagram that was ignored on the tape.
+fn tape_ignored(tape: &mut Vec<Told>, why: Why, bytes: &[u8]) -> Result<(), NoMemory>
     ensures { (c : AcqConfig) (q : List Input) → (turn c q (datagram bytes.now)).need ≡ Some (needs.Ignored why)
         → OnOk result (Tells tape.old.items tape.new.items (need_notes (packet_of bytes.now) (Some (needs.Ignored why)))) }
 {
@@ -53,8 +53,8 @@ fn tell_ignored(tape: &mut Vec<Told>, why: Why, bytes: &[u8]) -> Result<(), NoMe
     Ok(())
 }
 
-/// Tells of a packet that was kept, where it is a leader.
-fn tell_packet(tape: &mut Vec<Told>, packet: Packet<'_>) -> Result<(), NoMemory>
+/// Puts a packet that was kept on the tape, where it is a leader.
+fn tape_packet(tape: &mut Vec<Told>, packet: Packet<'_>) -> Result<(), NoMemory>
     ensures { OnOk result (Tells tape.old.items tape.new.items (need_notes (Some (view packet.entry)) (Some needs.Done))) }
 {
     match packet {
@@ -68,24 +68,24 @@ fn tell_packet(tape: &mut Vec<Told>, packet: Packet<'_>) -> Result<(), NoMemory>
     }
 }
 
-/// Tells of a datagram whose packet was kept.
-fn tell_kept(tape: &mut Vec<Told>, bytes: &[u8]) -> Result<(), NoMemory>
+/// Puts a datagram whose packet was kept on the tape, where it is a leader.
+fn tape_kept(tape: &mut Vec<Told>, bytes: &[u8]) -> Result<(), NoMemory>
     ensures { OnOk result (Tells tape.old.items tape.new.items (need_notes (packet_of bytes.now) (Some needs.Done))) }
 {
     match parse(bytes) {
-        Ok(packet) => tell_packet(tape, packet),
+        Ok(packet) => tape_packet(tape, packet),
         Err(_error) => Ok(()),
     }
 }
 
-/// Tells what became of a datagram.
-pub fn tell_need(tape: &mut Vec<Told>, need: Need, bytes: &[u8]) -> Result<(), NoMemory>
+/// Puts on the tape what became of a datagram.
+pub fn tape_need(tape: &mut Vec<Told>, need: Need, bytes: &[u8]) -> Result<(), NoMemory>
     ensures { (c : AcqConfig) (q : List Input) → (turn c q (datagram bytes.now)).need ≡ Some need
         → OnOk result (Tells tape.old.items tape.new.items (need_notes (packet_of bytes.now) (Some need))) }
 {
     match need {
         Need::Buffer(_block) => Ok(()),
-        Need::Done => tell_kept(tape, bytes),
-        Need::Ignored(why) => tell_ignored(tape, why, bytes),
+        Need::Done => tape_kept(tape, bytes),
+        Need::Ignored(why) => tape_ignored(tape, why, bytes),
     }
 }

@@ -1,7 +1,7 @@
-//! What an acquisition's calls answer, told on a tape: what became of a datagram, which blocks were never opened,
+//! What an acquisition's calls answer, put on a tape: what became of a datagram, which blocks were never opened,
 //! how a block retired, and what was asked for.
 //!
-//! Each call says which of the notes of `acquisition_notes` it tells.
+//! Each call says which of the notes of `acquisition_notes` it puts there.
 #![tactic(auto)]
 
 mod asked; // packets that are asked for
@@ -11,7 +11,7 @@ mod laws; // laws of the definitions, as contracts
 #[cfg(test)]
 mod tests;
 
-pub use asked::tell_asked;
-pub use gaps::{tell_done, tell_dropped, tell_gap};
-pub use heard::tell_need;
+pub use asked::tape_asked;
+pub use gaps::{tape_done, tape_dropped, tape_gap};
+pub use heard::tape_need;
 pub use laws::rounds_are_told;

@@ -1,6 +1,6 @@
 //! What the calls tell.
 
-use crate::{tell_asked, tell_done, tell_dropped, tell_gap, tell_need};
+use crate::{tape_asked, tape_done, tape_dropped, tape_gap, tape_need};
 use acq_core::{Cause, Ended, Need, Why};
 use gentl_types::BufferId;
 use gvcp_aux::Resend;
@@ -17,11 +17,11 @@ const LEADER: [u8; 56] = [
 #[test]
 fn what_datagrams_tell(rt: HostRuntime) -> Result<(), Fail> {
     let mut tape = Vec::new(rt.alloc());
-    tell_need(&mut tape, Need::Buffer(1), &LEADER)?;
+    tape_need(&mut tape, Need::Buffer(1), &LEADER)?;
     assert_eq!(rt; tape.len(), 0);
-    tell_need(&mut tape, Need::Done, &LEADER)?;
-    tell_need(&mut tape, Need::Ignored(Why::Repeat), &LEADER)?;
-    tell_need(
+    tape_need(&mut tape, Need::Done, &LEADER)?;
+    tape_need(&mut tape, Need::Ignored(Why::Repeat), &LEADER)?;
+    tape_need(
         &mut tape,
         Need::Ignored(Why::Foreign(WireError::Short(1))),
         &[0],
@@ -40,26 +40,26 @@ fn what_ends_tell(rt: HostRuntime) -> Result<(), Fail> {
         place: 2,
         generation: 1,
     };
-    tell_gap(&mut tape, Some(3), 3)?;
-    tell_gap(&mut tape, None, 3)?;
+    tape_gap(&mut tape, Some(3), 3)?;
+    tape_gap(&mut tape, None, 3)?;
     assert_eq!(rt; tape.len(), 0);
-    tell_gap(&mut tape, Some(1), 4)?;
-    tell_gap(&mut tape, Some(5), 7)?;
-    tell_dropped(&mut tape, 2, id)?;
+    tape_gap(&mut tape, Some(1), 4)?;
+    tape_gap(&mut tape, Some(5), 7)?;
+    tape_dropped(&mut tape, 2, id)?;
     let end = Ended {
         block: 7,
         floor: Some(5),
         cause: Cause::Displaced,
         held: None,
     };
-    tell_done(&mut tape, end, None, false)?;
+    tape_done(&mut tape, end, None, false)?;
     let resend = Resend {
         channel: 0,
         first: 1,
         last: 2,
         block: 8,
     };
-    tell_asked(&mut tape, resend, 1)?;
+    tape_asked(&mut tape, resend, 1)?;
     assert_eq!(rt; tape.len(), 5);
     assert!(rt; matches!(&tape[0], Told::First(4)));
     assert!(rt; matches!(&tape[1], Told::Absent(5, 6)));

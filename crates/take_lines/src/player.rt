@@ -75,7 +75,7 @@ impl Player {
     }
 
     /// A datagram comes. Answers what it needs or what became of it, and the places of the buffers that come back, in
-    /// order. Where it needs a buffer, the outcome is told by `claim`, and the datagram again.
+    /// order. Where it needs a buffer, the outcome is told by `give`, and the datagram again.
     pub fn datagram(&mut self, bytes: &[u8]) -> (Need, ArrayVec<u8, 4>)
         ensures need { (q : List Input) → Took self.old q → (turn (config_in self.old) q (datagram bytes.now)).need ≡ Some result.0 }
         ensures asked { asked_in self.new ≡ asked_by (Some result.0) }
@@ -85,7 +85,7 @@ impl Player {
     }
 
     /// The outcome of the claim for which `datagram` asked: a buffer at this place, or none. Nothing comes back.
-    pub fn claim(&mut self, place: Option<u8>)
+    pub fn give(&mut self, place: Option<u8>)
         requires asked { IsSome (asked_in self.old) }
         ensures plays { Plays self.old self.new (claimed (outcome_of self.old.size place)) [] }
     {

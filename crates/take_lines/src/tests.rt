@@ -29,7 +29,7 @@ fn tell(player: &mut Player, bytes: &[u8], place: Option<u8>) -> ArrayVec<u8, 4>
     let (need, back) = player.datagram(bytes);
     match need {
         Need::Buffer(_) => {
-            player.claim(place);
+            player.give(place);
             let (_need, rest) = player.datagram(bytes);
             rest
         }

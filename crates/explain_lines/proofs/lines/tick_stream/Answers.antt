@@ -3,16 +3,16 @@ use Rattle.explain_lines.proofs.lines.tick_stream.Goals as goal
 
 pub returns-clause-told : goal.returns-clause-told
 returns-clause-told c =
-    tick_told_ok c.tell_requests.result c.args.mode c.args.moment c.args.standard c.args.board.now c.tell_retired.new.board c.args.acq.now c.tell_ends.new.self c.tick.new.self c.tell_retired.new.acq c.tell_requests.new.acq
-    c.args.counts.now c.tell_retired.new.counts c.args.out.now.items c.tell_requests.new.out.items c.args.tape.now.items c.tell_retired.new.tape.items c.tell_requests.new.tape.items c.requires.rest
-    c.tell_ends.ensures.rest c.tell_ends.ensures.telling c.tell_ends.ensures.fills c.tell_ends.ensures.requests c.tick.ensures.takes c.in_ok-tell_retired.ensures.told
-    c.in_ok-tell_retired.ensures.rest c.in_ok-tell_retired.ensures.requests c.in_ok-tell_retired.ensures.resends c.requires.empty
-    c.tell_requests.ensures.rest c.tell_requests.ensures.told c.tell_requests.ensures.lines
+    tick_told_ok c.tape_requests.result c.args.mode c.args.moment c.args.standard c.args.board.now c.tape_retired.new.board c.args.acq.now c.tell_ends.new.self c.tick.new.self c.tape_retired.new.acq c.tape_requests.new.acq
+    c.args.counts.now c.tape_retired.new.counts c.args.out.now.items c.tape_requests.new.out.items c.args.tape.now.items c.tape_retired.new.tape.items c.tape_requests.new.tape.items c.requires.rest
+    c.tell_ends.ensures.rest c.tell_ends.ensures.telling c.tell_ends.ensures.fills c.tell_ends.ensures.requests c.tick.ensures.takes c.in_ok-tape_retired.ensures.told
+    c.in_ok-tape_retired.ensures.rest c.in_ok-tape_retired.ensures.requests c.in_ok-tape_retired.ensures.resends c.requires.empty
+    c.tape_requests.ensures.rest c.tape_requests.ensures.told c.tape_requests.ensures.lines
 
 pub returns-clause-rest : goal.returns-clause-rest
 returns-clause-rest c =
-    tick_rests_ok c.tell_requests.result c.args.mode c.args.moment c.args.board.now c.tell_retired.new.board c.args.acq.now c.tell_ends.new.self c.tick.new.self c.tell_retired.new.acq c.tell_requests.new.acq
-    c.args.counts.now c.tell_retired.new.counts c.args.tape.now.items c.tell_retired.new.tape.items c.requires.rest
-    c.tell_ends.ensures.rest c.tell_ends.ensures.fills c.tell_ends.ensures.requests c.tick.ensures.takes c.tick.ensures.asked c.in_ok-tell_retired.ensures.told
-    c.in_ok-tell_retired.ensures.rest c.in_ok-tell_retired.ensures.no_fill c.in_ok-tell_retired.ensures.away
-    c.tell_requests.ensures.rest c.tell_requests.ensures.fills c.tell_requests.ensures.no_request
+    tick_rests_ok c.tape_requests.result c.args.mode c.args.moment c.args.board.now c.tape_retired.new.board c.args.acq.now c.tell_ends.new.self c.tick.new.self c.tape_retired.new.acq c.tape_requests.new.acq
+    c.args.counts.now c.tape_retired.new.counts c.args.tape.now.items c.tape_retired.new.tape.items c.requires.rest
+    c.tell_ends.ensures.rest c.tell_ends.ensures.fills c.tell_ends.ensures.requests c.tick.ensures.takes c.tick.ensures.asked c.in_ok-tape_retired.ensures.told
+    c.in_ok-tape_retired.ensures.rest c.in_ok-tape_retired.ensures.no_fill c.in_ok-tape_retired.ensures.away
+    c.tape_requests.ensures.rest c.tape_requests.ensures.fills c.tape_requests.ensures.no_request

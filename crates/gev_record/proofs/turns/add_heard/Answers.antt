@@ -12,5 +12,5 @@ returns-then-is_empty c =
 pub returns : goal.returns
 returns c =
     on_ok c.tick-2.result c.tick-2.ensures
-    (turns_heard c.args.player.now c.hear.new.player c.tick-2.new.player c.args.used.now c.hear.new.used c.tick-2.new.used c.args.bytes.now c.args.mark c.args.text.now.items
-    c.hear.new.text.items c.tick-2.new.text.items (some_length c.args.bytes.now (sym c.if-is_empty.ensures)) c.in_ok-hear.ensures)
+    (turns_heard c.args.player.now c.receive.new.player c.tick-2.new.player c.args.used.now c.receive.new.used c.tick-2.new.used c.args.bytes.now c.args.mark c.args.text.now.items
+    c.receive.new.text.items c.tick-2.new.text.items (some_length c.args.bytes.now (sym c.if-is_empty.ensures)) c.in_ok-receive.ensures)

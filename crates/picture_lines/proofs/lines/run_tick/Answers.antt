@@ -4,4 +4,4 @@ use Rattle.picture_lines.proofs.lines.run_tick.Goals as goal
 
 pub returns : goal.returns
 returns c =
-    drive_noting (script_line.tick c.args.moment) c.args.running.now c.args.looks.now c.pass_to.new.board c.pass_to.new.acq c.pass_to.new.counts c.pass_to.new.looks c.requires.keeps c.pass_to.ensures
+    drive_noting (script_line.tick c.args.moment) c.args.running.now c.args.looks.now c.tick_stream.new.board c.tick_stream.new.acq c.tick_stream.new.counts c.tick_stream.new.looks c.requires.keeps c.tick_stream.ensures

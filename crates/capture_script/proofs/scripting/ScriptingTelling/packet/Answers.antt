@@ -9,8 +9,8 @@ use Rattle.capture_script.proofs.scripting.ScriptingTelling.packet.Goals as goal
 
 pub returns-in-Datagram : goal.returns-in-Datagram
 returns-in-Datagram c =
-    on_ok_weaker c.receive.result
+    on_ok_weaker c.carry_for.result
     (λ adds s stands.
-    subst (λ (w : Seen). Tells script_texts s (record { moment = c.args.moment; what = w } ∷ []) (StandsFor c.receive.new.self) c.args.out.now.items c.receive.new.out.items)
-    (sym (ap seen_as c.in-Datagram.is)) (tells_packet s _ c.receive.new.self _ _ (adds s stands)))
-    c.receive.ensures
+    subst (λ (w : Seen). Tells script_texts s (record { moment = c.args.moment; what = w } ∷ []) (StandsFor c.carry_for.new.self) c.args.out.now.items c.carry_for.new.out.items)
+    (sym (ap seen_as c.in-Datagram.is)) (tells_packet s _ c.carry_for.new.self _ _ (adds s stands)))
+    c.carry_for.ensures

@@ -1,8 +1,0 @@
-use Rattle.std.proofs.Common.{refl}
-use Rattle.capture_script.specs.Playing.{heard}
-use Rattle.capture_script.proofs.Heard.{plays_line}
-use Rattle.capture_script.proofs.playing.Playing.hear.Goals as goal
-
-pub returns : goal.returns
-returns c s =
-    plays_line _ _ c.args.self.now (λ o t. heard o.p o.size c.args.bytes.now t) s c.hear_bytes.result c.self.view_is refl c.hear_bytes.ensures.size (λ at. c.hear_bytes.ensures.hears s at.stands at.top)
