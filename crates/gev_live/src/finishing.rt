@@ -129,7 +129,7 @@ fn is_told(status: Status) -> bool
 }
 
 // Writes the lines and the last one.
-fn tell<K: Sink>(
+fn write_lines<K: Sink>(
     alloc: Global,
     sink: &mut K,
     first: Status,
@@ -162,7 +162,7 @@ pub fn finish<K: Sink>(
     ensures ends { EndsSo first result (lines.items ++ live_line frames taken) (K.written sink.old) (K.written sink.new) (K.faults sink.old) (K.faults sink.new) }
 {
     if is_told(first) {
-        tell(alloc, sink, first, lines, frames, taken)
+        write_lines(alloc, sink, first, lines, frames, taken)
     } else {
         first
     }

@@ -13,7 +13,7 @@ use gev_types::{NoMemory, Shape};
 use std::alloc::Global;
 
 /// The images: 64 columns and 48 lines of Mono8.
-const IMAGE_SHAPE: Shape = Shape {
+pub const IMAGE_SHAPE: Shape = Shape {
     pixel: 0x0108_0001,
     size_x: 64,
     size_y: 48,

@@ -16,6 +16,7 @@ mod stop; // why the writing stopped
 #[cfg(test)]
 mod tests;
 
+pub use blocks::IMAGE_SHAPE;
 pub use lossy_queue::Rates;
 pub use make_end::MakeEnd;
 pub use making::make;

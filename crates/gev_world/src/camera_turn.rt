@@ -42,7 +42,7 @@ fn carry_next(stage: &mut Stage, packet: &mut [u8; PACKET_ROOM]) -> Result<bool,
 }
 
 /// Puts all packets that wait into the host's queue.
-fn drain(stage: &mut Stage, packet: &mut [u8; PACKET_ROOM]) -> Result<(), NoMemory>
+fn put_waiting(stage: &mut Stage, packet: &mut [u8; PACKET_ROOM]) -> Result<(), NoMemory>
     ensures { OnOk result (Does stage.old drains stage.new) }
 {
     'packets: loop {
@@ -69,7 +69,7 @@ fn obey(stage: &mut Stage, rooms: &mut Rooms, datagram: &Datagram) -> Result<(),
     ensures { OnOk result (Does stage.old (λ run w. obeys run w datagram.now) stage.new) }
 {
     hear(stage, &mut rooms.answer, datagram.bytes.as_slice())?;
-    drain(stage, &mut rooms.packet)
+    put_waiting(stage, &mut rooms.packet)
 }
 
 /// What is on its way to the camera reaches it, in order.
@@ -88,7 +88,7 @@ fn look(stage: &mut Stage, rooms: &mut Rooms) -> Result<(), NoMemory>
     ensures does { OnOk result (Does stage.old (λ run w. looks run w) stage.new) }
 {
     stage.camera.tick(stage.moment);
-    drain(stage, &mut rooms.packet)
+    put_waiting(stage, &mut rooms.packet)
 }
 
 /// The camera's turn. What is on its way to it goes through the empty queue `arriving`.
@@ -118,7 +118,7 @@ pub(crate) fn make(alloc: Global, stage: &mut Stage, rooms: &mut Rooms) -> Resul
     match stage.camera.frame(alloc)? {
         Some(_block) => {
             stage.made += 1;
-            drain(stage, &mut rooms.packet)
+            put_waiting(stage, &mut rooms.packet)
         }
         None => {
             stage.is_over = true;

@@ -14,21 +14,11 @@ use camera_sim::{Camera, MESSAGE_SIZE, PACKET_ROOM};
 use control_client::Client;
 use gev_frames::Lcg;
 use gev_links::Sink;
-use gev_make::Stop;
-use gev_types::{NoMemory, Shape};
+use gev_make::{IMAGE_SHAPE, Stop};
+use gev_types::NoMemory;
 use lossy_queue::{LossyQueue, Rates};
 use soak_receiver::SoakReceiver;
 use std::alloc::Global;
-
-/// The pixel format Mono8.
-const MONO8: u32 = 0x0108_0001;
-
-/// The images of the camera.
-const IMAGE: Shape = Shape {
-    size_x: 64,
-    size_y: 48,
-    pixel: MONO8,
-};
 
 /// How many frames the camera holds for sending their packets again.
 const STORE_ROOM: u8 = 4;
@@ -51,7 +41,7 @@ fn new_stage(
 ) -> Result<Stage, NoMemory>
     ensures { IfOk result (λ stage. IsNewStage (record { seed = seed; frames = frames; rates = rates; short = short }) stage) }
 {
-    let mut camera = Camera::new(alloc, seed, IMAGE, STORE_ROOM)?;
+    let mut camera = Camera::new(alloc, seed, IMAGE_SHAPE, STORE_ROOM)?;
     camera.set_short(short);
     Ok(Stage {
         seed,

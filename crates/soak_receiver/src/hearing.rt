@@ -9,7 +9,7 @@ use script_replay::{Running, receive};
 
 /// Tells a datagram. Where it wants a buffer, one is claimed and the datagram is told again; buffers that
 /// come back are filled into the output.
-pub(crate) fn hear_datagram(running: &mut Running, bytes: &[u8])
+pub(crate) fn receive_datagram(running: &mut Running, bytes: &[u8])
     requires { IsHosting running.old }
     ensures moves { Moves (heard_line bytes.now ∷ []) (λ r. hears r bytes.now) running.old running.new }
     ensures hosting { IsHosting running.new }

@@ -9,7 +9,7 @@ ghost use Rattle.soak_receiver.specs.Stocking.{start_lines};
 ghost use Rattle.soak_receiver.specs.Standing.{HostStands, HostTakes, numbers_in};
 
 use crate::counts::SoakCounts;
-use crate::hearing::hear_datagram;
+use crate::hearing::receive_datagram;
 use crate::starting::begin_host;
 use crate::taking::take_and_queue;
 use crate::ticking::tell_moment;
@@ -61,7 +61,7 @@ impl SoakReceiver {
     pub fn hear(&mut self, bytes: &[u8])
         ensures { (lines : List ScriptLine) (r : Receiver) → HostStands self.old lines r → HostStands self.new (lines ++ heard_line bytes.now ∷ []) (soak_host.hears r bytes.now) }
     {
-        hear_datagram(&mut self.running, bytes);
+        receive_datagram(&mut self.running, bytes);
     }
 
     /// Tells the moment, in milliseconds, and adds the packet resend commands that it brings, each as the 28

@@ -16,12 +16,15 @@ const BUFFERS: u8 = 4;
 /// The size of each, in bytes: an image of 64 columns and 48 lines of Mono8.
 const BUFFER_SIZE: u64 = 3072;
 
-/// How the receiver of a soak run is set: `p` in bytes, `timeout` and `age` in milliseconds.
+/// The most bytes of a payload.
+const PAYLOAD_SIZE: u32 = 1452;
+
+/// How the receiver of a soak run is set: `timeout` and `age` in milliseconds.
 fn config() -> AcqConfig
     ensures { result ≡ soak_config }
 {
     AcqConfig {
-        p: 1452,
+        p: PAYLOAD_SIZE,
         window: 2,
         timeout: 200,
         age: 20,

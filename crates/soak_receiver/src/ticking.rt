@@ -24,7 +24,7 @@ fn drop_requests(acq: &mut Acq)
 
 /// Adds each request that waits in the receiver, first in first. None waits afterwards, also where memory
 /// runs out.
-fn give_requests(acq: &mut Acq, requests: &mut Vec<[u8; 28]>) -> Result<(), NoMemory>
+fn add_requests(acq: &mut Acq, requests: &mut Vec<[u8; 28]>) -> Result<(), NoMemory>
     ensures requests { OnOk result (requests.new.items ≡ requests.old.items ++ waiting_requests acq.old) }
     ensures no_request { waiting_requests acq.new ≡ [] }
     ensures fills { waiting_fills acq.new ≡ waiting_fills acq.old }
@@ -58,5 +58,5 @@ pub(crate) fn tell_moment(
         &mut running.counts,
         Mode::OldestFirst,
     );
-    give_requests(&mut running.acq, requests)
+    add_requests(&mut running.acq, requests)
 }

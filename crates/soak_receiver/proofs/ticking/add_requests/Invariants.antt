@@ -1,7 +1,7 @@
 use Rattle.std.proofs.Common.{◌≡◌, ◌++◌, length}
 use Rattle.acq_core.specs.Waiting.{waiting_fills, waiting_requests}
 use Rattle.acq_core.specs.Receiver.{KeepsBlocks}
-use Rattle.soak_receiver.proofs.ticking.give_requests.Given as goal
+use Rattle.soak_receiver.proofs.ticking.add_requests.Given as goal
 
 abbrev pub invariant-loop-bytes : goal.invariant-loop-bytes
 invariant-loop-bytes l =

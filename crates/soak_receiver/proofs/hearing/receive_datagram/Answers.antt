@@ -1,6 +1,6 @@
 use Rattle.std.proofs.Common.{arith}
 use Rattle.soak_receiver.proofs.Listening.{heard_moves, heard_hosting}
-use Rattle.soak_receiver.proofs.hearing.hear_datagram.Goals as goal
+use Rattle.soak_receiver.proofs.hearing.receive_datagram.Goals as goal
 
 pub returns : goal.returns
 returns c = record {
