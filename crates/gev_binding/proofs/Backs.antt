@@ -3,7 +3,7 @@ use Rattle.std.proofs.Common.{◌≡◌, ℕ, ◌+◌, ◌≤◌, ◌<◌, zero,
 use Rattle.std.proofs.lemmas.List.{append-nil}
 use Rattle.std.proofs.lemmas.Bool.{cases_lt}
 use Rattle.gev_links.specs.Faults.{Rose}
-use Rattle.gev_links.specs.Given.{ComesBack, Raises}
+use Rattle.gev_links.specs.Given.{one_more, ComesBack, Raises}
 use Rattle.gev_links.specs.Links.{Address, Answer}
 use Rattle.gev_links.specs.PortsState.{IsNew}
 use Rattle.gev_binding.specs.Bound.{ComeBack, GivesBack, RaisesBy}
@@ -26,11 +26,12 @@ two_back o p q x y first second = back_then o p q x (y ∷ []) first (back_then 
 pub three_back : {A : Type 0} (o p q r : Option (List A)) (x y z : A) → ComesBack o p x → ComesBack p q y → ComesBack q r z → ComeBack o r (x ∷ y ∷ z ∷ [])
 three_back o p q r x y z first second third = back_then o p r x (y ∷ z ∷ []) first (two_back p q r y z second third)
 
-pub unbound_first : {L : Type 0} (received : L → Option (List Answer)) (sent : L → Option (List (Address × List ℕ))) (faults : L → ℕ) (old new : Option (List L)) (a : L)
-    → IsNew (received a) (sent a) (faults a) → ComesBack old new a → GivesBack received sent faults old new
-unbound_first received sent faults old new a unused back = record {
+pub unbound_first : {L : Type 0} (received : L → Option (List Answer)) (sent : L → Option (List (Address × List ℕ))) (faults : L → ℕ) (before binds : ℕ) (old new : Option (List L)) (a : L)
+    → IsNew (received a) (sent a) (faults a) → binds ≡ one_more (one_more before) → ComesBack old new a → GivesBack received sent faults before binds old new
+unbound_first received sent faults before binds old new a unused called back = record {
   came = a ∷ [];
   few = omega arith;
+  called = omega (arith, called);
   unused = (unused, tt);
   back = back_then old new new a [] back (none_back new);
 }

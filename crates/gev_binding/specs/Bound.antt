@@ -1,5 +1,5 @@
 -- Three links that ports gave, and what goes back to them.
-use Rattle.std.specs.Prelude.{◌≡◌, ℕ, ◌+◌, ◌≤◌, List, ◌++◌, length, Option, Some, None}
+use Rattle.std.specs.Prelude.{◌≡◌, ℕ, ◌+◌, ◌-◌, ◌≤◌, ◌^◌, min, List, ◌++◌, length, Option, Some, None}
 use Rattle.gev_links.specs.Faults.{Rose}
 use Rattle.gev_links.specs.Links.{Address, Answer}
 use Rattle.gev_links.specs.PortsState.{AreNew}
@@ -9,10 +9,16 @@ abbrev pub ComeBack : {A : Type 0} → Option (List A) → Option (List A) → L
 ComeBack None new members = new ≡ None
 ComeBack (Some old) new members = length old + length members ≤ 3 → new ≡ Some (old ++ members)
 
--- Two links at most came back, each as it was given.
-pub record GivesBack {L : Type 0} (received : L → Option (List Answer)) (sent : L → Option (List (Address × List ℕ))) (faults : L → ℕ) (old new : Option (List L)) : Type 0 where
+-- After so many calls of bind, up to the counter's last value.
+abbrev pub more_binds : ℕ → ℕ → ℕ
+more_binds calls n = min (n + calls) (2 ^ 64 - 1)
+
+-- A bind failed. Each one before it gave a link, so two at most did, and these came back, each as it was given.
+pub record GivesBack {L : Type 0} (received : L → Option (List Answer)) (sent : L → Option (List (Address × List ℕ))) (faults : L → ℕ)
+    (binds binds_after : ℕ) (old new : Option (List L)) : Type 0 where
   pub came : List L
   pub few : length came ≤ 2
+  pub called : binds_after ≡ more_binds (length came + 1) binds
   pub unused : AreNew received sent faults came
   pub back : ComeBack old new came
 

@@ -1,9 +1,10 @@
 //! Three binds, and what goes back where one fails.
 
-ghost use Rattle.std.specs.Prelude.{◌≡◌, ◌+◌, ◌≤◌, [], ◌∷◌, IfOk, OnOk, OnErr};
+ghost use Rattle.std.specs.Prelude.{◌≡◌, ◌+◌, ◌≤◌, ℕ, [], ◌∷◌, IfOk, OnOk, OnErr};
 ghost use Rattle.gev_links.specs.Faults.{Rose};
+ghost use Rattle.gev_links.specs.Given.{one_more};
 ghost use Rattle.gev_links.specs.PortsState.{IsNew};
-ghost use Rattle.gev_binding.specs.Bound.{ComeBack, GivesBack};
+ghost use Rattle.gev_binding.specs.Bound.{ComeBack, GivesBack, more_binds};
 
 use crate::three_links::ThreeLinks;
 use gev_links::{Failed, Ports};
@@ -19,7 +20,7 @@ fn bind_last<P: Ports>(
     ensures camera { IfOk result (λ links. links.camera ≡ camera) }
     ensures stream { IfOk result (λ links. links.stream ≡ stream) }
     ensures control { IfOk result (λ links. IsNew (P.L.received links.control) (P.L.sent links.control) (P.L.faults links.control)) }
-    ensures few { P.binds ports.new ≤ P.binds ports.old + 1 }
+    ensures called { P.binds ports.new ≡ one_more (P.binds ports.old) }
     ensures links { OnOk result (P.links ports.new ≡ P.links ports.old) }
     ensures back { OnErr result (ComeBack (P.links ports.old) (P.links ports.new) (camera ∷ stream ∷ [])) }
     ensures clocks { P.clocks ports.new ≡ P.clocks ports.old }
@@ -49,9 +50,10 @@ fn bind_two<P: Ports>(ports: &mut P, camera: P::L) -> Result<ThreeLinks<P::L>, F
     ensures camera { IfOk result (λ links. links.camera ≡ camera) }
     ensures stream { IfOk result (λ links. IsNew (P.L.received links.stream) (P.L.sent links.stream) (P.L.faults links.stream)) }
     ensures control { IfOk result (λ links. IsNew (P.L.received links.control) (P.L.sent links.control) (P.L.faults links.control)) }
-    ensures few { P.binds ports.new ≤ P.binds ports.old + 2 }
+    ensures called { OnOk result (P.binds ports.new ≡ more_binds 2 (P.binds ports.old)) }
     ensures links { OnOk result (P.links ports.new ≡ P.links ports.old) }
-    ensures back { OnErr result (GivesBack P.L.received P.L.sent P.L.faults (P.links ports.old) (P.links ports.new)) }
+    ensures back { OnErr result ((before : ℕ) → P.binds ports.old ≡ one_more before
+        → GivesBack P.L.received P.L.sent P.L.faults before (P.binds ports.new) (P.links ports.old) (P.links ports.new)) }
     ensures clocks { P.clocks ports.new ≡ P.clocks ports.old }
     ensures no_fault { OnOk result (P.faults ports.new ≡ P.faults ports.old) }
     ensures failed { OnErr result (Rose (P.faults ports.old) (P.faults ports.new)) }
@@ -75,8 +77,9 @@ pub fn bind_three<P: Ports>(ports: &mut P) -> Result<ThreeLinks<P::L>, Failed>
     ensures stream { IfOk result (λ links. IsNew (P.L.received links.stream) (P.L.sent links.stream) (P.L.faults links.stream)) }
     ensures control { IfOk result (λ links. IsNew (P.L.received links.control) (P.L.sent links.control) (P.L.faults links.control)) }
     ensures few { P.binds ports.new ≤ P.binds ports.old + 3 }
+    ensures called { OnOk result (P.binds ports.new ≡ more_binds 3 (P.binds ports.old)) }
     ensures links { OnOk result (P.links ports.new ≡ P.links ports.old) }
-    ensures back { OnErr result (GivesBack P.L.received P.L.sent P.L.faults (P.links ports.old) (P.links ports.new)) }
+    ensures back { OnErr result (GivesBack P.L.received P.L.sent P.L.faults (P.binds ports.old) (P.binds ports.new) (P.links ports.old) (P.links ports.new)) }
     ensures clocks { P.clocks ports.new ≡ P.clocks ports.old }
     ensures no_fault { OnOk result (P.faults ports.new ≡ P.faults ports.old) }
     ensures failed { OnErr result (Rose (P.faults ports.old) (P.faults ports.new)) }

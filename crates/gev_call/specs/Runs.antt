@@ -4,6 +4,7 @@ use mathlib.Core.Logic.{inl, inr}
 use Rattle.board_machine.specs.declared.events.Entry.{Entry}
 use Rattle.gev_links.specs.Links.{Address, Answer, IsBlank}
 use Rattle.gev_links.specs.PortsState.{IsNew}
+use Rattle.gev_binding.specs.Bound.{ComeBack, GivesBack, more_binds}
 use Rattle.gev_serve.specs.Wires.{Wire, wire}
 use Rattle.gev_status.specs.declared.status.Status.{Status}
 use Rattle.gev_status.specs.declared.status.Status.TheVariants.{LinkFault, NoMemory}
@@ -98,9 +99,28 @@ pub record RecordsOver {L C : Type 0} (received : L → Option (List Answer)) (s
   pub runs : RecordsLive (numbers_of n) camera stream status begins ends taped written written_after writes writes_after h
   pub listed : links ≡ Some [] → clocks ≡ Some [] → AreListed received sent faults told links_after clocks_after ends
 
--- No board was made: a bind failed, or memory was wanting, for the tape of a recorded run or for the board, and nothing
--- was written.
-pub record RunsNothing (status : Status) (written written_after : Option (List ℕ)) (writes writes_after : ℕ) : Type 0 where
+-- Three new links and three clocks that had told no moment came back, each as it was given.
+pub record GivesAllBack {L C : Type 0} (received : L → Option (List Answer)) (sent : L → Option (List (Address × List ℕ))) (faults : L → ℕ) (told : C → Option (List ℕ))
+    (links links_after : Option (List L)) (clocks clocks_after : Option (List C)) : Type 0 where
+  pub camera : L
+  pub stream : L
+  pub control : L
+  pub camera_clock : C
+  pub host_clock : C
+  pub app_clock : C
+  pub untold : IsUntold (told_by received sent faults told camera stream control camera_clock host_clock app_clock)
+  pub links_back : ComeBack links links_after (camera ∷ stream ∷ control ∷ [])
+  pub clocks_back : ComeBack clocks clocks_after (camera_clock ∷ host_clock ∷ app_clock ∷ [])
+
+-- No board was made: a bind failed, or memory was wanting, for the tape of a recorded run or for the board. The links
+-- that were got came back unused, where memory was wanting with three clocks, and nothing was written.
+pub record RunsNothing {L C : Type 0} (received : L → Option (List Answer)) (sent : L → Option (List (Address × List ℕ))) (faults : L → ℕ) (told : C → Option (List ℕ))
+    (status : Status) (binds binds_after : ℕ) (links links_after : Option (List L)) (clocks clocks_after : Option (List C))
+    (written written_after : Option (List ℕ)) (writes writes_after : ℕ) : Type 0 where
   pub cause : (status ≡ LinkFault) ⊎ (status ≡ NoMemory)
+  -- a bind failed: the links that came before it are back, and no clock is
+  pub unbound : status ≡ LinkFault → GivesBack received sent faults binds binds_after links links_after × (clocks_after ≡ clocks)
+  -- memory was wanting: three calls of bind were made, and three links and three clocks are back
+  pub back : status ≡ NoMemory → (binds_after ≡ more_binds 3 binds) × GivesAllBack received sent faults told links links_after clocks clocks_after
   pub unwritten : written_after ≡ written
   pub no_fault : writes_after ≡ writes

@@ -1,6 +1,7 @@
 //! The program's call: what `gevacq` does with its words, its input, its output and its ports.
 //!
 //! `specs/Runs.antt` says what a live run over ports did; what the other commands do is said by `gev_top`.
+//! `specs/Replayed.antt` and `specs/Explained.antt` say the headline of replays and of explanations.
 #![tactic(auto)]
 
 mod recording; // a recorded live run over ports

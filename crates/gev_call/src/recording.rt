@@ -9,7 +9,7 @@ ghost use Rattle.gev_links.specs.PortsState.{IsNew};
 ghost use Rattle.gev_binding.specs.Bound.{ComeBack, RaisesBy};
 ghost use Rattle.gev_top.specs.LiveWords.{IsRecordable};
 ghost use Rattle.gev_top.specs.Completeness.{NoneRose, EndsLive};
-ghost use Rattle.gev_call.specs.Runs.{RecordsOver, RunsNothing};
+ghost use Rattle.gev_call.specs.Runs.{GivesAllBack, RecordsOver, RunsNothing};
 
 use crate::running::{give_ends, with_clocks};
 use buffer_words::{Board, Pass};
@@ -119,7 +119,10 @@ fn record_on<R: Threads + Wait + Sync, K: Sink, P: Ports, G: Gate + Sync>(
     ensures recorded { IfSome kept.new (λ k. RecordsOver P.L.received P.L.sent P.L.faults P.C.told numbers result (P.links ports.old) (P.links ports.new)
         (P.clocks ports.old) (P.clocks ports.new) (K.written sink.old) (K.written sink.new) (K.faults sink.old) (K.faults sink.new) k.1.seen) }
     ensures alone { IfSome kept.new (λ k. IsAlone (After k.1.seen) 0) }
-    ensures none { kept.new ≡ None → RunsNothing result (K.written sink.old) (K.written sink.new) (K.faults sink.old) (K.faults sink.new) }
+    ensures wanting { kept.new ≡ None → result ≡ Status.NoMemory }
+    ensures back { kept.new ≡ None → GivesAllBack P.L.received P.L.sent P.L.faults P.C.told (P.links ports.old) (P.links ports.new) (P.clocks ports.old) (P.clocks ports.new) }
+    ensures unwritten { kept.new ≡ None → K.written sink.new ≡ K.written sink.old }
+    ensures no_fault { kept.new ≡ None → K.faults sink.new ≡ K.faults sink.old }
     ensures binds { P.binds ports.new ≡ P.binds ports.old }
     ensures link_fault { result ≡ Status.LinkFault → Rose (P.faults ports.old) (P.faults ports.new) }
     ensures links_steady { result ≢ Status.LinkFault → P.faults ports.new ≡ P.faults ports.old }
@@ -178,7 +181,10 @@ fn record_new<R: Threads + Wait + Sync, K: Sink, P: Ports, G: Gate + Sync>(
     ensures recorded { IfSome kept.new (λ k. RecordsOver P.L.received P.L.sent P.L.faults P.C.told numbers result (P.links ports.old) (P.links ports.new)
         (P.clocks ports.old) (P.clocks ports.new) (K.written sink.old) (K.written sink.new) (K.faults sink.old) (K.faults sink.new) k.1.seen) }
     ensures alone { IfSome kept.new (λ k. IsAlone (After k.1.seen) 0) }
-    ensures none { kept.new ≡ None → RunsNothing result (K.written sink.old) (K.written sink.new) (K.faults sink.old) (K.faults sink.new) }
+    ensures wanting { kept.new ≡ None → result ≡ Status.NoMemory }
+    ensures back { kept.new ≡ None → GivesAllBack P.L.received P.L.sent P.L.faults P.C.told (P.links ports.old) (P.links ports.new) (P.clocks ports.old) (P.clocks ports.new) }
+    ensures unwritten { kept.new ≡ None → K.written sink.new ≡ K.written sink.old }
+    ensures no_fault { kept.new ≡ None → K.faults sink.new ≡ K.faults sink.old }
     ensures binds { P.binds ports.new ≡ P.binds ports.old }
     ensures link_fault { result ≡ Status.LinkFault → Rose (P.faults ports.old) (P.faults ports.new) }
     ensures links_steady { result ≢ Status.LinkFault → P.faults ports.new ≡ P.faults ports.old }
@@ -211,7 +217,8 @@ pub fn run_recorded<R: Threads + Wait + Sync, K: Sink, P: Ports, G: Gate + Sync>
     ensures recorded { IfSome kept.new (λ k. RecordsOver P.L.received P.L.sent P.L.faults P.C.told numbers result (P.links ports.old) (P.links ports.new)
         (P.clocks ports.old) (P.clocks ports.new) (K.written sink.old) (K.written sink.new) (K.faults sink.old) (K.faults sink.new) k.1.seen) }
     ensures alone { IfSome kept.new (λ k. IsAlone (After k.1.seen) 0) }
-    ensures none { kept.new ≡ None → RunsNothing result (K.written sink.old) (K.written sink.new) (K.faults sink.old) (K.faults sink.new) }
+    ensures none { kept.new ≡ None → RunsNothing P.L.received P.L.sent P.L.faults P.C.told result (P.binds ports.old) (P.binds ports.new) (P.links ports.old) (P.links ports.new)
+        (P.clocks ports.old) (P.clocks ports.new) (K.written sink.old) (K.written sink.new) (K.faults sink.old) (K.faults sink.new) }
     ensures binds { P.binds ports.new ≤ P.binds ports.old + 3 }
     ensures link_fault { result ≡ Status.LinkFault → Rose (P.faults ports.old) (P.faults ports.new) }
     ensures links_steady { result ≢ Status.LinkFault → P.faults ports.new ≡ P.faults ports.old }

@@ -11,7 +11,7 @@ ghost use Rattle.gev_top.specs.LiveWords.{IsInRange};
 ghost use Rattle.gev_top.specs.Completeness.{NoneRose, EndsLive};
 ghost use Rattle.buffer_words.specs.Boards.{board_id};
 ghost use Rattle.buffer_words.specs.Passes.{SameHands};
-ghost use Rattle.gev_call.specs.Runs.{RunsSo, RunsOver, RunsNothing, told_by};
+ghost use Rattle.gev_call.specs.Runs.{RunsSo, GivesAllBack, RunsOver, RunsNothing, told_by};
 
 use buffer_words::{Board, Pass};
 use gev_binding::{ThreeLinks, bind_three, give_back};
@@ -166,7 +166,10 @@ fn run_over<R: Threads + Wait + Sync, K: Sink, P: Ports, G: Gate + Sync>(
     ensures live { IfSome kept.new (λ k. RunsOver P.L.received P.L.sent P.L.faults P.C.told numbers result (P.links ports.old) (P.links ports.new)
         (P.clocks ports.old) (P.clocks ports.new) (K.written sink.old) (K.written sink.new) (K.faults sink.old) (K.faults sink.new) k.1.seen) }
     ensures alone { IfSome kept.new (λ k. IsAlone (After k.1.seen) 0) }
-    ensures none { kept.new ≡ None → RunsNothing result (K.written sink.old) (K.written sink.new) (K.faults sink.old) (K.faults sink.new) }
+    ensures wanting { kept.new ≡ None → result ≡ Status.NoMemory }
+    ensures back { kept.new ≡ None → GivesAllBack P.L.received P.L.sent P.L.faults P.C.told (P.links ports.old) (P.links ports.new) (P.clocks ports.old) (P.clocks ports.new) }
+    ensures unwritten { kept.new ≡ None → K.written sink.new ≡ K.written sink.old }
+    ensures no_fault { kept.new ≡ None → K.faults sink.new ≡ K.faults sink.old }
     ensures binds { P.binds ports.new ≡ P.binds ports.old }
     ensures link_fault { result ≡ Status.LinkFault → Rose (P.faults ports.old) (P.faults ports.new) }
     ensures links_steady { result ≢ Status.LinkFault → P.faults ports.new ≡ P.faults ports.old }
@@ -208,7 +211,8 @@ pub fn run_live<R: Threads + Wait + Sync, K: Sink, P: Ports, G: Gate + Sync>(
     ensures live { IfSome kept.new (λ k. RunsOver P.L.received P.L.sent P.L.faults P.C.told numbers result (P.links ports.old) (P.links ports.new)
         (P.clocks ports.old) (P.clocks ports.new) (K.written sink.old) (K.written sink.new) (K.faults sink.old) (K.faults sink.new) k.1.seen) }
     ensures alone { IfSome kept.new (λ k. IsAlone (After k.1.seen) 0) }
-    ensures none { kept.new ≡ None → RunsNothing result (K.written sink.old) (K.written sink.new) (K.faults sink.old) (K.faults sink.new) }
+    ensures none { kept.new ≡ None → RunsNothing P.L.received P.L.sent P.L.faults P.C.told result (P.binds ports.old) (P.binds ports.new) (P.links ports.old) (P.links ports.new)
+        (P.clocks ports.old) (P.clocks ports.new) (K.written sink.old) (K.written sink.new) (K.faults sink.old) (K.faults sink.new) }
     ensures binds { P.binds ports.new ≤ P.binds ports.old + 3 }
     ensures link_fault { result ≡ Status.LinkFault → Rose (P.faults ports.old) (P.faults ports.new) }
     ensures links_steady { result ≢ Status.LinkFault → P.faults ports.new ≡ P.faults ports.old }

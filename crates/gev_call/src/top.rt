@@ -79,7 +79,8 @@ pub fn gevacq_top<R: Threads + Wait + Sync, S: Source, K: Sink, P: Ports, G: Gat
 
     // A live run reads nothing. Where a board was made its pass is kept, which is alone and has seen the run's whole
     // history: what the run promises is said of it, the headline first, and of the links and clocks that came back.
-    // Else nothing was written, since a bind failed or memory was wanting.
+    // Else a bind failed or memory was wanting: the links that were got came back unused, where memory was wanting with
+    // three clocks, and nothing was written.
     ensures unread { (errand : Errand) → errand_of (map (λ word. string_bytes word) words.now) ≡ Ok errand
         → IfPorts errand (λ n. (S.left source.new ≡ S.left source.old) × (S.faults source.new ≡ S.faults source.old)) }
     ensures live { (n : LiveNumbers) → errand_of (map (λ word. string_bytes word) words.now) ≡ Ok (errands.Live n)
@@ -91,7 +92,8 @@ pub fn gevacq_top<R: Threads + Wait + Sync, S: Source, K: Sink, P: Ports, G: Gat
         (P.clocks ports.old) (P.clocks ports.new) (K.written sink.old) (K.written sink.new) (K.faults sink.old) (K.faults sink.new) k.1.seen) }
     ensures alone { IfSome kept.new (λ k. IsAlone (After k.1.seen) 0) }
     ensures none { (errand : Errand) → errand_of (map (λ word. string_bytes word) words.now) ≡ Ok errand → kept.new ≡ None
-        → IfPorts errand (λ n. RunsNothing result (K.written sink.old) (K.written sink.new) (K.faults sink.old) (K.faults sink.new)) }
+        → IfPorts errand (λ n. RunsNothing P.L.received P.L.sent P.L.faults P.C.told result (P.binds ports.old) (P.binds ports.new) (P.links ports.old) (P.links ports.new)
+        (P.clocks ports.old) (P.clocks ports.new) (K.written sink.old) (K.written sink.new) (K.faults sink.old) (K.faults sink.new)) }
     ensures few_binds { P.binds ports.new ≤ P.binds ports.old + 3 }
 
     // Where no count of faults rose, each command comes to one of its own ends, or memory was wanting.
@@ -146,7 +148,8 @@ fn run_errand<R: Threads + Wait + Sync, S: Source, K: Sink, P: Ports, G: Gate + 
 
     // A live run reads nothing. Where a board was made its pass is kept, which is alone and has seen the run's whole
     // history: what the run promises is said of it, the headline first, and of the links and clocks that came back.
-    // Else nothing was written, since a bind failed or memory was wanting.
+    // Else a bind failed or memory was wanting: the links that were got came back unused, where memory was wanting with
+    // three clocks, and nothing was written.
     ensures unread { (asked : Errand) → errand ≡ asked
         → IfPorts asked (λ n. (S.left source.new ≡ S.left source.old) × (S.faults source.new ≡ S.faults source.old)) }
     ensures live { (n : LiveNumbers) → errand ≡ (errands.Live n)
@@ -158,7 +161,8 @@ fn run_errand<R: Threads + Wait + Sync, S: Source, K: Sink, P: Ports, G: Gate + 
         (P.clocks ports.old) (P.clocks ports.new) (K.written sink.old) (K.written sink.new) (K.faults sink.old) (K.faults sink.new) k.1.seen) }
     ensures alone { IfSome kept.new (λ k. IsAlone (After k.1.seen) 0) }
     ensures none { (asked : Errand) → errand ≡ asked → kept.new ≡ None
-        → IfPorts asked (λ n. RunsNothing result (K.written sink.old) (K.written sink.new) (K.faults sink.old) (K.faults sink.new)) }
+        → IfPorts asked (λ n. RunsNothing P.L.received P.L.sent P.L.faults P.C.told result (P.binds ports.old) (P.binds ports.new) (P.links ports.old) (P.links ports.new)
+        (P.clocks ports.old) (P.clocks ports.new) (K.written sink.old) (K.written sink.new) (K.faults sink.old) (K.faults sink.new)) }
     ensures few_binds { P.binds ports.new ≤ P.binds ports.old + 3 }
 
     // Where no count of faults rose, each command comes to one of its own ends, or memory was wanting.

@@ -1,4 +1,4 @@
--- The words of live runs, and what the words of any command line ask for.
+-- The words of live and of recorded runs, and what the words of any command line ask for.
 use Rattle.std.specs.Prelude.{◌≡◌, ⊤, ℕ, ◌≤◌, ◌^◌, ◌-◌, List, [], ◌∷◌, codes, Option, Some, None, Ok, Err, slice_get, if◌then◌else◌}
 use Rattle.std.specs.Str.{bytes_eq}
 use Rattle.gev_script.specs.Numbers.{number_in}
