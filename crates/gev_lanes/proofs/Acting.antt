@@ -31,7 +31,8 @@ brings_keep q m s t is brings =
 
 pub tries_keep : (q : LaneQueues) (m : Message) (brought_so : Bool) (s t : ReaderLane) → IsReaderOf q s → Tries m brought_so s t → IsReaderOf q t
 tries_keep q m true s t is tries = brings_keep q m s t is tries
-tries_keep q m false s t is tries = subst (IsReaderOf q) (sym tries.same) is
+tries_keep q m false s t is tries =
+    subst (IsReaderOf q) (sym tries.is) (record { free = is.free; cells = is.cells; requests = is.requests; least = is.least })
 
 pub ticks_keep : (q : LaneQueues) (moment : ℕ) (s t : ReaderLane) → IsReaderOf q s → Ticks moment s t → IsReaderOf q t
 ticks_keep q moment s t is ticks = go (nat_lt s.last moment) ticks
@@ -41,7 +42,8 @@ ticks_keep q moment s t is ticks = go (nat_lt s.last moment) ticks
     go false same = subst (IsReaderOf q) (sym same) is
 
 pub asked_keep : (q : LaneQueues) (request : Option (List ℕ)) (s t : ReaderLane) → IsReaderOf q s → Asked request s t → IsReaderOf q t
-asked_keep q None s t is none = subst (IsReaderOf q) (sym none.same) is
+asked_keep q None s t is none =
+    subst (IsReaderOf q) (sym none.is) (record { free = is.free; cells = is.cells; requests = is.requests; least = is.least })
 asked_keep q (Some request) s t is one =
     subst (IsReaderOf q) (sym one) (record { free = is.free; cells = is.cells; requests = is.requests; least = is.least })
 

@@ -1,6 +1,6 @@
 -- What the reader and a lane do at their ends of the queues, each as what it makes of the ends.
 use Rattle.std.specs.Prelude.{◌≡◌, ◌⊎◌, ℕ, Bool, true, false, nat_lt, MatchBool, List, [], ◌∷◌, slice_get, slice_set, Option, Some, None}
-use Rattle.lane_queues.specs.Ends.{GiverEnd, gave, took, WasEmpty, WasFull}
+use Rattle.lane_queues.specs.Ends.{GiverEnd, TakerEnd, gave, refused, took, missed, WasEmpty, WasFull}
 use Rattle.gev_lanes.specs.declared.cell.Cell.{Cell}
 use Rattle.gev_lanes.specs.declared.parts.ReaderLane.{ReaderLane}
 use Rattle.gev_lanes.specs.Messages.{Message, heard, told, ended, message_of}
@@ -15,16 +15,16 @@ pub record Brings (m : Message) (s t : ReaderLane) : Type 0 where
   pub message : message_of cell ≡ m
   pub is : t ≡ record { free = took s.free (free ∷ []); cells = gave s.cells (cell ∷ []); requests = s.requests; last = m.moment }
 
--- No free cell was there, and nothing was done.
+-- A try for a free cell found none, and nothing else was done.
 pub record LeavesOut (s t : ReaderLane) : Type 0 where
-  pub same : t ≡ s
+  pub is : t ≡ record { free = missed s.free; cells = s.cells; requests = s.requests; last = s.last }
   pub empty : WasEmpty s.free
 
 abbrev pub Tries : Message → Bool → ReaderLane → ReaderLane → Type 0
 Tries m true s t = Brings m s t
 Tries m false s t = LeavesOut s t
 
--- The message was brought, or left out since no free cell was there.
+-- The message was brought, or left out since a try for a free cell found none.
 pub record TriesTo (m : Message) (s t : ReaderLane) : Type 0 where
   pub brought : Bool
   pub tries : Tries m brought s t
@@ -42,13 +42,17 @@ Ticks moment s t = MatchBool (nat_lt s.last moment) (TriesTo (record { moment = 
 abbrev pub Ends : ℕ → ReaderLane → ReaderLane → Type 0
 Ends moment s t = Brings (record { moment = moment; says = ended }) s t
 
+-- Nothing but the end that takes the lane's requests became another.
+abbrev pub with_asked : ReaderLane → TakerEnd (List ℕ) → ReaderLane
+with_asked s requests = record { free = s.free; cells = s.cells; requests = requests; last = s.last }
+
 -- One request was taken.
 abbrev pub AsksOne : List ℕ → ReaderLane → ReaderLane → Type 0
-AsksOne request s t = t ≡ record { free = s.free; cells = s.cells; requests = took s.requests (request ∷ []); last = s.last }
+AsksOne request s t = t ≡ with_asked s (took s.requests (request ∷ []))
 
--- No request was there.
+-- A try for a request found none.
 pub record AsksNone (s t : ReaderLane) : Type 0 where
-  pub same : t ≡ s
+  pub is : t ≡ with_asked s (missed s.requests)
   pub empty : WasEmpty s.requests
 
 -- What a try for a request gave.
@@ -79,9 +83,9 @@ with_freed e cell =
 abbrev pub with_requests : LaneEnd → GiverEnd (List ℕ) → LaneEnd
 with_requests e requests = record { number = e.number; hands = record { free = e.hands.free; cells = e.hands.cells; requests = requests } }
 
--- A request was given, or left out since their queue was full.
+-- A request was given, or left out since a try to give it found their queue full.
 abbrev pub Puts : List ℕ → GiverEnd (List ℕ) → GiverEnd (List ℕ) → Type 0
-Puts request s t = (t ≡ gave s (request ∷ [])) ⊎ ((t ≡ s) × WasFull CELLS s)
+Puts request s t = (t ≡ gave s (request ∷ [])) ⊎ ((t ≡ refused s) × WasFull CELLS s)
 
 -- The lane did so with a request.
 pub record PutsOne (request : List ℕ) (e f : LaneEnd) : Type 0 where

@@ -57,8 +57,8 @@ abbrev pub HaveRoom : List LaneQueues → Type 0
 HaveRoom [] = ⊤
 HaveRoom (q ∷ qs) = HasRoom q × HaveRoom qs
 
--- A new lane: 64 cells were given to the queue of free cells, as the lane's first, and nothing else was given or
--- taken.
+-- A new lane: 64 cells were given to the queue of free cells, as the lane's first, nothing else was given or taken,
+-- and no try was made that failed.
 pub record IsNew (q : LaneQueues) (s : ReaderLane) (e : LaneEnd) (number : ℕ) : Type 0 where
   pub room : HasRoom q
   pub reader : IsReaderOf q s
@@ -70,6 +70,9 @@ pub record IsNew (q : LaneQueues) (s : ReaderLane) (e : LaneEnd) (number : ℕ) 
   pub none_come : e.hands.cells.taken ≡ []
   pub none_asked : e.hands.requests.given ≡ []
   pub none_heard : s.requests.taken ≡ []
+  pub none_missed : s.free.misses ≡ 0
+  pub none_unasked : s.requests.misses ≡ 0
+  pub none_refused : e.hands.requests.refusals ≡ 0
   pub last : s.last ≡ 0
 
 -- New lanes, one by one, with numbers from this one on.

@@ -6,7 +6,6 @@ ghost use Rattle.gev_lanes.specs.Acts.{Puts};
 use crate::cell::Cell;
 use crate::ends::{LaneEnds, Lanes};
 use crate::parts::LaneQueues;
-use crate::reader_acts::{give_cell, wait_for_cell};
 use lane_queues::{Giver, Line};
 use std::sync::Wait;
 
@@ -42,7 +41,7 @@ impl Lanes {
         ensures taken { lane.new ≡ with_taken lane.old result }
     {
         let queues = queues_at(self.queues.as_slice(), lane.number);
-        wait_for_cell(rt, &queues.cells, &mut lane.hands.cells)
+        queues.cells.take_waiting(rt, &mut lane.hands.cells)
     }
 
     /// Gives a cell back to the free cells.
@@ -52,7 +51,7 @@ impl Lanes {
         ensures freed { lane.new ≡ with_freed lane.old cell }
     {
         let queues = queues_at(self.queues.as_slice(), lane.number);
-        give_cell(rt, &queues.free, &mut lane.hands.free, cell);
+        queues.free.give_waiting(rt, &mut lane.hands.free, cell);
     }
 
     /// Gives a request to the reader. It's left out where 64 wait.

@@ -6,40 +6,9 @@ ghost use Rattle.gev_lanes.specs.Sides.{IsReaderOf};
 ghost use Rattle.gev_lanes.specs.Messages.{heard, told};
 ghost use Rattle.gev_lanes.specs.Acts.{Brings, Tries, Hears, Ticks, Ends as BringsEnd, Asked};
 
-use crate::cell::Cell;
 use crate::parts::{LaneQueues, ReaderLane};
 use crate::saying::{ending, ticking, with_datagram};
-use lane_queues::{Giver, Line, Taker};
 use std::sync::Wait;
-
-/// Gives a cell; it's tried again while the queue is full.
-pub(crate) fn give_cell<R: Wait>(rt: &R, line: &Line<Cell>, giver: &mut Giver<Cell>, cell: Cell)
-    requires line { giver.old.line ≡ line.now.table }
-    ensures given { giver.new ≡ gave giver.old (cell ∷ []) }
-{
-    let mut kept = cell;
-    'tries: for _ in rt.forever() {
-        match line.give(rt, giver, kept) {
-            Ok(()) => return,
-            Err(back) => kept = back,
-        }
-    }
-    unreachable!()
-}
-
-/// Takes a cell; it's tried again while there is none.
-pub(crate) fn wait_for_cell<R: Wait>(rt: &R, line: &Line<Cell>, taker: &mut Taker<Cell>) -> Cell
-    requires line { taker.old.line ≡ line.now.table }
-    ensures taken { taker.new ≡ took taker.old (result ∷ []) }
-{
-    'tries: for _ in rt.forever() {
-        match line.take(rt, taker) {
-            Some(cell) => return cell,
-            None => {}
-        }
-    }
-    unreachable!()
-}
 
 /// Brings a datagram to the lane: whether a free cell was there.
 pub(crate) fn bring_one<R: Wait>(
@@ -56,7 +25,7 @@ pub(crate) fn bring_one<R: Wait>(
     match queues.free.take(rt, &mut side.free) {
         Some(free) => {
             let cell = with_datagram(free, moment, datagram);
-            give_cell(rt, &queues.cells, &mut side.cells, cell);
+            queues.cells.give_waiting(rt, &mut side.cells, cell);
             side.last = moment;
             true
         }
@@ -72,7 +41,7 @@ fn bring_moment<R: Wait>(rt: &R, queues: &LaneQueues, side: &mut ReaderLane, mom
     match queues.free.take(rt, &mut side.free) {
         Some(free) => {
             let cell = ticking(free, moment);
-            give_cell(rt, &queues.cells, &mut side.cells, cell);
+            queues.cells.give_waiting(rt, &mut side.cells, cell);
             side.last = moment;
             true
         }
@@ -95,9 +64,9 @@ pub(crate) fn end_one<R: Wait>(rt: &R, queues: &LaneQueues, side: &mut ReaderLan
     requires side { IsReaderOf queues.now side.old }
     ensures ends { BringsEnd moment side.old side.new }
 {
-    let free = wait_for_cell(rt, &queues.free, &mut side.free);
+    let free = queues.free.take_waiting(rt, &mut side.free);
     let cell = ending(free, moment);
-    give_cell(rt, &queues.cells, &mut side.cells, cell);
+    queues.cells.give_waiting(rt, &mut side.cells, cell);
     side.last = moment;
 }
 

@@ -1,5 +1,5 @@
 -- What each lane did, by what the reader brought to it and what it took.
-use Rattle.std.proofs.Common.{◌≡◌, ℕ, zero, suc, ◌+◌, List, [], ◌∷◌, ◌++◌, Some, refl, ap, sym, ◌∙◌, subst, arith}
+use Rattle.std.proofs.Common.{◌≡◌, ℕ, zero, suc, ◌+◌, ◌≤◌, List, [], ◌∷◌, ◌++◌, length, Some, refl, ap, sym, ◌∙◌, subst, arith}
 use Rattle.std.specs.Prelude.{slice_get}
 use Rattle.atomic_table.specs.Seated.{TableId}
 use Rattle.board_machine.specs.declared.events.Entry.{Entry}
@@ -91,6 +91,9 @@ all_taken mode s b side x y parts news q k New new brings ends met so = record {
 side_is : (us : List ReaderLane) (k number : ℕ) (u side : ReaderLane) → number ≡ k → slice_get us k ≡ Some u → slice_get us number ≡ Some side → side ≡ u
 side_is us k number u side is at met = some_same side u (sym met ∙ (ap (λ j. slice_get us j) is ∙ at))
 
+no_more : (k m n : ℕ) → k ≡ m + n → m ≡ 0 → k ≡ n
+no_more k m n is none = omega (arith, is, none)
+
 lane_did : (mode : Mode) (n k : ℕ) (made : List ReaderTurn) (ss us : List ReaderLane) (board : TableId) (qs : List LaneQueues) (q : LaneQueues) (s : ReaderLane) (x y : LaneTools) (h : List Entry)
     → IsNew q s x.ends k → slice_get ss k ≡ Some s → BringsAll n made ss us → IsReady board qs x → IsServed mode qs x y → IsJoined h y → MetAt us y.ends
     → LaneDid mode n k made us x h
@@ -103,6 +106,8 @@ lane_did mode n k made ss us board qs q s x y h new at lanes ready served joined
     let all : AllTaken brings.cells end.2.cell end.0 served.serves.cells served.serves.last =
     all_taken mode s turned.0 end.0 x y (parts_of n k made) (news_of n k made) q k (Stands y.acq) new brings end.2 so served.serves in
     let are : messages_in served.serves.served ≡ messages brings.cells = served.serves.are ∙ ap messages all.same.before in
+    let misses : end.0.free.misses ≡ brings.misses =
+    no_more end.0.free.misses s.free.misses brings.misses (ap (λ (r : ReaderLane). r.free.misses) end.2.is ∙ ap (λ f. f.misses) brings.taken) new.none_missed in
     record {
       served = served.serves.served;
       heard = record {
@@ -118,6 +123,8 @@ lane_did mode n k made ss us board qs q s x y h new at lanes ready served joined
         side = end.0;
         at = end.1;
         all = all.given ∙ (ap (λ l. l ++ end.2.cell ∷ []) (sym all.same.before) ∙ ap (λ z. served.serves.cells ++ z ∷ []) (sym all.same.last));
+        left_out = subst (λ l. length (parts_of n k made) ≤ length (datagrams_in l) + end.0.free.misses) (sym are)
+            (subst (λ m. length (parts_of n k made) ≤ length (datagrams_in (messages brings.cells)) + m) (sym misses) brings.left_out);
         hands = y.ends.hands;
         taken = served.serves.taken;
         given_back = served.serves.given_back;

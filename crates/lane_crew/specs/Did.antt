@@ -1,5 +1,5 @@
 -- What each lane did: what came to it, what it served, and its part in the board's history.
-use Rattle.std.specs.Prelude.{◌≡◌, ⊤, ℕ, suc, List, [], ◌∷◌, ◌++◌, slice_get, Some}
+use Rattle.std.specs.Prelude.{◌≡◌, ⊤, ℕ, suc, ◌+◌, ◌≤◌, List, [], ◌∷◌, ◌++◌, length, slice_get, Some}
 use Rattle.board_machine.specs.declared.events.Entry.{Entry}
 use Rattle.board_machine.specs.declared.events.Event.{Event}
 use Rattle.board_machine.specs.Machine.{empty_board}
@@ -33,9 +33,10 @@ pub record IsHeard (n k : ℕ) (made : List ReaderTurn) (served : List CellServe
   pub news : IsSublist (messages_in served) (news_of n k made)
 
 -- What is known of lane k's queues at the end: the lane took all cells that the reader gave it, the last one with the
--- end and moment 0, and gave each back; it gave its machine's requests in order, each unless the queue was full; and
--- what the reader took of it is the front of what it gave.
-pub record IsQueued (c : AcqConfig) (k : ℕ) (us : List ReaderLane) (e : LaneEnd) (served : List CellServed) : Type 0 where
+-- end and moment 0, and gave each back; no more of the datagrams that came for it in these turns are left out than
+-- tries of the reader for a free cell of it found none; it gave its machine's requests in order, each unless a try found
+-- the queue full; and what the reader took of it is the front of what it gave.
+pub record IsQueued (c : AcqConfig) (n k : ℕ) (made : List ReaderTurn) (us : List ReaderLane) (e : LaneEnd) (served : List CellServed) : Type 0 where
   pub cells : List Cell
   pub last : Cell
   pub are : messages_in served ≡ messages cells
@@ -43,6 +44,7 @@ pub record IsQueued (c : AcqConfig) (k : ℕ) (us : List ReaderLane) (e : LaneEn
   pub side : ReaderLane
   pub at : slice_get us k ≡ Some side
   pub all : side.cells.given ≡ cells ++ last ∷ []
+  pub left_out : length (parts_of n k made) ≤ length (datagrams_in (messages_in served)) + side.free.misses
   pub hands : LaneHands
   pub taken : hands.cells ≡ took e.hands.cells (cells ++ last ∷ [])
   pub given_back : hands.free ≡ gave e.hands.free (cells ++ last ∷ [])
@@ -63,7 +65,7 @@ pub record LanePart (mode : Mode) (c : AcqConfig) (a : ℕ) (h : List Entry) (se
 pub record LaneDid (mode : Mode) (n k : ℕ) (made : List ReaderTurn) (us : List ReaderLane) (x : LaneTools) (h : List Entry) : Type 0 where
   pub served : List CellServed
   pub heard : IsHeard n k made served
-  pub queued : IsQueued (config_of x.acq) k us x.ends served
+  pub queued : IsQueued (config_of x.acq) n k made us x.ends served
   pub part : LanePart mode (config_of x.acq) x.pass.number h served
 
 -- The same of each lane, with numbers from k on.

@@ -17,7 +17,7 @@ use crate::homing::bring_home;
 use crate::lane_tools::LaneTools;
 use crate::lanes_done::LanesDone;
 use crate::reading::read_all;
-use crate::serving::serve_lanes;
+use crate::serving::run_lanes;
 use buffer_words::{Board, Pass};
 use control_client::Client;
 use gev_control::AcqEnd;
@@ -136,7 +136,7 @@ fn read_and_serve<
         move || -> Vec<LaneTools>
             requires { AreReady (board_id board.now) lanes.now tools.items }
             ensures { AreServed mode lanes.entry.now tools.items result.items }
-        { serve_lanes(rt, board, lanes, gate, tools, mode) },
+        { run_lanes(rt, board, lanes, gate, tools, mode) },
         move || -> (ReaderTools<S, M, C>, AcqEnd)
             requires { (mine.pass.table ≡ board_id board.now) × AreReadersOf lanes.now mine.reader × (0 < length lanes.now) × HasSubmittedNone mine.client }
             ensures { ReadsAll (length lanes.entry.now) camera own

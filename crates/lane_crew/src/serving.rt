@@ -15,7 +15,7 @@ use std::thread;
 use std::thread::Threads;
 
 // One lane, with what it works on by value.
-fn serve_one<R: Wait, G: Gate>(
+fn run_lane<R: Wait, G: Gate>(
     rt: &R,
     board: &Board,
     lanes: &Lanes,
@@ -36,7 +36,7 @@ fn serve_one<R: Wait, G: Gate>(
 }
 
 /// All lanes, each as a thread beside the others.
-pub(crate) fn serve_lanes<R: Threads + Wait + Sync, G: Gate + Sync>(
+pub(crate) fn run_lanes<R: Threads + Wait + Sync, G: Gate + Sync>(
     rt: &R,
     board: &Board,
     lanes: &Lanes,
@@ -56,11 +56,11 @@ pub(crate) fn serve_lanes<R: Threads + Wait + Sync, G: Gate + Sync>(
                 move || -> LaneTools
                     requires { IsReady (board_id board.now) lanes.now last }
                     ensures { IsServed mode lanes.entry.now last result }
-                { serve_one(rt, board, lanes, gate, last, mode) },
+                { run_lane(rt, board, lanes, gate, last, mode) },
                 move || -> Vec<LaneTools>
                     requires { AreReady (board_id board.now) lanes.now tools.items }
                     ensures { AreServed mode lanes.entry.now tools.items result.items × (vec_len result ≡ vec_len tools) × (vec_capacity result ≡ vec_capacity tools) }
-                { serve_lanes(rt, board, lanes, gate, tools, mode) },
+                { run_lanes(rt, board, lanes, gate, tools, mode) },
             );
             all.push_reserved(served);
             all

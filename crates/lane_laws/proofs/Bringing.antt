@@ -3,14 +3,14 @@ use Rattle.std.proofs.Common.{◌≡◌, ℕ, zero, suc, ◌+◌, ◌≤◌, Boo
 use Rattle.std.specs.Prelude.{slice_get, nat_lt, MatchBool}
 use Rattle.std.proofs.lemmas.List.{append-nil, map-append}
 use Rattle.gev_control.specs.Controlled.{listed}
-use Rattle.lane_queues.specs.Ends.{GiverEnd, TakerEnd, gave, took}
+use Rattle.lane_queues.specs.Ends.{GiverEnd, TakerEnd, gave, took, missed}
 use Rattle.gev_lanes.specs.declared.cell.Cell.{Cell}
 use Rattle.gev_lanes.specs.declared.parts.ReaderLane.{ReaderLane}
-use Rattle.gev_lanes.specs.Messages.{Message, heard, told, ended, message_of, messages, GoOn}
+use Rattle.gev_lanes.specs.Messages.{Says, Message, heard, told, ended, message_of, messages, GoOn}
 use Rattle.gev_lanes.specs.Acts.{Brings, Tries, TriesTo, Hears, Ticks}
 use Rattle.lane_turns.specs.Turns.{ReaderTurn, part_of, Each, Asks, AsksEach, TakesLanesTurn}
-use Rattle.lane_laws.specs.Brought.{IsSublist, datagram_in, datagrams_in, parts_of, heard_at, news_of, Brought, LaneTurn}
-use Rattle.lane_laws.specs.Laws.{LanesTakeTurns, TurnsBring, LanesTakeAll, FirstCellsAreBrought}
+use Rattle.lane_laws.specs.Brought.{IsSublist, datagram_in, datagrams_in, parts_of, heard_at, news_of, took_in_tries, Brought, LaneTurn}
+use Rattle.lane_laws.specs.Laws.{LanesTakeTurns, TurnsBring, LanesTakeAll, OnlyMissesLeaveOut, FirstCellsAreBrought}
 
 -- ---- lists
 
@@ -36,17 +36,38 @@ datagrams-append [] ns = refl
 datagrams-append (m ∷ ms) ns =
     ap (λ l. datagram_in m.says ++ l) (datagrams-append ms ns) ∙ sym (append_assoc (datagram_in m.says) (datagrams_in ms) (datagrams_in ns))
 
-took_none : (e : TakerEnd Cell) → e ≡ took e []
-took_none e = ap (λ l. record { line = e.line; least = e.least; taken = l }) (sym (append-nil e.taken))
+-- the same end with this list and this count
+end_with : TakerEnd Cell → List Cell → ℕ → TakerEnd Cell
+end_with e taken misses = record { line = e.line; least = e.least; taken = taken; misses = misses }
 
-took_more : (e : TakerEnd Cell) (xs ys : List Cell) → took (took e xs) ys ≡ took e (xs ++ ys)
-took_more e xs ys = ap (λ l. record { line = e.line; least = e.least; taken = l }) (append_assoc e.taken xs ys)
+took_so : (e f : TakerEnd Cell) (cells taken : List Cell) (some misses : ℕ) → f ≡ end_with e taken misses → taken ≡ e.taken ++ cells → misses ≡ e.misses + some
+    → f ≡ took_in_tries e cells some
+unfolding end_with
+took_so e f cells taken some misses is list count =
+    is ∙ (ap (λ l. end_with e l misses) list ∙ ap (λ n. end_with e (e.taken ++ cells) n) count)
+
+took_none : (e f : TakerEnd Cell) → f ≡ e → f ≡ took_in_tries e [] 0
+unfolding end_with
+took_none e f is = took_so e f [] e.taken 0 e.misses is (sym (append-nil e.taken)) (omega arith)
+
+took_one : (e f : TakerEnd Cell) (cell : Cell) → f ≡ took e (cell ∷ []) → f ≡ took_in_tries e (cell ∷ []) 0
+unfolding end_with
+took_one e f cell is = took_so e f (cell ∷ []) (e.taken ++ cell ∷ []) 0 e.misses is refl (omega arith)
+
+missed_one : (e f : TakerEnd Cell) → f ≡ missed e → f ≡ took_in_tries e [] 1
+unfolding end_with
+missed_one e f is = took_so e f [] e.taken 1 (suc e.misses) is (sym (append-nil e.taken)) (omega arith)
+
+took_more : (e f g : TakerEnd Cell) (xs ys : List Cell) (m n : ℕ) → f ≡ took_in_tries e xs m → g ≡ took_in_tries f ys n → g ≡ took_in_tries e (xs ++ ys) (m + n)
+unfolding end_with
+took_more e f g xs ys m n first second =
+    took_so e g (xs ++ ys) ((e.taken ++ xs) ++ ys) (m + n) ((e.misses + m) + n) (second ∙ ap (λ x. took_in_tries x ys n) first) (append_assoc e.taken xs ys) (omega arith)
 
 gave_none : (e : GiverEnd Cell) → e ≡ gave e []
-gave_none e = ap (λ l. record { line = e.line; given = l }) (sym (append-nil e.given))
+gave_none e = ap (λ l. record { line = e.line; given = l; refusals = e.refusals }) (sym (append-nil e.given))
 
 gave_more : (e : GiverEnd Cell) (xs ys : List Cell) → gave (gave e xs) ys ≡ gave e (xs ++ ys)
-gave_more e xs ys = ap (λ l. record { line = e.line; given = l }) (append_assoc e.given xs ys)
+gave_more e xs ys = ap (λ l. record { line = e.line; given = l; refusals = e.refusals }) (append_assoc e.given xs ys)
 
 -- ---- one after the other
 
@@ -54,55 +75,84 @@ brought_then : (p q : List (List ℕ)) (a b : List Message) (s t u : ReaderLane)
 brought_then p q a b s t u first second = record {
   free = first.free ++ second.free;
   cells = first.cells ++ second.cells;
-  taken = second.taken ∙ (ap (λ x. took x second.free) first.taken ∙ took_more s.free first.free second.free);
+  misses = first.misses + second.misses;
+  taken = took_more s.free t.free u.free first.free second.free first.misses second.misses first.taken second.taken;
   given = second.given ∙ (ap (λ x. gave x second.cells) first.given ∙ gave_more s.cells first.cells second.cells);
   as_many = omega (arith, length-append first.free second.free, length-append first.cells second.cells, first.as_many, second.as_many);
   go_on = subst GoOn (sym both) (go_on-append (messages first.cells) (messages second.cells) first.go_on second.go_on);
   datagrams = subst (λ l. IsSublist l (p ++ q)) (sym (ap datagrams_in both ∙ datagrams-append (messages first.cells) (messages second.cells)))
       (sublist-append (datagrams_in (messages first.cells)) (datagrams_in (messages second.cells)) p q first.datagrams second.datagrams);
+  left_out = left_both (length p) (length q) (length (p ++ q)) (length (datagrams_in (messages first.cells))) (length (datagrams_in (messages second.cells)))
+      (length (datagrams_in (messages (first.cells ++ second.cells)))) first.misses second.misses (length-append p q)
+      (ap length (ap datagrams_in both ∙ datagrams-append (messages first.cells) (messages second.cells))
+      ∙ length-append (datagrams_in (messages first.cells)) (datagrams_in (messages second.cells)))
+      first.left_out second.left_out;
   news_are = subst (λ l. IsSublist l (a ++ b)) (sym both) (sublist-append (messages first.cells) (messages second.cells) a b first.news_are second.news_are);
 }
   where
     both : messages (first.cells ++ second.cells) ≡ messages first.cells ++ messages second.cells
     both = map-append message_of first.cells second.cells
 
--- no cell, though one might have come
-brought_none : (p : List (List ℕ)) (a : List Message) (s t : ReaderLane) → t.free ≡ s.free → t.cells ≡ s.cells → Brought p a s t
-brought_none p a s t free cells = record {
+    left_both : (a b ab c d cd m k : ℕ) → ab ≡ a + b → cd ≡ c + d → a ≤ c + m → b ≤ d + k → ab ≤ cd + (m + k)
+    left_both a b ab c d cd m k parts has front rest = omega (arith, parts, has, front, rest)
+
+-- no cell, though one might have come where a try found none
+brought_none : (p : List (List ℕ)) (a : List Message) (misses : ℕ) (s t : ReaderLane) → t.free ≡ took_in_tries s.free [] misses → t.cells ≡ s.cells → length p ≤ misses
+    → Brought p a s t
+brought_none p a misses s t free cells few = record {
   free = [];
   cells = [];
-  taken = free ∙ took_none s.free;
+  misses = misses;
+  taken = free;
   given = cells ∙ gave_none s.cells;
   as_many = refl;
   go_on = tt;
   datagrams = sublist_none p;
+  left_out = omega (arith, few);
   news_are = sublist_none a;
 }
+
+-- nothing came, and nothing was tried
+brought_nothing : (a : List Message) (s t : ReaderLane) → t.free ≡ s.free → t.cells ≡ s.cells → Brought [] a s t
+brought_nothing a s t free cells = brought_none [] a 0 s t (took_none s.free t.free free) cells (omega arith)
 
 brought_one : (p : List (List ℕ)) (m : Message) (s t : ReaderLane) → (m.says ≡ ended → ⊥) → datagram_in m.says ≡ p → Brings m s t → Brought p (m ∷ []) s t
 brought_one p m s t goes says brings = record {
   free = brings.free ∷ [];
   cells = brings.cell ∷ [];
-  taken = ap (λ (x : ReaderLane). x.free) brings.is;
+  misses = 0;
+  taken = took_one s.free t.free brings.free (ap (λ (x : ReaderLane). x.free) brings.is);
   given = ap (λ (x : ReaderLane). x.cells) brings.is;
   as_many = refl;
   go_on = ((λ is. goes (sym (ap (λ (x : Message). x.says) brings.message) ∙ is)), tt);
-  datagrams = subst (λ l. IsSublist l p) (sym (append-nil (datagram_in (message_of brings.cell).says) ∙ (ap (λ (x : Message). datagram_in x.says) brings.message ∙ says)))
-      (whole p);
+  datagrams = subst (λ l. IsSublist l p) (sym here) (whole p);
+  left_out = all_there (length p) _ (sym (ap length here));
   news_are = subst (λ x. IsSublist (x ∷ []) (m ∷ [])) (sym brings.message) (sublist_one m);
 }
   where
+    here : datagrams_in (messages (brings.cell ∷ [])) ≡ p
+    here = append-nil (datagram_in (message_of brings.cell).says) ∙ (ap (λ (x : Message). datagram_in x.says) brings.message ∙ says)
+
+    all_there : (a b : ℕ) → a ≡ b → a ≤ b + 0
+    all_there a b e = omega (arith, e)
+
     whole : (l : List (List ℕ)) → IsSublist l l
     whole [] = refl
     whole (x ∷ l) = inr (l, refl, whole l)
 
+few_in : (y : Says) → length (datagram_in y) ≤ 1
+few_in (heard bytes) = omega arith
+few_in told = omega arith
+few_in ended = omega arith
+
 tried : (p : List (List ℕ)) (m : Message) (done : Bool) (s t : ReaderLane) → (m.says ≡ ended → ⊥) → datagram_in m.says ≡ p → Tries m done s t → Brought p (m ∷ []) s t
 tried p m true s t goes says tries = brought_one p m s t goes says tries
 tried p m false s t goes says tries =
-    brought_none p (m ∷ []) s t (ap (λ (x : ReaderLane). x.free) tries.same) (ap (λ (x : ReaderLane). x.cells) tries.same)
+    brought_none p (m ∷ []) 1 s t (missed_one s.free t.free (ap (λ (x : ReaderLane). x.free) tries.is)) (ap (λ (x : ReaderLane). x.cells) tries.is)
+    (subst (λ l. length l ≤ 1) says (few_in m.says))
 
 heard_brings : (part : Option (List ℕ)) (moment : ℕ) (s t : ReaderLane) → Hears part moment s t → Brought (listed part) (heard_at part moment) s t
-heard_brings None moment s t same = brought_none [] [] s t (ap (λ (x : ReaderLane). x.free) same) (ap (λ (x : ReaderLane). x.cells) same)
+heard_brings None moment s t same = brought_nothing [] s t (ap (λ (x : ReaderLane). x.free) same) (ap (λ (x : ReaderLane). x.cells) same)
 heard_brings (Some bytes) moment s t tries =
     tried (bytes ∷ []) (record { moment = moment; says = heard bytes }) tries.brought s t (λ e. cc) refl tries.tries
 
@@ -111,10 +161,11 @@ ticks_brings moment s t ticks = go (nat_lt s.last moment) ticks
   where
     go : (b : Bool) → MatchBool b (TriesTo (record { moment = moment; says = told }) s t) (t ≡ s) → Brought [] (record { moment = moment; says = told } ∷ []) s t
     go true tries = tried [] (record { moment = moment; says = told }) tries.brought s t (λ e. cc) refl tries.tries
-    go false same = brought_none [] (record { moment = moment; says = told } ∷ []) s t (ap (λ (x : ReaderLane). x.free) same) (ap (λ (x : ReaderLane). x.cells) same)
+    go false same = brought_nothing (record { moment = moment; says = told } ∷ []) s t (ap (λ (x : ReaderLane). x.free) same) (ap (λ (x : ReaderLane). x.cells) same)
 
 asks_brings : (requests : List (List ℕ)) (s t : ReaderLane) → Asks requests s t → Brought [] [] s t
-asks_brings requests s t asks = brought_none [] [] s t (ap (λ (x : ReaderLane). x.free) asks.is) (ap (λ (x : ReaderLane). x.cells) asks.is)
+asks_brings requests s t (inl asks) = brought_nothing [] s t (ap (λ (x : ReaderLane). x.free) asks.is) (ap (λ (x : ReaderLane). x.cells) asks.is)
+asks_brings requests s t (inr asks) = brought_nothing [] s t (ap (λ (x : ReaderLane). x.free) asks.is) (ap (λ (x : ReaderLane). x.cells) asks.is)
 
 turn_brings : (n k : ℕ) (t : ReaderTurn) (s u : ReaderLane) → LaneTurn n k t s u
     → Brought (listed (part_of n k t.answer)) (heard_at (part_of n k t.answer) t.moment ++ (record { moment = t.moment; says = told } ∷ [])) s u
@@ -131,11 +182,36 @@ turn_brings n k t s u turn =
     tick = record { moment = t.moment; says = told }
 
 pub turns_bring : TurnsBring
-turns_bring n k [] s u same = brought_none [] [] s u (ap (λ (x : ReaderLane). x.free) same) (ap (λ (x : ReaderLane). x.cells) same)
+turns_bring n k [] s u same = brought_nothing [] s u (ap (λ (x : ReaderLane). x.free) same) (ap (λ (x : ReaderLane). x.cells) same)
 turns_bring n k (t ∷ ts) s u turns =
     brought_then (listed (part_of n k t.answer)) (parts_of n k ts)
     (heard_at (part_of n k t.answer) t.moment ++ (record { moment = t.moment; says = told } ∷ [])) (news_of n k ts) s turns.0 u
     (turn_brings n k t s turns.0 turns.1) (turns_bring n k ts turns.0 u turns.2)
+
+-- ---- nothing is left out
+
+sublist_length : {A : Type 0} (xs ys : List A) → IsSublist xs ys → length xs ≤ length ys
+sublist_length xs [] none = subst (λ l. length l ≤ 0) (sym none) (omega arith)
+sublist_length xs (y ∷ ys) (inl more) = omega (arith, sublist_length xs ys more)
+sublist_length xs (y ∷ ys) (inr one) = subst (λ l. length l ≤ suc (length ys)) (sym one.1) (omega (arith, sublist_length one.0 ys one.2))
+
+-- some of a list that are as many are all
+sublist_whole : {A : Type 0} (xs ys : List A) → IsSublist xs ys → length ys ≤ length xs → xs ≡ ys
+sublist_whole xs [] none many = none
+sublist_whole xs (y ∷ ys) (inl more) many = absurd (omega (arith, sublist_length xs ys more, many))
+sublist_whole xs (y ∷ ys) (inr one) many = one.1 ∙ ap (λ l. y ∷ l) (sublist_whole one.0 ys one.2 (omega (arith, many, ap length one.1)))
+
+pub misses_leave_out : OnlyMissesLeaveOut
+misses_leave_out n k ts s u turns same = (so.cells, so.given, sublist_whole _ _ so.datagrams (all_there _ _ so.misses none so.left_out))
+  where
+    so : Brought (parts_of n k ts) (news_of n k ts) s u
+    so = turns_bring n k ts s u turns
+
+    none : so.misses ≡ 0
+    none = omega (arith, same, ap (λ e. e.misses) so.taken)
+
+    all_there : (a b m : ℕ) → m ≡ 0 → a ≤ b + m → a ≤ b
+    all_there a b m e le = omega (arith, e, le)
 
 -- ---- each of all lanes
 

@@ -1,7 +1,7 @@
 -- What the reader's turns bring to one lane.
-use Rattle.std.specs.Prelude.{◌≡◌, ◌⊎◌, ℕ, List, [], ◌∷◌, ◌++◌, length, Option, Some, None}
+use Rattle.std.specs.Prelude.{◌≡◌, ◌⊎◌, ℕ, ◌+◌, ◌≤◌, List, [], ◌∷◌, ◌++◌, length, Option, Some, None}
 use Rattle.gev_control.specs.Controlled.{listed}
-use Rattle.lane_queues.specs.Ends.{gave, took}
+use Rattle.lane_queues.specs.Ends.{TakerEnd, gave}
 use Rattle.gev_lanes.specs.declared.cell.Cell.{Cell}
 use Rattle.gev_lanes.specs.declared.parts.ReaderLane.{ReaderLane}
 use Rattle.gev_lanes.specs.Messages.{Says, Message, heard, told, ended, messages, GoOn}
@@ -37,16 +37,23 @@ abbrev pub news_of : ℕ → ℕ → List ReaderTurn → List Message
 news_of n k [] = []
 news_of n k (t ∷ ts) = (heard_at (part_of n k t.answer) t.moment ++ (record { moment = t.moment; says = told } ∷ [])) ++ news_of n k ts
 
+-- These were taken, and so many tries found the queue empty.
+abbrev pub took_in_tries : TakerEnd Cell → List Cell → ℕ → TakerEnd Cell
+took_in_tries e cells misses = record { line = e.line; least = e.least; taken = e.taken ++ cells; misses = e.misses + misses }
+
 -- As many cells were given to the lane as free ones were taken; none says the end, their datagrams are some of these
--- parts, in order, and what they say some of these news.
+-- parts, in order, and what they say some of these news. No more of these parts are left out than tries for a free cell
+-- found none.
 pub record Brought (parts : List (List ℕ)) (news : List Message) (s u : ReaderLane) : Type 0 where
   pub free : List Cell
   pub cells : List Cell
-  pub taken : u.free ≡ took s.free free
+  pub misses : ℕ
+  pub taken : u.free ≡ took_in_tries s.free free misses
   pub given : u.cells ≡ gave s.cells cells
   pub as_many : length free ≡ length cells
   pub go_on : GoOn (messages cells)
   pub datagrams : IsSublist (datagrams_in (messages cells)) parts
+  pub left_out : length parts ≤ length (datagrams_in (messages cells)) + misses
   pub news_are : IsSublist (messages cells) news
 
 -- A turn at lane k of n.

@@ -1,13 +1,13 @@
 -- Laws of reader and lane, whatever they were.
 use Rattle.std.specs.Prelude.{◌≡◌, ℕ, ◌≤◌, List, [], ◌∷◌, ◌++◌, length, slice_get, Some}
-use Rattle.lane_queues.specs.Ends.{BeginsWith}
+use Rattle.lane_queues.specs.Ends.{gave, BeginsWith}
 use Rattle.gev_lanes.specs.declared.cell.Cell.{Cell}
 use Rattle.gev_lanes.specs.declared.parts.ReaderLane.{ReaderLane}
 use Rattle.gev_lanes.specs.Sides.{CELLS}
 use Rattle.gev_lanes.specs.Messages.{ended, message_of, messages, GoOn}
 use Rattle.gev_lanes.specs.Acts.{LeavesOut}
 use Rattle.lane_turns.specs.Turns.{ReaderTurn, TakesLanesTurns}
-use Rattle.lane_laws.specs.Brought.{parts_of, news_of, Brought, LaneTurns}
+use Rattle.lane_laws.specs.Brought.{datagrams_in, parts_of, news_of, Brought, LaneTurns}
 
 -- What the turns do on all lanes they do at each.
 abbrev pub LanesTakeTurns : Type 0
@@ -26,6 +26,12 @@ abbrev pub LanesTakeAll : Type 0
 LanesTakeAll =
     (taken given : List Cell) (last e : Cell) → GoOn (messages taken) → (message_of last).says ≡ ended → GoOn (messages given)
     → BeginsWith (given ++ e ∷ []) (taken ++ last ∷ []) → taken ++ last ∷ [] ≡ given ++ e ∷ []
+
+-- Where the turns' tries for a free cell of the lane all found one, each datagram that came for it was brought.
+abbrev pub OnlyMissesLeaveOut : Type 0
+OnlyMissesLeaveOut =
+    (n k : ℕ) (ts : List ReaderTurn) (s u : ReaderLane) → LaneTurns n k ts s u → u.free.misses ≡ s.free.misses
+    → (cells : List Cell) × (u.cells ≡ gave s.cells cells) × (datagrams_in (messages cells) ≡ parts_of n k ts)
 
 -- Nothing is left out before the lane's first 64 cells are on their way.
 abbrev pub FirstCellsAreBrought : Type 0

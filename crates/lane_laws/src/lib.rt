@@ -6,5 +6,6 @@
 mod laws;
 
 pub use laws::{
-    a_lane_takes_all, first_cells_are_brought, lanes_take_turns, turns_bring_what_came,
+    a_lane_takes_all, first_cells_are_brought, lanes_take_turns, only_misses_leave_out,
+    turns_bring_what_came,
 };

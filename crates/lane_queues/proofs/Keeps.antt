@@ -5,7 +5,7 @@ use lib.ListN.{get_elem?}
 use Rattle.crossbeam_queue.specs.Fifo.{Pushes, Pops, Forks, Merges, Learns}
 use Rattle.crossbeam_queue.proofs.Lists.{at_set, at_snoc}
 use Rattle.lane_queues.specs.declared.log.Log.{Log}
-use Rattle.lane_queues.specs.Rule.{log, Fits, InOrder, FoundBy}
+use Rattle.lane_queues.specs.Rule.{log, spent, Fits, InOrder, FoundBy}
 
 -- ---- views at their numbers
 
@@ -25,7 +25,7 @@ all_set {T} F views port w mine others j u e =
     (λ (x : (j ≢ port) × (get_elem? views j ≡ some u)). others j u x.0 x.1) (at_set views port j w u e)
 
 -- a view that may do nothing fits everywhere
-spent_fits : {T : Type 0} (giver taker : ℕ) (given taken : List T) (port : ℕ) → Fits giver taker given taken port (log false false 0 [] [])
+spent_fits : {T : Type 0} (giver taker : ℕ) (given taken : List T) (port : ℕ) → Fits giver taker given taken port spent
 spent_fits giver taker given taken port = record {
   giver_is = λ p. absurd (true≢false (sym p));
   given_is = λ p. absurd (true≢false (sym p));
@@ -36,7 +36,7 @@ spent_fits giver taker given taken port = record {
 
 -- ---- the moves
 
-pub begins : {T : Type 0} → InOrder {T = T} [] (log true true 0 [] [] ∷ [])
+pub begins : {T : Type 0} → InOrder {T = T} [] (log true true 0 [] [] 0 0 ∷ [])
 begins {T} = record {
   giver = 0;
   taker = 0;
@@ -44,7 +44,7 @@ begins {T} = record {
   taken = [];
   same = refl;
   fit =
-      all_set (Fits 0 0 [] []) (log true true 0 [] [] ∷ []) 0 (log true true 0 [] [])
+      all_set (Fits 0 0 [] []) (log true true 0 [] [] 0 0 ∷ []) 0 (log true true 0 [] [] 0 0)
       (record { giver_is = λ _. refl; given_is = λ _. refl; taker_is = λ _. refl; taken_is = λ _. refl; least = λ _. omega arith })
       (λ j u other e. absurd (other (at_end [] _ u j (λ x. some-ne-none u (sym x)) e)));
 }
@@ -53,9 +53,9 @@ longer : {T : Type 0} (n : ℕ) (xs : List T) (x : T) → n ≤ length xs → n 
 longer n xs x le = omega (arith, length-append xs (x ∷ []), le)
 
 pub gives : {T : Type 0} (n port : ℕ) (v : Log T) (x : T) → v.gives ≡ true
-    → Pushes InOrder n port v x (λ w. w ≡ log v.gives v.takes v.least (v.given ++ x ∷ []) v.taken)
+    → Pushes InOrder n port v x (λ w. w ≡ log v.gives v.takes v.least (v.given ++ x ∷ []) v.taken v.refusals v.misses)
 gives {T} n port v x may items views room h at =
-    let w : Log T = log v.gives v.takes v.least (v.given ++ x ∷ []) v.taken in
+    let w : Log T = log v.gives v.takes v.least (v.given ++ x ∷ []) v.taken v.refusals v.misses in
     let mine = h.fit port v at in
     let given : List T = h.given ++ x ∷ [] in (
       w,
@@ -87,9 +87,9 @@ gives {T} n port v x may items views room h at =
       refl,
     )
 
-pub takes : {T : Type 0} (port : ℕ) (v : Log T) → v.takes ≡ true → Pops InOrder port v (λ x w. w ≡ log v.gives v.takes v.least v.given (v.taken ++ x ∷ []))
+pub takes : {T : Type 0} (port : ℕ) (v : Log T) → v.takes ≡ true → Pops InOrder port v (λ x w. w ≡ log v.gives v.takes v.least v.given (v.taken ++ x ∷ []) v.refusals v.misses)
 takes {T} port v may x items views h at =
-    let w : Log T = log v.gives v.takes v.least v.given (v.taken ++ x ∷ []) in
+    let w : Log T = log v.gives v.takes v.least v.given (v.taken ++ x ∷ []) v.refusals v.misses in
     let mine = h.fit port v at in
     let taken : List T = h.taken ++ x ∷ [] in (
       w,
@@ -122,10 +122,10 @@ takes {T} port v may x items views h at =
     )
 
 pub forks : {T : Type 0} (port : ℕ) (v : Log T) → v.gives ≡ true → v.takes ≡ true
-    → Forks InOrder port v (log true false 0 v.given []) (log false true (length v.given) [] v.taken)
+    → Forks InOrder port v (log true false 0 v.given [] v.refusals 0) (log false true (length v.given) [] v.taken 0 v.misses)
 forks {T} port v may_give may_take items views h at =
-    let l : Log T = log true false 0 v.given [] in
-    let r : Log T = log false true (length v.given) [] v.taken in
+    let l : Log T = log true false 0 v.given [] v.refusals 0 in
+    let r : Log T = log false true (length v.given) [] v.taken 0 v.misses in
     let mine = h.fit port v at in
     let vs : List (Log T) = set views port l in
     let Old : ℕ → Log T → Type 0 = λ j u. (u.gives ≡ true → (j ≡ h.giver) × (u.given ≡ h.given)) × (u.takes ≢ true) in
@@ -160,14 +160,38 @@ forks {T} port v may_give may_take items views h at =
           (at_snoc vs r u j e);
     }
   where
-    least_of : (u : Log T) → log false true (length v.given) [] v.taken ≡ u → u.least ≤ length h.given
+    least_of : (u : Log T) → log false true (length v.given) [] v.taken 0 v.misses ≡ u → u.least ≤ length h.given
     least_of u is =
         subst (λ (y : Log T). y.least ≤ length h.given) is (subst (λ l. length v.given ≤ length l) ((h.fit port v at).given_is may_give) (omega arith))
 
+-- what a pass counts is its own, and the pass beside it may do nothing
+pub counts : {T : Type 0} (port : ℕ) (v : Log T) (refusals misses : ℕ)
+    → Forks InOrder port v (log v.gives v.takes v.least v.given v.taken refusals misses) spent
+counts {T} port v refusals misses items views h at =
+    let l : Log T = log v.gives v.takes v.least v.given v.taken refusals misses in
+    let mine = h.fit port v at in
+    let vs : List (Log T) = set views port l in
+    let now : All (Fits h.giver h.taker h.given h.taken) vs =
+    all_set (Fits h.giver h.taker h.given h.taken) views port l
+    (record { giver_is = mine.giver_is; given_is = mine.given_is; taker_is = mine.taker_is; taken_is = mine.taken_is; least = mine.least })
+    (λ j u other e. h.fit j u e)
+    in
+    record {
+      giver = h.giver;
+      taker = h.taker;
+      given = h.given;
+      taken = h.taken;
+      same = h.same;
+      fit = λ j u e.
+          ⊎_elim (λ x. now j u x)
+          (λ (is : spent ≡ u). subst (Fits h.giver h.taker h.given h.taken j) is (spent_fits h.giver h.taker h.given h.taken j))
+          (at_snoc vs spent u j e);
+    }
+
 pub with_taker : {T : Type 0} (port : ℕ) (v : Log T) (other : ℕ) (u : Log T) → v.gives ≡ true → u.takes ≡ true
-    → Merges InOrder port v other u (log true true 0 v.given u.taken) (log false false 0 [] [])
+    → Merges InOrder port v other u (log true true 0 v.given u.taken v.refusals u.misses) spent
 with_taker {T} port v other u may_give may_take items views h at two at' =
-    let both : Log T = log true true 0 v.given u.taken in
+    let both : Log T = log true true 0 v.given u.taken v.refusals u.misses in
     let mine = h.fit port v at in
     let vs : List (Log T) = set views port both in
     let was : get_elem? views other ≡ some u = ⊎_elim (λ x. absurd (two x.0)) (λ x. x.1) (at_set views port other both u at') in
@@ -200,14 +224,14 @@ with_taker {T} port v other u may_give may_take items views h at two at' =
       taken = h.taken;
       same = h.same;
       fit =
-          all_set (Fits h.giver port h.given h.taken) vs other (log false false 0 [] []) (spent_fits h.giver port h.given h.taken other)
+          all_set (Fits h.giver port h.given h.taken) vs other spent (spent_fits h.giver port h.given h.taken other)
           (λ j y apart e. now j y e apart);
     }
 
 pub with_giver : {T : Type 0} (port : ℕ) (v : Log T) (other : ℕ) (u : Log T) → v.takes ≡ true → u.gives ≡ true
-    → Merges InOrder port v other u (log true true v.least u.given v.taken) (log false false 0 [] [])
+    → Merges InOrder port v other u (log true true v.least u.given v.taken u.refusals v.misses) spent
 with_giver {T} port v other u may_take may_give items views h at two at' =
-    let both : Log T = log true true v.least u.given v.taken in
+    let both : Log T = log true true v.least u.given v.taken u.refusals v.misses in
     let mine = h.fit port v at in
     let vs : List (Log T) = set views port both in
     let was : get_elem? views other ≡ some u = ⊎_elim (λ x. absurd (two x.0)) (λ x. x.1) (at_set views port other both u at') in
@@ -240,7 +264,7 @@ with_giver {T} port v other u may_take may_give items views h at two at' =
       taken = h.taken;
       same = h.same;
       fit =
-          all_set (Fits port h.taker h.given h.taken) vs other (log false false 0 [] []) (spent_fits port h.taker h.given h.taken other)
+          all_set (Fits port h.taker h.given h.taken) vs other spent (spent_fits port h.taker h.given h.taken other)
           (λ j y apart e. now j y e apart);
     }
 

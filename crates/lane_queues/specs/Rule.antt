@@ -1,12 +1,17 @@
 -- The rule of a queue with one giver and one taker: what was given is what was taken, and then what the queue holds.
-use Rattle.std.specs.Prelude.{◌≡◌, ℕ, ◌≤◌, Bool, true, List, ◌++◌, length}
+use Rattle.std.specs.Prelude.{◌≡◌, ℕ, ◌≤◌, Bool, true, false, List, [], ◌++◌, length}
 use mathlib.Core.Option.{some}
 use lib.ListN.{get_elem?}
 use Rattle.lane_queues.specs.declared.log.Log.{Log}
 
 module _ {T : Type 0} where
-  abbrev pub log : Bool → Bool → ℕ → List T → List T → Log T
-  log gives takes least given taken = record { gives = gives; takes = takes; least = least; given = given; taken = taken }
+  abbrev pub log : Bool → Bool → ℕ → List T → List T → ℕ → ℕ → Log T
+  log gives takes least given taken refusals misses =
+      record { gives = gives; takes = takes; least = least; given = given; taken = taken; refusals = refusals; misses = misses }
+
+  -- of a pass that may do nothing
+  abbrev pub spent : Log T
+  spent = log false false 0 [] [] 0 0
 
   -- The pass with this number gives only if it is the giver, and then has given all that was given; the same of the
   -- taker, who knows that at least so many were given.

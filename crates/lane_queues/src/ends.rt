@@ -16,9 +16,9 @@ impl<T: Drop> Model for Start<T> {
 
     ghost Value = { GiverEnd T };
 
-    ghost view = { λ s. record { line = s.pass.table_id; given = s.pass.me.0.client.given } };
+    ghost view = { λ s. record { line = s.pass.table_id; given = s.pass.me.0.client.given; refusals = s.pass.me.0.client.refusals } };
 
-    ghost invariant = { λ s. (s.pass.me.1 ≡ []) × (s.pass.me.0.client.gives ≡ true) × (s.pass.me.0.client.takes ≡ true) × (s.pass.me.0.client.taken ≡ []) };
+    ghost invariant = { λ s. (s.pass.me.1 ≡ []) × (s.pass.me.0.client.gives ≡ true) × (s.pass.me.0.client.takes ≡ true) × (s.pass.me.0.client.taken ≡ []) × (s.pass.me.0.client.misses ≡ 0) };
 }
 
 /// The end that gives.
@@ -33,7 +33,7 @@ impl<T: Drop> Model for Giver<T> {
 
     ghost Value = { GiverEnd T };
 
-    ghost view = { λ s. record { line = s.pass.table_id; given = s.pass.me.0.client.given } };
+    ghost view = { λ s. record { line = s.pass.table_id; given = s.pass.me.0.client.given; refusals = s.pass.me.0.client.refusals } };
 
     ghost invariant = { λ s. (s.pass.me.1 ≡ []) × (s.pass.me.0.client.gives ≡ true) };
 }
@@ -50,7 +50,7 @@ impl<T: Drop> Model for Taker<T> {
 
     ghost Value = { TakerEnd T };
 
-    ghost view = { λ s. record { line = s.pass.table_id; least = s.pass.me.0.client.least; taken = s.pass.me.0.client.taken } };
+    ghost view = { λ s. record { line = s.pass.table_id; least = s.pass.me.0.client.least; taken = s.pass.me.0.client.taken; misses = s.pass.me.0.client.misses } };
 
     ghost invariant = { λ s. (s.pass.me.1 ≡ []) × (s.pass.me.0.client.takes ≡ true) };
 }

@@ -1,5 +1,6 @@
 //! A bounded queue between two threads, with an end that gives and an end that takes: each end knows the list
-//! of what it gave or took, and where the two meet, what was taken is the front of what was given.
+//! of what it gave or took, and how often it found the queue full or empty; and where the two meet, what was
+//! taken is the front of what was given.
 //!
 //! `specs/Rule.antt` has the rule under which the queue stands, `specs/Ends.antt` the ends as callers see them.
 #![tactic(auto)]

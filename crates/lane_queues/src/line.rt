@@ -2,7 +2,7 @@
 
 use crate::ends::{Giver, Start, Taker};
 use crate::log::Log;
-use crate::rule::{Gave, OneToOne, Roles, Took, Total, WithGiver, WithTaker};
+use crate::rule::{Gave, Missed, OneToOne, Refused, Roles, Took, Total, WithGiver, WithTaker};
 use crossbeam_queue::RuledArrayQueue;
 use std::alloc::{AllocError, Global};
 use std::marker::Model;
@@ -25,13 +25,13 @@ impl<T: Drop> Model for Line<T> {
 
 impl<T: Drop> Line<T> {
     ghost use Rattle.std.specs.Prelude.{◌≡◌, ◌<◌, [], ◌∷◌, length, IfOk, IfErr, IfSome, IfNone};
-    ghost use Rattle.lane_queues.specs.Ends.{gave, took, WasEmpty, WasFull, BeginsWith};
+    ghost use Rattle.lane_queues.specs.Ends.{gave, took, refused, missed, WasEmpty, WasFull, BeginsWith};
 
     /// A queue with room for so many items, and both its ends.
     pub fn new(alloc: Global, capacity: usize) -> Result<(Line<T>, Start<T>), AllocError>
         requires { 0 < capacity }
         ensures capacity { IfOk result (λ made. made.0.capacity ≡ capacity) }
-        ensures start { IfOk result (λ made. made.1 ≡ record { line = made.0.table; given = [] }) }
+        ensures start { IfOk result (λ made. made.1 ≡ record { line = made.0.table; given = []; refusals = 0 }) }
     {
         let (queue, pass) = RuledArrayQueue::ruled(alloc, capacity)?;
         Ok((Line { queue }, Start { pass }))
@@ -52,15 +52,15 @@ impl<T: Drop> Line<T> {
     pub fn part(&self, start: Start<T>) -> (Giver<T>, Taker<T>)
         requires line { start.line ≡ self.now.table }
         ensures giver { result.0 ≡ start }
-        ensures taker { result.1 ≡ record { line = start.line; least = length start.given; taken = [] } }
+        ensures taker { result.1 ≡ record { line = start.line; least = length start.given; taken = []; misses = 0 } }
     {
         let Start { mut pass } = start;
         let taker = self.queue.another::<Roles>(&mut pass);
         (Giver { pass }, Taker { pass: taker })
     }
 
-    /// Gives an item. It comes back where the queue was full at one moment of the call.
-    pub fn give<R: Wait>(&self, rt: &R, giver: &mut Giver<T>, item: T) -> Result<(), T>
+    // Gives an item, and doesn't count where the queue was full.
+    fn push<R: Wait>(&self, rt: &R, giver: &mut Giver<T>, item: T) -> Result<(), T>
         requires line { giver.old.line ≡ self.now.table }
         ensures line { giver.new.line ≡ giver.old.line }
         ensures given { IfOk result (λ _. giver.new ≡ gave giver.old (item ∷ [])) }
@@ -71,8 +71,8 @@ impl<T: Drop> Line<T> {
         self.queue.push_as::<Gave, R>(rt, &mut giver.pass, item)
     }
 
-    /// Takes the oldest item. None where the queue was empty at one moment of the call.
-    pub fn take<R: Wait>(&self, rt: &R, taker: &mut Taker<T>) -> Option<T>
+    // Takes the oldest item, and doesn't count where the queue was empty.
+    fn pop<R: Wait>(&self, rt: &R, taker: &mut Taker<T>) -> Option<T>
         requires line { taker.old.line ≡ self.now.table }
         ensures line { taker.new.line ≡ taker.old.line }
         ensures taken { IfSome result (λ item. taker.new ≡ took taker.old (item ∷ [])) }
@@ -80,6 +80,70 @@ impl<T: Drop> Line<T> {
         ensures empty { IfNone result (WasEmpty taker.old) }
     {
         self.queue.pop_as::<Took, R>(rt, &mut taker.pass)
+    }
+
+    /// Gives an item. It comes back where the queue was full at one moment of the call, which the giver counts.
+    pub fn give<R: Wait>(&self, rt: &R, giver: &mut Giver<T>, item: T) -> Result<(), T>
+        requires line { giver.old.line ≡ self.now.table }
+        ensures line { giver.new.line ≡ giver.old.line }
+        ensures given { IfOk result (λ _. giver.new ≡ gave giver.old (item ∷ [])) }
+        ensures back { IfErr result (λ back. back ≡ item) }
+        ensures refused { IfErr result (λ _. giver.new ≡ refused giver.old) }
+        ensures full { IfErr result (λ _. WasFull self.now.capacity giver.old) }
+    {
+        match self.push(rt, giver, item) {
+            Ok(()) => Ok(()),
+            Err(back) => {
+                self.queue.another::<Refused>(&mut giver.pass);
+                Err(back)
+            }
+        }
+    }
+
+    /// Takes the oldest item. None where the queue was empty at one moment of the call, which the taker counts.
+    pub fn take<R: Wait>(&self, rt: &R, taker: &mut Taker<T>) -> Option<T>
+        requires line { taker.old.line ≡ self.now.table }
+        ensures line { taker.new.line ≡ taker.old.line }
+        ensures taken { IfSome result (λ item. taker.new ≡ took taker.old (item ∷ [])) }
+        ensures missed { IfNone result (taker.new ≡ missed taker.old) }
+        ensures empty { IfNone result (WasEmpty taker.old) }
+    {
+        match self.pop(rt, taker) {
+            Some(item) => Some(item),
+            None => {
+                self.queue.another::<Missed>(&mut taker.pass);
+                None
+            }
+        }
+    }
+
+    /// Gives an item, once the queue has room for it. The tries before that count nothing.
+    pub fn give_waiting<R: Wait>(&self, rt: &R, giver: &mut Giver<T>, item: T)
+        requires line { giver.old.line ≡ self.now.table }
+        ensures given { giver.new ≡ gave giver.old (item ∷ []) }
+    {
+        let mut kept = item;
+        'tries: for _ in rt.forever() {
+            match self.push(rt, giver, kept) {
+                Ok(()) => return,
+                Err(again) => kept = again,
+            }
+        }
+        unreachable!()
+    }
+
+    /// Takes the oldest item, once there is one. The tries before that count nothing.
+    pub fn take_waiting<R: Wait>(&self, rt: &R, taker: &mut Taker<T>) -> T
+        requires line { taker.old.line ≡ self.now.table }
+        ensures taken { taker.new ≡ took taker.old (result ∷ []) }
+    {
+        'tries: for _ in rt.forever() {
+            match self.pop(rt, taker) {
+                Some(item) => return item,
+                None => {}
+            }
+        }
+        unreachable!()
     }
 
     /// The ends meet: what was taken is the front of what was given.

@@ -1,6 +1,6 @@
 use std::collections::LinkedList;
 
-/// What a pass of a queue may do, and what it has given and taken. No value of it is made when a program runs.
+/// What a pass of a queue may do, what it has given and taken, and how many tries of it failed. No value of it is made when a program runs.
 pub(crate) struct Log<T> {
     /// Whether the pass may give.
     pub gives: bool,
@@ -12,4 +12,8 @@ pub(crate) struct Log<T> {
     pub given: LinkedList<T>,
     /// What the pass has taken, in order.
     pub taken: LinkedList<T>,
+    /// How many tries to give found the queue full.
+    pub refusals: u64,
+    /// How many tries to take found the queue empty.
+    pub misses: u64,
 }

@@ -86,6 +86,8 @@ fn a_queue_is_full_and_empty(rt: HostRuntime) -> Result<(), Fail> {
     assert_eq!(rt; line.take(&rt, &mut taker), Some(8));
     assert_eq!(rt; line.take(&rt, &mut taker), Some(10));
     assert_eq!(rt; line.take(&rt, &mut taker), None);
+    line.give_waiting(&rt, &mut giver, 11);
+    assert_eq!(rt; line.take_waiting(&rt, &mut taker), 11);
     line.meet_giver(&mut taker, giver);
     Ok(())
 }

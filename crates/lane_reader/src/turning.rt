@@ -11,7 +11,7 @@ use gev_control::{TurnEnd, client_turn};
 use gev_lanes::{Lanes, ReaderEnds};
 use gev_links::{Clock, Failed, Link};
 use gev_types::Peer;
-use lane_turns::{ask_lanes, hear_received, tick_lanes};
+use lane_turns::{ask_lanes, bring_received, tick_lanes};
 use std::sync::Wait;
 
 // Whether the receive failed.
@@ -49,7 +49,7 @@ pub(crate) fn read_turn<R: Wait, L: Link, M: Link, C: Clock>(
     let received = stream.recv(out);
     let moment = clock.now();
     let lost = has_failed(&received);
-    hear_received(rt, lanes, reader, moment, received, out);
+    bring_received(rt, lanes, reader, moment, received, out);
     tick_lanes(rt, lanes, reader, moment);
     let failed = ask_lanes(rt, lanes, reader, control, camera, lost);
     client_turn(client, control, camera, moment, failed, out)

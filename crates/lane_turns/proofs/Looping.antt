@@ -2,9 +2,9 @@
 use Rattle.std.proofs.Common.{◌≡◌, ℕ, zero, suc, ◌+◌, ◌<◌, List, [], ◌∷◌, ◌++◌, length, Some, refl, ap, sym, ◌∙◌, subst, inl, inr, append_assoc, arith}
 use Rattle.std.specs.Prelude.{slice_get, slice_set}
 use Rattle.std.proofs.lemmas.List.{append-nil}
-use Rattle.lane_queues.specs.Ends.{TakerEnd, took, WasEmpty}
+use Rattle.lane_queues.specs.Ends.{TakerEnd, took, missed, WasEmpty}
 use Rattle.gev_lanes.specs.declared.parts.ReaderLane.{ReaderLane}
-use Rattle.gev_lanes.specs.Acts.{DoesAt, AsksOne, AsksNone}
+use Rattle.gev_lanes.specs.Acts.{DoesAt, AsksOne, AsksNone, with_asked}
 use Rattle.lane_turns.specs.Turns.{Each, Asks, AsksEach, joined}
 
 some_same : {A : Type 0} (x y : A) → Some x ≡ Some y → x ≡ y
@@ -96,13 +96,13 @@ each_at Does (suc i) k n (s ∷ ss) ts is one same = subst (Each Does k (s ∷ s
 
 -- These requests were taken.
 pub record AskedSome (requests : List (List ℕ)) (s t : ReaderLane) : Type 0 where
-  pub is : t ≡ record { free = s.free; cells = s.cells; requests = took s.requests requests; last = s.last }
+  pub is : t ≡ with_asked s (took s.requests requests)
 
 took_none : {A : Type 0} (e : TakerEnd A) → took e [] ≡ e
-took_none e = ap (λ l. record { line = e.line; least = e.least; taken = l }) (append-nil e.taken)
+took_none e = ap (λ l. record { line = e.line; least = e.least; taken = l; misses = e.misses }) (append-nil e.taken)
 
 took_more : {A : Type 0} (e : TakerEnd A) (xs ys : List A) → took (took e xs) ys ≡ took e (xs ++ ys)
-took_more e xs ys = ap (λ l. record { line = e.line; least = e.least; taken = l }) (append_assoc e.taken xs ys)
+took_more e xs ys = ap (λ l. record { line = e.line; least = e.least; taken = l; misses = e.misses }) (append_assoc e.taken xs ys)
 
 set_same : (ss : List ReaderLane) (k : ℕ) (s : ReaderLane) → slice_get ss k ≡ Some s → slice_set ss k s ≡ ss
 set_same [] k s at = refl
@@ -124,16 +124,13 @@ set_set [] k s t = refl
 set_set (x ∷ ss) zero s t = refl
 set_set (x ∷ ss) (suc k) s t = ap (λ l. x ∷ l) (set_set ss k s t)
 
-side_with : ReaderLane → TakerEnd (List ℕ) → ReaderLane
-side_with s e = record { free = s.free; cells = s.cells; requests = e; last = s.last }
-
 pub asks_begin : (ss : List ReaderLane) (k : ℕ) → k < length ss → DoesAt (AskedSome []) k ss ss
-unfolding get_some side_with
+unfolding get_some
 asks_begin ss k few = record {
   side = (get_some ss k few).0;
   at = (get_some ss k few).1;
   after = (get_some ss k few).0;
-  does = record { is = ap (side_with (get_some ss k few).0) (sym (took_none (get_some ss k few).0.requests)) };
+  does = record { is = ap (with_asked (get_some ss k few).0) (sym (took_none (get_some ss k few).0.requests)) };
   is = sym (set_same ss k (get_some ss k few).0 (get_some ss k few).1);
 }
 
@@ -153,28 +150,28 @@ at_twice Does Then Both k ss ts us one two both = record {
 
 pub asks_more : (requests : List (List ℕ)) (request : List ℕ) (k : ℕ) (ss ts us : List ReaderLane) → DoesAt (AskedSome requests) k ss ts → DoesAt (AsksOne request) k ts us
     → DoesAt (AskedSome (requests ++ request ∷ [])) k ss us
-unfolding side_with
 asks_more requests request k ss ts us one two =
     at_twice (AskedSome requests) (AsksOne request) (AskedSome (requests ++ request ∷ [])) k ss ts us one two
     (λ s t u first second. record {
-      is = second ∙ (ap (λ x. side_with x (took x.requests (request ∷ []))) first.is ∙ ap (side_with s) (took_more s.requests requests (request ∷ [])));
+      is = second ∙ (ap (λ x. with_asked x (took x.requests (request ∷ []))) first.is ∙ ap (with_asked s) (took_more s.requests requests (request ∷ [])));
     })
 
-pub asks_none : (requests : List (List ℕ)) (k : ℕ) (ss ts us : List ReaderLane) → DoesAt (AskedSome requests) k ss ts → DoesAt AsksNone k ts us
-    → DoesAt (Asks requests) k ss us
-asks_none requests k ss ts us one two =
+pub asks_none : (requests : List (List ℕ)) (k : ℕ) (ss ts us : List ReaderLane) → DoesAt (AskedSome requests) k ss ts → length requests < 64
+    → DoesAt AsksNone k ts us → DoesAt (Asks requests) k ss us
+asks_none requests k ss ts us one few two =
     at_twice (AskedSome requests) AsksNone (Asks requests) k ss ts us one two
-    (λ s t u first second. record {
-      is = second.same ∙ first.is;
-      until = inr (subst WasEmpty (ap (λ x. x.requests) first.is) second.empty);
-    })
+    (λ s t u first second. inr (record {
+      few = few;
+      is = second.is ∙ ap (λ x. with_asked x (missed x.requests)) first.is;
+      empty = subst WasEmpty (ap (λ x. x.requests) first.is) second.empty;
+    }))
 
 pub asks_many : (requests : List (List ℕ)) (k : ℕ) (ss ts : List ReaderLane) → DoesAt (AskedSome requests) k ss ts → length requests ≡ 64 → DoesAt (Asks requests) k ss ts
 asks_many requests k ss ts one many = record {
   side = one.side;
   at = one.at;
   after = one.after;
-  does = record { is = one.does.is; until = inl many };
+  does = inl (record { many = many; is = one.does.is });
   is = one.is;
 }
 

@@ -1,11 +1,11 @@
 -- A turn of the reader on all lanes.
-use Rattle.std.specs.Prelude.{◌≡◌, ◌⊎◌, ⊤, ℕ, suc, ◌-◌, ◌%◌, ◌==◌, if◌then◌else◌, List, [], ◌∷◌, ◌++◌, length, Option, Some, None, Bool}
+use Rattle.std.specs.Prelude.{◌≡◌, ◌⊎◌, ⊤, ℕ, suc, ◌<◌, ◌-◌, ◌%◌, ◌==◌, if◌then◌else◌, List, [], ◌∷◌, ◌++◌, length, Option, Some, None, Bool}
 use Rattle.stream_packets.specs.Packets.{StreamPacket, head_of}
 use Rattle.gvsp_wire.specs.Reading.{packet_of}
-use Rattle.lane_queues.specs.Ends.{took, WasEmpty}
+use Rattle.lane_queues.specs.Ends.{took, missed, WasEmpty}
 use Rattle.gev_lanes.specs.declared.parts.ReaderLane.{ReaderLane}
 use Rattle.gev_lanes.specs.Sides.{CELLS}
-use Rattle.gev_lanes.specs.Acts.{Hears, Ticks, Ends}
+use Rattle.gev_lanes.specs.Acts.{Hears, Ticks, Ends, with_asked}
 use Rattle.gev_links.specs.Links.{Address, Answer, nothing, failed, came}
 use Rattle.gev_control.specs.declared.turn_end.TurnEnd.{TurnEnd}
 use Rattle.gev_control.specs.Sends.{SendsOn}
@@ -35,10 +35,20 @@ Each Does k [] (t ∷ ts) = ⊥
 Each Does k (s ∷ ss) [] = ⊥
 Each Does k (s ∷ ss) (t ∷ ts) = Does k s t × Each Does (suc k) ss ts
 
--- These requests of a lane were taken, oldest first: until none was there, or 64 were taken.
-pub record Asks (requests : List (List ℕ)) (s t : ReaderLane) : Type 0 where
-  pub is : t ≡ record { free = s.free; cells = s.cells; requests = took s.requests requests; last = s.last }
-  pub until : (length requests ≡ CELLS) ⊎ WasEmpty (took s.requests requests)
+-- 64 requests of a lane were taken, oldest first.
+pub record AsksMost (requests : List (List ℕ)) (s t : ReaderLane) : Type 0 where
+  pub many : length requests ≡ CELLS
+  pub is : t ≡ with_asked s (took s.requests requests)
+
+-- Fewer were taken, and then a try found none.
+pub record AsksAll (requests : List (List ℕ)) (s t : ReaderLane) : Type 0 where
+  pub few : length requests < CELLS
+  pub is : t ≡ with_asked s (missed (took s.requests requests))
+  pub empty : WasEmpty (took s.requests requests)
+
+-- These requests of a lane were taken, oldest first: until a try found none, or 64 were taken.
+abbrev pub Asks : List (List ℕ) → ReaderLane → ReaderLane → Type 0
+Asks requests s t = AsksMost requests s t ⊎ AsksAll requests s t
 
 -- These of each lane, by rising lane.
 abbrev pub AsksEach : List (List (List ℕ)) → List ReaderLane → List ReaderLane → Type 0

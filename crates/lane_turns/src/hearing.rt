@@ -25,7 +25,7 @@ fn lane_for(datagram: &[u8], lanes: usize) -> usize
 
 /// Brings a datagram of at most 9000 bytes to the lane of its block, with its moment in milliseconds. It's shed
 /// where that lane has no free cell.
-pub fn hear_lanes<R: Wait>(
+pub fn bring_to_lane<R: Wait>(
     rt: &R,
     lanes: &Lanes,
     reader: &mut ReaderEnds,
@@ -43,7 +43,7 @@ pub fn hear_lanes<R: Wait>(
 }
 
 /// Brings what came to its lane, by the answer of a receive into `out`.
-pub fn hear_received<R: Wait>(
+pub fn bring_received<R: Wait>(
     rt: &R,
     lanes: &Lanes,
     reader: &mut ReaderEnds,
@@ -60,7 +60,7 @@ pub fn hear_received<R: Wait>(
 {
     match received {
         Ok(came) => match came {
-            Some((count, _)) => hear_lanes(rt, lanes, reader, moment, &out[..count]),
+            Some((count, _)) => bring_to_lane(rt, lanes, reader, moment, &out[..count]),
             None => {}
         },
         Err(_) => {}

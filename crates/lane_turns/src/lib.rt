@@ -13,5 +13,5 @@ mod ticking; // the moment, to the lanes
 
 pub use asking::ask_lanes;
 pub use ending::end_lanes;
-pub use hearing::{hear_lanes, hear_received};
+pub use hearing::{bring_received, bring_to_lane};
 pub use ticking::tick_lanes;

@@ -30,7 +30,7 @@ fn hear_many<R: Wait>(rt: &R, lanes: &Lanes, reader: &mut ReaderEnds)
     ensures reader { AreReadersOf lanes.now reader.new }
 {
     'moments: for moment in 1..66 {
-        hear_lanes(rt, lanes, reader, moment, &[1, 2, 3]);
+        bring_to_lane(rt, lanes, reader, moment, &[1, 2, 3]);
     }
 }
 
@@ -94,7 +94,7 @@ fn the_request_behind_64_is_left_out(rt: HostRuntime) -> Result<(), Fail> {
             assert!(rt; !ask_lanes(&rt, &lanes, &mut reader, &mut control, CAMERA, false));
             assert!(rt; !ask_lanes(&rt, &lanes, &mut reader, &mut control, CAMERA, false));
             tick_lanes(&rt, &lanes, &mut reader, 0);
-            hear_received(
+            bring_received(
                 &rt,
                 &lanes,
                 &mut reader,

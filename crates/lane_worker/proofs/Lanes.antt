@@ -89,16 +89,16 @@ each-push c q (y ∷ xs) x s t u each one =
     (each.0, each.1, each-push c (q ++ inputs_of y) xs x each.0 t u each.2 (subst (λ l. PutsAll (asks_of c l x) t u) (inputs_between q y xs) one))
 
 took_none : (e : TakerEnd Cell) → e ≡ took e []
-took_none e = ap (λ l. record { line = e.line; least = e.least; taken = l }) (sym (append-nil e.taken))
+took_none e = ap (λ l. record { line = e.line; least = e.least; taken = l; misses = e.misses }) (sym (append-nil e.taken))
 
 took_more : (e : TakerEnd Cell) (xs ys : List Cell) → took (took e xs) ys ≡ took e (xs ++ ys)
-took_more e xs ys = ap (λ l. record { line = e.line; least = e.least; taken = l }) (append_assoc e.taken xs ys)
+took_more e xs ys = ap (λ l. record { line = e.line; least = e.least; taken = l; misses = e.misses }) (append_assoc e.taken xs ys)
 
 gave_none : (e : GiverEnd Cell) → e ≡ gave e []
-gave_none e = ap (λ l. record { line = e.line; given = l }) (sym (append-nil e.given))
+gave_none e = ap (λ l. record { line = e.line; given = l; refusals = e.refusals }) (sym (append-nil e.given))
 
 gave_more : (e : GiverEnd Cell) (xs ys : List Cell) → gave (gave e xs) ys ≡ gave e (xs ++ ys)
-gave_more e xs ys = ap (λ l. record { line = e.line; given = l }) (append_assoc e.given xs ys)
+gave_more e xs ys = ap (λ l. record { line = e.line; given = l; refusals = e.refusals }) (append_assoc e.given xs ys)
 
 -- Some cells were served, none of them the end.
 pub record Serving (mode : Mode) (c : AcqConfig) (Old New : List Input → Type 0) (e f : LaneEnd) (s t : Token) : Type 0 where

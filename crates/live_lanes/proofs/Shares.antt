@@ -30,7 +30,7 @@ share : (mode : Mode) (d : AcqConfig) (n k : ℕ) (made : List ReaderTurn) (us :
 share mode d n k made us x h config run brings did = record {
   served = did.served;
   heard = did.heard;
-  queued = subst (λ z. IsQueued z k us x.ends did.served) config did.queued;
+  queued = subst (λ z. IsQueued z n k made us x.ends did.served) config did.queued;
   part = part;
   fills = ap tried part.home.did ∙ served_fills mode x.pass.number d first_state (inputs_in did.served ++ stop ∷ []) part.events part.serves;
   sized = subst (AreSized live_size) (sym part.claims) (claims_sized mode live_size (met_by x.pass.number empty_board h) (met_sized live_size x.pass.number [] h run brings));

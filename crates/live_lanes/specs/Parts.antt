@@ -57,7 +57,7 @@ pub record LanesReader (camera stream : Address) (o e : Told) (turns k : ℕ) (l
 pub record LaneShare (mode : Mode) (c : AcqConfig) (n k a : ℕ) (made : List ReaderTurn) (sides : List ReaderLane) (e : LaneEnd) (h : List Entry) : Type 0 where
   pub served : List CellServed
   pub heard : IsHeard n k made served
-  pub queued : IsQueued c k sides e served
+  pub queued : IsQueued c n k made sides e served
   pub part : LanePart mode c a h served
   pub fills : tried (own_of a h) ≡ retired_items c (inputs_in served ++ stop ∷ [])
   pub sized : AreSized live_size (claims_in (inputs_in served))

@@ -6,5 +6,5 @@ use Rattle.gev_lanes.proofs.reader_acts.bring_one.Goals as goal
 pub returns-in-Some : goal.returns-in-Some
 returns-in-Some g c = record {
   tries = brought (record { moment = c.args.moment; says = heard c.args.datagram.now }) c.args.side.now c.in-Some.free c.with_datagram-cell.result
-      c.take.new.taker c.give_cell.new.giver c.with_datagram-cell.ensures c.in-Some.ensures.taken c.give_cell.ensures.given;
+      c.take.new.taker c.give_waiting.new.giver c.with_datagram-cell.ensures c.in-Some.ensures.taken c.give_waiting.ensures.given;
 }

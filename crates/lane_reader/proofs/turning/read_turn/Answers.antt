@@ -11,7 +11,7 @@ returns-clause-takes g c =
     (g.M.Link.sent c.args.control.now) (g.M.Link.sent c.ask_lanes-failed.new.control) (g.M.Link.sent c.client_turn.new.control)
     (g.C.Clock.told c.args.clock.now) (g.C.Clock.told c.now-moment.new.self) c.args.client.now c.client_turn.new.client
     (answer_of c.recv-received.result c.recv-received.new.out) c.now-moment.result c.has_failed-lost.result c.ask_lanes-failed.result c.client_turn.result
-    c.args.reader.now c.hear_received.new.reader c.tick_lanes.new.reader c.ask_lanes-failed.new.reader
+    c.args.reader.now c.bring_received.new.reader c.tick_lanes.new.reader c.ask_lanes-failed.new.reader
     c.recv-received.ensures.received c.now-moment.ensures.told
     (λ gone. c.has_failed-lost.ensures ∙ failed_is_lost c.recv-received.result c.recv-received.new.out gone)
-    c.hear_received.ensures.hears c.tick_lanes.ensures.ticks c.ask_lanes-failed.ensures.asks c.ask_lanes-failed.ensures.received c.client_turn.ensures.turn
+    c.bring_received.ensures.hears c.tick_lanes.ensures.ticks c.ask_lanes-failed.ensures.asks c.ask_lanes-failed.ensures.received c.client_turn.ensures.turn

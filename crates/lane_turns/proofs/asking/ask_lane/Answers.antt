@@ -20,7 +20,7 @@ pub returns-in-None-clause-asks : goal.returns-in-None-clause-asks
 returns-in-None-clause-asks g c = record {
   requests = c.requests.invariant.requests;
   asks = asks_none c.requests.invariant.requests c.args.lane c.args.reader.now c.requests.reader c.ask.new.reader c.requests.invariant.asked
-      c.in-None.ensures.asked;
+      (omega (arith, c.requests.invariant.many, c.requests-test.true, c.requests.auto._request-end)) c.in-None.ensures.asked;
   sends = c.requests.invariant.sends;
 }
 

@@ -1,5 +1,5 @@
-use Rattle.lane_queues.proofs.Keeps.{takes, finds}
+use Rattle.lane_queues.proofs.Keeps.{counts}
 use Rattle.lane_queues.proofs.line.Line.take.Goals as goal
 
-pub pop_as-requires-clause-rule : goal.pop_as-requires-clause-rule
-pop_as-requires-clause-rule g c = (takes _ _ c.taker.invariant.1, finds _ _)
+pub another-requires-clause-rule : goal.another-requires-clause-rule
+another-requires-clause-rule g c = counts _ _ _ _

@@ -2,7 +2,7 @@
 use Rattle.std.proofs.Common.{ap, ◌∙◌}
 use Rattle.lane_turns.specs.Turns.{lane_of}
 use Rattle.lane_turns.proofs.Hearings.{heard_at}
-use Rattle.lane_turns.proofs.hearing.hear_lanes.Goals as goal
+use Rattle.lane_turns.proofs.hearing.bring_to_lane.Goals as goal
 
 pub returns-clause-hears : goal.returns-clause-hears
 returns-clause-hears g c = λ peer.

@@ -3,7 +3,7 @@ use Rattle.std.proofs.Common.{rules, ◌++◌, ◌∷◌, [], sym, subst}
 use Rattle.buffer_words.specs.Boards.{board_id}
 use Rattle.lane_crew.specs.Tools.{AreReady, AreServed}
 use Rattle.lane_crew.proofs.Lists.{ready_last, served_last}
-use Rattle.lane_crew.proofs.serving.+fn-serve_lanes-join+arg3+serve_lanes.Goals as goal
+use Rattle.lane_crew.proofs.serving.+fn-run_lanes-join+arg3+run_lanes.Goals as goal
 
 pub join-served-requires-after_bounds : goal.join-served-requires-after_bounds
 join-served-requires-after_bounds g t c κs within =
