@@ -1,10 +1,8 @@
 //! Two lanes and their reader, one after the other on one thread.
 
-ghost use Rattle.std.specs.Prelude.{◌≡◌, ◌<◌, ◌≤◌, IfOk};
+ghost use Rattle.std.specs.Prelude.{◌≡◌, ◌<◌, IfOk};
 ghost use Rattle.buffer_words.specs.Boards.{board_id};
 ghost use Rattle.gev_lanes.specs.Sides.{AreReadersOf, AreLanesOf, IsLaneAt};
-
-mod frames;
 
 use super::*;
 use acq_core::{Acq, AcqConfig};
@@ -29,7 +27,7 @@ const CAMERA: Peer = Peer {
 };
 
 const ONE_BLOCK: AcqConfig = AcqConfig {
-    p: 1452,
+    p: 528,
     window: 1,
     timeout: 1000,
     age: 100,
@@ -58,14 +56,13 @@ const PACKETS: &[Option<(&[u8], Peer)>] = &[
     )),
 ];
 
-// Announces a buffer at a place and puts it into the pool.
-fn bring(alloc: Global, board: &Board, pass: &mut Pass, place: u8, size: u16) -> Result<(), Fail>
+// Announces a buffer of 4 bytes at a place and puts it into the pool.
+fn bring(alloc: Global, board: &Board, pass: &mut Pass, place: u8) -> Result<(), Fail>
     requires table { pass.old.table ≡ board_id board.now }
     requires in_range { place < 15 }
-    requires some { 1 ≤ size }
     ensures table { pass.new.table ≡ pass.old.table }
 {
-    let buf = Buf::new(alloc, u32::from(size))?;
+    let buf = Buf::new(alloc, 4)?;
     match board.enrol(pass, place, buf) {
         Ok(_) => {
             board.pool(pass, place);
@@ -76,31 +73,23 @@ fn bring(alloc: Global, board: &Board, pass: &mut Pass, place: u8, size: u16) ->
 }
 
 // The same at place 1, where two buffers are wanted.
-fn bring_second(
-    alloc: Global,
-    board: &Board,
-    pass: &mut Pass,
-    buffers: u8,
-    size: u16,
-) -> Result<(), Fail>
+fn bring_second(alloc: Global, board: &Board, pass: &mut Pass, buffers: u8) -> Result<(), Fail>
     requires table { pass.old.table ≡ board_id board.now }
-    requires some { 1 ≤ size }
     ensures table { pass.new.table ≡ pass.old.table }
 {
     if buffers < 2 {
         return Ok(());
     }
-    bring(alloc, board, pass, 1, size)
+    bring(alloc, board, pass, 1)
 }
 
-// A board whose acquisition runs, with one or two buffers of a size in the pool.
-fn new_board(alloc: Global, buffers: u8, size: u16) -> Result<(Board, Pass), Fail>
-    requires some { 1 ≤ size }
+// A board whose acquisition runs, with one or two buffers in the pool.
+fn new_board(alloc: Global, buffers: u8) -> Result<(Board, Pass), Fail>
     ensures table { IfOk result (λ made. made.1.table ≡ board_id made.0) }
 {
     let (board, mut pass) = Board::new(alloc)?;
-    bring(alloc, &board, &mut pass, 0, size)?;
-    bring_second(alloc, &board, &mut pass, buffers, size)?;
+    bring(alloc, &board, &mut pass, 0)?;
+    bring_second(alloc, &board, &mut pass, buffers)?;
     let _ = board.start(&mut pass);
     Ok((board, pass))
 }
@@ -177,7 +166,7 @@ fn serve_blocks<R: Abort + Wait>(
 ) -> Result<(Board, Pass), Fail>
     ensures table { IfOk result (λ made. made.1.table ≡ board_id made.0) }
 {
-    let (board, mut pass) = new_board(alloc, buffers, 4)?;
+    let (board, mut pass) = new_board(alloc, buffers)?;
     let (lanes, mut reader, all) = Lanes::new(alloc, 2)?;
     let mut client = Client::new();
     let mut stream = MemoryLink::new(alloc, CAMERA, PACKETS, &[], &[], 0)?;
