@@ -1,7 +1,7 @@
 use gvcp_aux::Resend;
 
 /// A request that waits to be sent.
-#[derive(Clone, Copy, Debug, PartialEq, Eq)]
+#[derive(Clone, Copy, PartialEq, Eq)]
 pub(crate) struct Asked {
     /// Its request number, from 1 on.
     pub(crate) number: u16,

@@ -14,7 +14,7 @@ pub enum Cause {
 }
 
 /// What a block with a buffer gave, beside its image.
-#[derive(Debug, Drop)]
+#[derive(Drop)]
 pub struct Held {
     /// The number of the buffer's place.
     pub place: u8,
@@ -23,7 +23,7 @@ pub struct Held {
 }
 
 /// A block that retired.
-#[derive(Debug, Drop)]
+#[derive(Drop)]
 pub struct Ended {
     /// The block id.
     pub block: u64,

@@ -21,8 +21,6 @@ mod retiring; // blocks retire, the lowest first
 mod rounds; // a moment: old blocks retire, others ask
 mod slot; // an open block, and its bitmaps
 mod slots; // what is asked of one open block
-#[cfg(test)]
-mod tests;
 mod waiting; // fills, requests and ends that wait
 
 pub use acq::Acq;

@@ -1,5 +1,5 @@
 /// What a recorder keeps of a receiver's turn, beside the datagram that came in it.
-#[derive(Clone, Copy, Debug, PartialEq, Eq)]
+#[derive(Clone, Copy, PartialEq, Eq)]
 pub struct Mark {
     /// The moment of the turn's tick, in milliseconds.
     pub moment: u64,

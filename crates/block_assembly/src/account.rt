@@ -21,7 +21,7 @@ use gvsp_wire::LeaderInfo;
 use packet_bitmap::Bitmap;
 
 /// What is told of a block that retires with a buffer.
-#[derive(Debug, Drop)]
+#[derive(Drop)]
 pub struct Account {
     /// Whether the whole image is in the buffer.
     pub complete: bool,

@@ -26,7 +26,7 @@ use std::marker::Model;
 /// One block on its way into its buffer.
 ///
 /// Contracts see how far it has come. It always stands for some packets of its block.
-#[derive(Debug, Drop)]
+#[derive(Drop)]
 pub struct Assembly {
     progress: Progress,
 }

@@ -15,8 +15,6 @@ mod lost; // packet ids without a kept packet
 mod progress; // what is known of the kept packets
 mod recording; // the record of a block
 mod span; // where a payload lies in the buffer
-#[cfg(test)]
-mod tests;
 mod verdict; // the answer to a packet
 
 pub use account::Account;

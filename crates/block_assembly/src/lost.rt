@@ -14,7 +14,7 @@ use std::marker::Model;
 /// The first eight of some ranges of packet ids, each by its first and its last.
 ///
 /// Contracts see it as the list of them.
-#[derive(Debug, Drop)]
+#[derive(Drop)]
 pub struct FirstRanges {
     ranges: ArrayVec<(u32, u32), 8>,
 }
@@ -57,7 +57,7 @@ impl FirstRanges {
 }
 
 /// The ids of a block, up to its last one, of which no packet was kept. A notice is no packet here.
-#[derive(Debug, Drop)]
+#[derive(Drop)]
 pub struct Lost {
     /// How many there are.
     pub ids: u32,

@@ -6,7 +6,7 @@ use packet_bitmap::Bitmap;
 pub const PACKET_IDS: u32 = MAX_PACKET_ID + 1;
 
 /// A payload with fewer bytes than a payload may have.
-#[derive(Clone, Copy, Debug, PartialEq, Eq)]
+#[derive(Clone, Copy, PartialEq, Eq)]
 pub(crate) struct Short {
     /// Its packet id.
     pub id: u32,
@@ -15,7 +15,7 @@ pub(crate) struct Short {
 }
 
 /// What the kept trailer says.
-#[derive(Clone, Copy, Debug, PartialEq, Eq)]
+#[derive(Clone, Copy, PartialEq, Eq)]
 pub(crate) struct Ending {
     /// Its packet id.
     pub id: u32,
@@ -27,7 +27,7 @@ pub(crate) struct Ending {
 ///
 /// A payload's bytes are copied once, when it comes. Nothing that is counted rests on the leader or the
 /// trailer, so it doesn't matter when they come.
-#[derive(Debug, Drop)]
+#[derive(Drop)]
 pub(crate) struct Progress {
     /// The most bytes of a payload packet.
     pub(crate) payload_size: u32,

@@ -6,7 +6,7 @@ ghost use Rattle.block_assembly.specs.Steps.{end_inside, count_inside};
 use block_image::start_of_payload;
 
 /// What a payload places in a buffer.
-#[derive(Clone, Copy, Debug, PartialEq, Eq)]
+#[derive(Clone, Copy, PartialEq, Eq)]
 pub(crate) struct Span {
     /// Where its first byte goes, the buffer's size where that is past the buffer.
     pub start: u32,

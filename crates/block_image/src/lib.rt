@@ -11,8 +11,6 @@ mod laws; // laws of the definitions, as contracts
 mod looking; // what a list of packets has
 mod plain; // the image, position by position
 mod records; // what is known of a block by its packets
-#[cfg(test)]
-mod tests;
 
 pub use extents::{extent, extent_of, tells_its_size};
 pub use keeping::{does_fit, is_kept, kept_packets};

@@ -1,7 +1,7 @@
 use gev_types::Buf;
 
 /// How a fill ended.
-#[derive(Debug, Drop)]
+#[derive(Drop)]
 pub enum FillEnd {
     /// The buffer is the last one of the output.
     Filled,

@@ -16,7 +16,7 @@ pub enum TakeEnd {
 /// One act on the board, with its answer as the last field where it has one.
 ///
 /// Contracts speak of events; no value of this type is made when a program runs.
-#[derive(Debug, Drop)]
+#[derive(Drop)]
 pub enum Event {
     /// Looks at the ownership word of a place.
     Look(u8, Word),
@@ -66,7 +66,7 @@ pub enum Event {
 }
 
 /// An event of a history, and the number of the actor whose act it was.
-#[derive(Debug, Drop)]
+#[derive(Drop)]
 pub struct Entry {
     /// The actor's number. The first actor is 0.
     pub by: u64,

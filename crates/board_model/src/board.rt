@@ -17,7 +17,7 @@ use std::marker::Model;
 ///
 /// Contracts see the board machine's state, and for each place that is neither vacant nor lifted the
 /// bytes and the record of its buffer. Only `new` takes memory.
-#[derive(Debug, Drop)]
+#[derive(Drop)]
 pub struct PlainBoard {
     pub(crate) words: [Word; ROOM],
     pub(crate) pool: Places,

@@ -8,5 +8,3 @@ mod flush;
 mod info;
 mod parts;
 mod run;
-#[cfg(test)]
-mod tests;

@@ -8,7 +8,7 @@ use arrayvec::ArrayVec;
 use std::marker::Model;
 
 /// The places in each actor's hands, by the actor's number; None once the actor was joined.
-#[derive(Debug, Drop)]
+#[derive(Drop)]
 pub(crate) struct Hands {
     hands: ArrayVec<Option<Places>, 16>,
 }

@@ -10,7 +10,7 @@ use std::marker::Model;
 pub(crate) const ROOM: usize = PLACES as usize;
 
 /// A set of places, which contracts see as the rising list of its members.
-#[derive(Debug, Drop)]
+#[derive(Drop)]
 pub(crate) struct Places {
     flags: [bool; ROOM],
 }

@@ -3,6 +3,4 @@
 mod output;
 mod pool;
 mod run;
-#[cfg(test)]
-pub(crate) mod tests;
 mod words;

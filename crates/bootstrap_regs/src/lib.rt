@@ -13,8 +13,6 @@ mod lookup; // what a word holds at first
 mod refusals; // why an access is refused
 mod regs; // the words and their public calls
 pub mod table; // the registers as data
-#[cfg(test)]
-mod tests;
 
 pub use lookup::initial_at;
 pub use refusals::{address_refusal, value_refusal};

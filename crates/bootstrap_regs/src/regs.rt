@@ -12,7 +12,7 @@ use gvcp_wire::Status;
 use std::marker::Model;
 
 /// The words of the register space. Contracts see the list of them.
-#[derive(Debug, Drop)]
+#[derive(Drop)]
 pub struct Regs {
     words: [u32; WORDS],
 }

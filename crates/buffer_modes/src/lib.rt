@@ -7,8 +7,6 @@
 
 mod gone;
 mod plain;
-#[cfg(test)]
-mod tests;
 
 pub use gone::Gone;
 pub use mode_calls::Mode;

@@ -11,8 +11,6 @@ mod pass; // what a thread acts on the board with
 mod plays; // the kinds of step, as the rule of the table sees them
 mod rule; // the rule of the table
 mod steps; // the single steps on the other words
-#[cfg(test)]
-mod tests;
 mod tried; // how one try ended
 mod view; // what a pass is about
 mod witness; // what a pass shows of the history

@@ -1,5 +1,5 @@
 /// How a call that makes one try ended.
-#[derive(Debug, Drop)]
+#[derive(Drop)]
 pub enum Tried<T> {
     /// The act was done, with this answer.
     Did(T),

@@ -7,5 +7,3 @@
 
 pub mod laws;
 pub mod rows;
-#[cfg(test)]
-mod tests;

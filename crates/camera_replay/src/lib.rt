@@ -12,8 +12,6 @@ mod lines; // what each line has the camera do
 mod packets; // lines of stream packets
 mod rooms; // where a command and a packet lie
 mod running; // what a script runs on behind its header
-#[cfg(test)]
-mod tests;
 
 pub use camera_run::CameraRun;
 pub use running::Running;

@@ -2,7 +2,7 @@ use gvcp_wire::Status;
 
 /// What executing a register or memory command came to. The body of its acknowledge stands at the front
 /// of a buffer.
-#[derive(Clone, Copy, Debug, PartialEq, Eq)]
+#[derive(Clone, Copy, PartialEq, Eq)]
 pub(crate) struct Done {
     /// How it went.
     pub status: Status,

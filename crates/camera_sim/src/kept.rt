@@ -1,6 +1,6 @@
 /// The latest executed register or memory command of the primary. Its bytes and its acknowledge lie in
 /// the camera.
-#[derive(Clone, Copy, Debug, PartialEq, Eq)]
+#[derive(Clone, Copy, PartialEq, Eq)]
 pub(crate) struct Kept {
     /// How many bytes it has.
     pub len: usize,

@@ -11,8 +11,6 @@ mod done; // what executing a command came to
 mod kept; // the latest command, for its repeats
 mod messages; // which commands are kept, and their bytes
 mod received; // a command that came, and from whom
-#[cfg(test)]
-mod tests;
 mod writes; // what became of writes in order
 
 pub use acknowledge::MESSAGE_SIZE;

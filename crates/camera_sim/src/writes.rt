@@ -1,7 +1,7 @@
 use gvcp_wire::Status;
 
 /// What became of writes in order, up to the first that was refused.
-#[derive(Clone, Copy, Debug, PartialEq, Eq)]
+#[derive(Clone, Copy, PartialEq, Eq)]
 pub(crate) struct Writes {
     /// How many were done.
     pub done: usize,

@@ -9,8 +9,6 @@
 mod queue; // the ranges of packet ids that wait
 mod span; // one such range
 mod stream; // the stream channel and its public calls
-#[cfg(test)]
-mod tests;
 mod writing; // packets as bytes
 
 pub use span::{QueuedReply, Span};

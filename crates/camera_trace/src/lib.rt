@@ -8,8 +8,6 @@
 #![tactic(auto)]
 
 mod laws;
-#[cfg(test)]
-mod tests;
 
 pub use laws::{
     lines_are_events, lines_are_in_place, lines_are_judged, report_is_one, reports_are_told,

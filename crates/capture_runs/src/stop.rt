@@ -1,5 +1,5 @@
 /// Why a text wasn't written.
-#[derive(Clone, Copy, Debug, PartialEq, Eq)]
+#[derive(Clone, Copy, PartialEq, Eq)]
 pub(crate) enum Stop {
     /// Writing failed.
     WriteFault,

@@ -6,7 +6,7 @@ use crate::stream::one_more;
 use gev_capture::Content;
 
 /// What is counted of a capture's packets.
-#[derive(Clone, Copy, Debug, PartialEq, Eq)]
+#[derive(Clone, Copy, PartialEq, Eq)]
 pub(crate) struct Counts {
     /// Packets.
     pub packets: u64,

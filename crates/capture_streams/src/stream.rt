@@ -7,7 +7,7 @@ use gev_types::Peer;
 use stream_packets::LeaderInfo;
 
 /// An image stream: what one address and port sends to another, from its first leader on.
-#[derive(Clone, Copy, Debug, PartialEq, Eq)]
+#[derive(Clone, Copy, PartialEq, Eq)]
 pub(crate) struct Stream {
     /// Who sends.
     pub sender: Peer,

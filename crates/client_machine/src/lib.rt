@@ -7,8 +7,6 @@
 mod laws;
 pub mod numbers;
 mod outcome;
-#[cfg(test)]
-mod tests;
 
 pub use laws::{
     a_client_is_new_until_a_submission, no_answer_comes_after_three_sends,

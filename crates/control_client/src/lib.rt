@@ -9,8 +9,6 @@ mod client; // the client and its public calls
 mod sending; // the outstanding command
 mod setup; // the commands that make a camera send
 mod steps; // the tests and changes of a step
-#[cfg(test)]
-mod tests;
 
 pub use client::Client;
 pub use client_machine::Outcome;

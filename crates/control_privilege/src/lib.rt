@@ -8,8 +8,6 @@
 mod holder;
 pub mod laws;
 mod privilege;
-#[cfg(test)]
-mod tests;
 
 pub use holder::Holder;
 pub use privilege::Privilege;

@@ -6,7 +6,7 @@ use gev_types::Peer;
 use std::marker::Model;
 
 /// The control channel privilege. Contracts see who has control.
-#[derive(Debug, Drop)]
+#[derive(Drop)]
 pub struct Privilege {
     holder: Option<Holder>,
 }

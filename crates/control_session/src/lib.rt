@@ -8,8 +8,6 @@
 
 mod laws;
 mod rows;
-#[cfg(test)]
-mod tests;
 
 pub use laws::{
     a_line_is_its_client_and_its_camera, acked_commands_were_executed, commands_act_once,

@@ -9,7 +9,5 @@ mod asking; // requests that are written, and put on the tape
 mod hearing; // datagrams that are received, and what became of them
 mod lines; // the lines `stop`, `t` and `d`
 mod retired; // blocks that retire, and are put on the tape
-#[cfg(test)]
-mod tests;
 
 pub use lines::{datagram, stop, tick};

@@ -11,8 +11,6 @@ mod look; // how a picture lies in its buffer
 mod looks; // the look that a record tells
 mod no_picture; // why there is none
 mod samples; // how a pixel is read
-#[cfg(test)]
-mod tests;
 
 pub use formats::{pixel_bytes, samples_of};
 pub use look::Look;

@@ -1,9 +1,6 @@
 //! The ranges of packet ids that a camera is to be asked for again.
 #![tactic(auto)]
 
-#[cfg(test)]
-mod tests;
-
 ghost use Rattle.std.specs.Prelude.{◌≡◌, ◌+◌, ◌<◌, ◌≤◌, length, take};
 ghost use Rattle.id_ranges.specs.Ranges.{holes};
 ghost use Rattle.id_ranges.specs.Laws.{IsFirstHole};

@@ -3,8 +3,6 @@
 #![tactic(auto)]
 
 mod calls;
-#[cfg(test)]
-mod tests;
 mod wait;
 
 pub use calls::{event_flush, event_kill};

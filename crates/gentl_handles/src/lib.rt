@@ -10,8 +10,6 @@ mod level; // what a handle stands for
 mod opened; // what is known of an open handle
 mod opening; // what may be opened
 mod storing; // the store of open handles
-#[cfg(test)]
-mod tests;
 mod tree; // the handles and their public calls
 
 pub use handle::Handle;

@@ -1,7 +1,7 @@
 use crate::level::Level;
 
 /// What is known of an open handle.
-#[derive(Clone, Copy, Debug, PartialEq, Eq)]
+#[derive(Clone, Copy, PartialEq, Eq)]
 pub(crate) struct Opened {
     /// The number of the opening.
     pub serial: u64,

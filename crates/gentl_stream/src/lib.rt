@@ -4,15 +4,11 @@
 #![tactic(auto)]
 
 mod announce; // DSAnnounceBuffer
-#[cfg(test)]
-mod buffer_tests;
 mod buffers; // queue, revoke, borrow and return
 mod close; // DSClose
 mod empty; // the flush of the pool to the output
 mod flush; // the other flushes
 mod info; // DSGetInfo and DSGetBufferInfo
-#[cfg(test)]
-mod info_tests;
 mod looks; // the look with which calls begin
 mod places; // what is done with each of several places
 mod run; // DSStartAcquisition and DSStopAcquisition

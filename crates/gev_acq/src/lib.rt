@@ -8,12 +8,8 @@ mod draining; // the stop of the receiver
 mod filling; // buffers of blocks that retired, by the mode
 mod heard; // what became of a datagram
 mod laws; // laws of the reader's turns, as contracts
-#[cfg(test)]
-mod mode_tests;
 mod receiving; // a datagram, and the claim that it asks for
 mod sending; // the requests of a turn
-#[cfg(test)]
-mod tests;
 mod turn; // a turn's entry in the journal
 mod turn_once; // one turn, and its control part
 mod turning; // what a turn does to the receiver

@@ -10,8 +10,6 @@ mod handing; // what becomes of a taken buffer
 mod laws; // laws of the definitions, as contracts
 mod look_end; // how a turn ended
 mod looking; // one turn
-#[cfg(test)]
-mod tests;
 
 pub use applying::apply;
 pub use laws::{the_applications_part_stays, turns_are_of_their_kind};

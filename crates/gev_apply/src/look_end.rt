@@ -1,5 +1,5 @@
 /// How a turn of the application ended.
-#[derive(Clone, Copy, Debug)]
+#[derive(Clone, Copy)]
 pub(crate) enum LookEnd {
     /// A buffer came, its line was added, and it was given back.
     Handed,

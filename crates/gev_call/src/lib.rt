@@ -6,8 +6,6 @@
 
 mod recording; // a recorded live run over ports
 mod running; // a live run over ports
-#[cfg(test)]
-mod tests;
 mod top; // the call of the program
 
 pub use recording::run_recorded;

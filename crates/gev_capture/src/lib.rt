@@ -23,8 +23,6 @@ mod room; // the bytes that are held
 mod seeing; // the headers of a packet, down to UDP
 mod step; // what the next bytes begin with
 mod telling; // how that is read of them
-#[cfg(test)]
-mod tests;
 
 pub use capture_end::CaptureEnd;
 pub use captured::Captured;

@@ -10,8 +10,6 @@ mod controlling; // the control part of a turn
 mod laws; // laws of the definitions, as contracts
 mod sending; // what is sent on the link
 mod setting_up; // the camera's setup
-#[cfg(test)]
-mod tests;
 mod turn_end; // how a turn ended
 
 pub use acq_end::AcqEnd;

@@ -8,8 +8,6 @@
 mod frames;
 mod laws;
 mod lcg;
-#[cfg(test)]
-mod tests;
 
 pub use frames::{camera_frame, frame_of, rows_of, short_frame_of};
 pub use laws::{

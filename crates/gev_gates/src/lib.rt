@@ -3,7 +3,5 @@
 #![tactic(auto)]
 
 mod meeting;
-#[cfg(test)]
-mod tests;
 
 pub use meeting::MeetingGate;

@@ -15,8 +15,6 @@ mod parts; // the queues and ends of one lane
 mod reader_acts; // what the reader does at one lane's queues
 mod reader_calls; // the same by the lane's number
 mod saying; // cells with a message
-#[cfg(test)]
-mod tests;
 
 pub use cell::{Cell, CellKind};
 pub use crossing::{lane_ends_cross, lanes_are_shared};

@@ -10,7 +10,7 @@ use std::marker::Model;
 
 /// A link in memory that answers its receives from a list, and discards what is sent. It tells nothing
 /// of the sends, and never fails.
-#[derive(Debug, Drop)]
+#[derive(Drop)]
 pub struct DiscardingLink<'a> {
     peer: Peer,
     receptions: Receptions<'a>,

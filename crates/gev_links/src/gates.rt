@@ -1,7 +1,7 @@
 use crate::gate::Gate;
 
 /// A gate that nobody is held at.
-#[derive(Clone, Copy, Debug, Drop)]
+#[derive(Clone, Copy, Drop)]
 pub struct OpenGate;
 
 impl Gate for OpenGate {
@@ -9,7 +9,7 @@ impl Gate for OpenGate {
 }
 
 /// A gate that holds whoever passes one of its points, for a number of turns of an empty loop.
-#[derive(Clone, Copy, Debug, Drop)]
+#[derive(Clone, Copy, Drop)]
 pub struct HoldingGate {
     point: u8,
     turns: u32,

@@ -24,8 +24,6 @@ mod receptions; // the list of them
 mod sink; // `Sink`
 mod source; // `Source`
 mod steady_source; // a source that never fails
-#[cfg(test)]
-mod tests;
 mod writing; // a whole text to a sink
 
 pub use clock::Clock;

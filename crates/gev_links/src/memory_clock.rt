@@ -7,7 +7,7 @@ use std::marker::Model;
 
 /// A clock in memory, which tells the moments of a list, then the last of them again and again. With an
 /// empty list it always tells 0.
-#[derive(Debug, Drop)]
+#[derive(Drop)]
 pub struct MemoryClock<'a> {
     moments: &'a [u64],
     // how many moments were told; None: more than are counted

@@ -11,7 +11,7 @@ use std::marker::Model;
 
 /// A link in memory, some calls of which fail. It answers its receives from a list, and keeps what is
 /// sent. Want of memory is a fault too.
-#[derive(Debug, Drop)]
+#[derive(Drop)]
 pub struct MemoryLink<'a> {
     peer: Peer,
     receptions: Receptions<'a>,

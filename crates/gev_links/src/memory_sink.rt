@@ -6,7 +6,7 @@ use std::alloc::Global;
 use std::marker::Model;
 
 /// A sink in memory, some calls of which fail. Want of memory is a fault too.
-#[derive(Debug, Drop)]
+#[derive(Drop)]
 pub struct MemorySink<'a> {
     written: Vec<u8>,
     piece: usize,

@@ -5,7 +5,7 @@ use crate::source::Source;
 use std::marker::Model;
 
 /// A source in memory, some calls of which fail.
-#[derive(Debug, Drop)]
+#[derive(Drop)]
 pub struct MemorySource<'a> {
     left: &'a [u8],
     piece: usize,

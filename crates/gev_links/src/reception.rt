@@ -1,7 +1,7 @@
 use gev_types::Peer;
 
 /// What a receive of a link in memory gave.
-#[derive(Clone, Copy, Debug)]
+#[derive(Clone, Copy)]
 pub(crate) enum Reception<'a> {
     Nothing,
     Failed,

@@ -11,7 +11,7 @@ use std::marker::Model;
 
 /// The list that the receives of a link in memory are answered from, and what they gave. After the end
 /// of the list nothing comes.
-#[derive(Debug, Drop)]
+#[derive(Drop)]
 pub(crate) struct Receptions<'a> {
     answers: &'a [Option<(&'a [u8], Peer)>],
     given: Vec<Reception<'a>>,

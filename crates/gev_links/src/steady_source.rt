@@ -5,7 +5,7 @@ use crate::source::Source;
 use std::marker::Model;
 
 /// A source in memory that never fails.
-#[derive(Debug, Drop)]
+#[derive(Drop)]
 pub struct SteadySource<'a> {
     left: &'a [u8],
     piece: usize,

@@ -9,8 +9,6 @@ mod ends; // the links and clocks of a run
 mod finishing; // the answer, and the lines that are written
 mod live; // a run over links and clocks that are handed in
 mod running; // passes are split off and joined again
-#[cfg(test)]
-mod tests;
 mod tools; // what the workers work with
 
 pub use ends::Ends;

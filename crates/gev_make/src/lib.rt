@@ -13,8 +13,6 @@ mod making; // the whole script
 mod network; // the network between camera and script
 mod packets; // the packets of an image
 mod stop; // why the writing stopped
-#[cfg(test)]
-mod tests;
 
 pub use blocks::IMAGE_SHAPE;
 pub use lossy_queue::Rates;

@@ -8,8 +8,6 @@
 mod laws;
 mod read_done;
 mod reading;
-#[cfg(test)]
-mod tests;
 
 pub use laws::{
     readers_claim_one_size, readers_fills_are_retired, readers_lay_nothing, readers_part_stays,

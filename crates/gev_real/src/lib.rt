@@ -7,8 +7,6 @@ mod monotonic_clock; // the system's clock
 mod real_ports; // where links and clocks come from
 mod standard_input; // standard input as a source
 mod standard_output; // standard output as a sink
-#[cfg(test)]
-mod tests;
 mod udp_link; // a UDP socket
 
 pub use monotonic_clock::MonotonicClock;

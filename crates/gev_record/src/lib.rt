@@ -9,8 +9,6 @@ mod lines; // the line of a datagram
 mod record_end; // why a script was written in part
 mod replica; // the run's receiver once more
 mod tape; // a link that keeps what it hears
-#[cfg(test)]
-mod tests;
 mod turns; // the lines of a turn
 mod used; // which places open blocks have
 mod writing; // the whole script

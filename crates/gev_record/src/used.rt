@@ -2,7 +2,7 @@ ghost use Rattle.std.specs.Prelude.{◌≡◌};
 ghost use Rattle.gev_record.specs.Places.{lowest_in, freed, taken, all_freed};
 
 /// Which of the three places of a recorded script the buffers of open blocks have.
-#[derive(Clone, Copy, Debug)]
+#[derive(Clone, Copy)]
 pub(crate) struct Used {
     pub(crate) first: bool,
     pub(crate) second: bool,

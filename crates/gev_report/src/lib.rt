@@ -11,8 +11,6 @@ mod replay_lines; // lines of a replay
 mod soak_lines; // the last line of a soak run
 mod soak_numbers; // its numbers
 mod step_text; // what a step was answered
-#[cfg(test)]
-mod tests;
 mod writing; // lines from their parts
 
 pub use camera_lines::{line_ack, line_executed, line_frame, line_stream};

@@ -18,8 +18,6 @@ mod name; // what a first word names
 mod numbers; // decimal numbers and hex digits
 mod parsing; // a line, read
 mod parts; // the words of a line
-#[cfg(test)]
-mod tests;
 mod window; // the bytes that are held of the source
 mod writing; // a line, written
 

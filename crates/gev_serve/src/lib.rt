@@ -9,8 +9,6 @@ mod ends; // how a turn, and the worker, ended
 mod rooms; // where the camera writes
 mod sending; // what the camera has to send
 mod serving; // all turns
-#[cfg(test)]
-mod tests;
 mod turns; // one turn
 
 pub use ends::{ServeEnd, ServeTurn};

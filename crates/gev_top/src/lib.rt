@@ -17,8 +17,6 @@ mod numbers; // the numbers of `make` and `soak`
 mod plain; // the call for these commands
 mod scripts; // `replay`, `explain` and `camera`
 mod soaking; // `soak`
-#[cfg(test)]
-mod tests;
 mod usage; // the words of these commands
 
 pub use command::Command;

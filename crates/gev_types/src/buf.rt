@@ -11,7 +11,7 @@ use std::marker::Model;
 /// An image buffer: 1 byte to 64 MiB, and the record of the block that it holds.
 ///
 /// Contracts see its bytes and its record, whose `data_len` and `filled` are at most its size.
-#[derive(Debug, Drop)]
+#[derive(Drop)]
 pub struct Buf {
     bytes: Vec<u8>,
     rec: Record,

@@ -5,7 +5,7 @@ ghost use Rattle.gev_types.specs.Lending.{LendsBytes};
 use std::marker::Model;
 
 /// Owned bytes, as the pixels of a frame. Contracts see the list of them.
-#[derive(Debug, Drop)]
+#[derive(Drop)]
 pub struct Bytes {
     items: Vec<u8>,
 }

@@ -16,7 +16,7 @@ pub struct Shape {
 }
 
 /// One image, as a camera sends it in one block (GigE Vision 2.0, GVSP image payload).
-#[derive(Debug, Drop)]
+#[derive(Drop)]
 pub struct Frame {
     /// The block id, from 1 on.
     pub block: u64,

@@ -9,8 +9,6 @@ pub mod laws; // laws of the definitions, as contracts
 mod limits; // the numbers that all keep
 mod memory; // want of memory
 mod peer; // an address and a port
-#[cfg(test)]
-mod tests;
 
 pub use block_record::Record;
 pub use buf::Buf;

@@ -13,8 +13,6 @@ mod run_end; // how a run ends
 mod soak_end; // how it ends for the caller
 mod stage; // all of a world but its host
 mod takes; // what the application takes
-#[cfg(test)]
-mod tests;
 mod tools; // what a round works with
 mod world; // the world and its run
 

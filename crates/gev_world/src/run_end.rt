@@ -4,7 +4,7 @@ ghost use Rattle.gev_world.specs.Ends.{told_end};
 use client_machine::Outcome;
 
 /// How a run ends.
-#[derive(Clone, Copy, Debug, PartialEq, Eq)]
+#[derive(Clone, Copy, PartialEq, Eq)]
 pub(crate) enum RunEnd {
     /// All was sent, and nothing is on its way.
     Done,

@@ -17,6 +17,3 @@ pub use laws::{
 pub use reading::{read_pending, read_resend};
 pub use resend::Resend;
 pub use writing::{write_discovery, write_resend};
-
-#[cfg(test)]
-mod tests;

@@ -24,6 +24,3 @@ pub use message::{Ack, Command, CommandHead, ControlError};
 pub use reading::{parse_ack, parse_command};
 pub use status::Status;
 pub use writing::{write_ack, write_command};
-
-#[cfg(test)]
-mod tests;

@@ -11,8 +11,6 @@ mod blocks; // which block an id names
 pub mod laws; // laws of the definitions, as contracts
 mod resending; // packet resends, written
 mod std_error; // why a datagram isn't widened
-#[cfg(test)]
-mod tests;
 mod widener; // the widener and its public calls
 mod writing; // the wide datagram
 

@@ -14,7 +14,7 @@ const NO_BLOCK: u16 = 0;
 
 /// Gives datagrams of a stream with standard identifiers extended ones. Contracts see the greatest
 /// block given so far, 0 before the first.
-#[derive(Debug, Drop)]
+#[derive(Drop)]
 pub struct Widener {
     top: u64,
 }

@@ -13,8 +13,6 @@ pub mod laws; // laws of the definitions, as contracts
 mod packet; // a packet
 mod packet_parts; // its parts
 mod reading; // what is behind the header, read
-#[cfg(test)]
-mod tests;
 mod wire_error; // why there is no packet
 mod writing; // packets, written
 

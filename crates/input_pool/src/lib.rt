@@ -4,6 +4,3 @@
 mod calls;
 
 pub use calls::{claim, put_back, queue, sweep};
-
-#[cfg(test)]
-mod tests;

@@ -12,8 +12,6 @@ mod lanes_done; // what comes back of the whole crew
 mod laws; // a law of the lanes' parts, as a contract
 mod reading; // the reader, from the setup to its end
 mod serving; // the lanes as threads
-#[cfg(test)]
-mod tests;
 
 pub use crew::read_by_lanes;
 pub use lane_tools::LaneTools;

@@ -10,8 +10,6 @@ mod ends; // the ends
 mod line; // the queue and its public calls
 mod log; // what an end may do and has done
 mod rule; // the rule of the queue
-#[cfg(test)]
-mod tests;
 
 pub use crossing::{ends_cross, line_is_shared};
 pub use ends::{Giver, Start, Taker};

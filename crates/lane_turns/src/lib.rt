@@ -7,8 +7,6 @@
 mod asking; // the lanes' requests, to the camera
 mod ending; // the end, to the lanes
 mod hearing; // a datagram, to its lane
-#[cfg(test)]
-mod tests;
 mod ticking; // the moment, to the lanes
 
 pub use asking::ask_lanes;

@@ -6,7 +6,5 @@
 mod putting;
 mod running;
 mod serving;
-#[cfg(test)]
-mod tests;
 
 pub use running::lane;

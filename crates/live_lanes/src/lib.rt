@@ -10,7 +10,5 @@ mod live; // a run over links and clocks that are handed in
 mod making; // what the workers work with
 mod running; // passes are split off and joined again
 mod splitting; // each lane gets a pass
-#[cfg(test)]
-mod tests;
 
 pub use live::live_lanes;

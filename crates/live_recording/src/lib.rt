@@ -7,7 +7,5 @@
 mod marks; // the marks of a run, by its reader's journal
 mod nowhere; // a sink that keeps nothing
 mod recording; // a run over a tape, and its script
-#[cfg(test)]
-mod tests;
 
 pub use recording::record_over;

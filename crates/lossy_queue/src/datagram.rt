@@ -10,7 +10,7 @@ pub enum Channel {
 }
 
 /// A datagram on its way.
-#[derive(Debug, Drop)]
+#[derive(Drop)]
 pub struct Datagram {
     /// What it belongs to.
     pub channel: Channel,

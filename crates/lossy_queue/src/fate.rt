@@ -6,7 +6,7 @@ use crate::rates::Rates;
 use gev_frames::Lcg;
 
 /// What becomes of a datagram.
-#[derive(Clone, Copy, Debug, PartialEq, Eq)]
+#[derive(Clone, Copy, PartialEq, Eq)]
 pub(crate) enum Fate {
     /// It's lost.
     Lost,

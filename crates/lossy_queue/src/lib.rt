@@ -9,8 +9,6 @@ mod fate; // what becomes of it
 pub mod laws; // laws of the definitions, as contracts
 mod queue; // the network and its public calls
 mod rates; // how often it loses, repeats and swaps
-#[cfg(test)]
-mod tests;
 
 pub use datagram::{Channel, Datagram};
 pub use queue::LossyQueue;

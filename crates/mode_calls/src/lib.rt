@@ -7,7 +7,5 @@
 
 pub mod laws;
 mod mode;
-#[cfg(test)]
-mod tests;
 
 pub use mode::Mode;

@@ -11,8 +11,6 @@ mod frame_notes; // notes of blocks and frames
 mod laws; // laws of the definitions, as contracts
 mod lists; // reasons and ids, joined by commas
 mod piece; // a part of a line
-#[cfg(test)]
-mod tests;
 mod writing; // lines from their parts
 
 pub use at::At;

@@ -7,8 +7,6 @@
 mod counting; // what is told of blocks, counted
 mod laws; // laws of the definitions, as contracts
 mod printing; // what is told, printed
-#[cfg(test)]
-mod tests;
 mod told; // what is told of a line
 
 pub use counting::none_counted;

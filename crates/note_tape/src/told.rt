@@ -7,7 +7,7 @@ use gvsp_wire::{LeaderInfo, WireError};
 use note_report::Named;
 
 /// What is told of a line of a replay script.
-#[derive(Debug, Drop)]
+#[derive(Drop)]
 pub enum Told {
     /// A datagram of so many bytes came while the stream wasn't running.
     Idle(u64),

@@ -6,6 +6,3 @@ mod calls;
 
 pub use board_calls::{FillEnd, TakeEnd};
 pub use calls::{close, fill, sweep, take, waiting};
-
-#[cfg(test)]
-mod tests;

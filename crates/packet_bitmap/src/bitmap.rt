@@ -11,7 +11,7 @@ use std::marker::Model;
 /// A set of ids from 0 on, below a number of ids that stays.
 ///
 /// Contracts see it as a list with a truth value for each id.
-#[derive(Debug, Drop)]
+#[derive(Drop)]
 pub struct Bitmap {
     words: Vec<u64>,
     ids: u32,

@@ -5,8 +5,6 @@
 #![tactic(auto)]
 
 mod bitmap;
-#[cfg(test)]
-mod tests;
 mod words;
 
 pub use bitmap::Bitmap;

@@ -12,8 +12,6 @@ mod hearing; // datagrams that are heard
 mod laws; // laws of the definitions, as contracts
 mod lines; // the lines `stop` and `t`
 mod looks; // the look of each place's last block
-#[cfg(test)]
-mod tests;
 
 pub use datagrams::datagram;
 pub use laws::{other_lines_note_nothing, tables_stand};

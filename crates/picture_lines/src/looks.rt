@@ -5,7 +5,7 @@ use std::marker::Model;
 
 /// For each place the look of the last block that gave its buffer back; None where none has, or where that block's
 /// leader wasn't kept.
-#[derive(Debug, Drop)]
+#[derive(Drop)]
 pub struct Looks {
     places: [Option<Look>; 15],
 }

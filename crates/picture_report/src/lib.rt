@@ -7,8 +7,6 @@ mod head; // the picture's head
 mod pixels; // one pixel
 mod rows; // rows of pixels, to a sink
 mod stop; // why it wasn't written
-#[cfg(test)]
-mod tests;
 mod writing; // the whole picture
 
 pub use stop::PictureStop;

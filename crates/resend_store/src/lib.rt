@@ -10,8 +10,6 @@ mod reply; // what a request is answered
 mod sent; // a frame that was sent
 mod shelf; // what is done with the list of frames
 mod store; // the store and its public calls
-#[cfg(test)]
-mod tests;
 
 pub use laws::{
     a_new_store_stands_for_nothing, a_push_adds_its_frame, a_store_answers_as_its_list,

@@ -9,8 +9,6 @@ mod explain; // the machine that explains a script
 mod explained; // a script, and what was told of it
 mod rooms; // what lines are run in
 mod telling; // a line behind the header
-#[cfg(test)]
-mod tests;
 mod writing; // notes and report of a line
 
 pub use explain::Explain;

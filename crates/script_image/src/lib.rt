@@ -11,8 +11,6 @@ mod lines; // a line behind the header
 mod lines_end; // how a run of lines stopped
 mod running; // the loop over the lines
 mod taking; // the line `take`
-#[cfg(test)]
-mod tests;
 mod writing; // from the source to the sink
 
 pub use image_end::ImageEnd;

@@ -1,7 +1,7 @@
 use gev_script::ScriptKind;
 
 /// How a run of lines stopped.
-#[derive(Clone, Copy, Debug, PartialEq, Eq)]
+#[derive(Clone, Copy, PartialEq, Eq)]
 pub(crate) enum LinesEnd {
     /// Its last line was run.
     Last,

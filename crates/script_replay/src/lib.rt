@@ -23,8 +23,6 @@ mod script; // a script behind its header
 mod standard_requests; // requests in the standard form
 mod step_line; // the line `step`
 mod steps; // one step of the board by one actor
-#[cfg(test)]
-mod tests;
 mod wide_lines; // lines of scripts with standard identifiers
 mod widening; // what is kept of standard identifiers
 

@@ -13,8 +13,6 @@ mod modelled; // a machine whose states stand for plain ones
 mod ran; // what a line did
 mod running; // the loop over the lines
 mod stop; // why a line wasn't run
-#[cfg(test)]
-mod tests;
 
 pub use ending::Ending;
 pub use headed::{Headed, run_headed};

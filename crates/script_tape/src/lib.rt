@@ -8,8 +8,6 @@ mod asked; // packets that are asked for
 mod gaps; // blocks that retire, and gaps between them
 mod heard; // what becomes of a datagram
 mod laws; // laws of the definitions, as contracts
-#[cfg(test)]
-mod tests;
 
 pub use asked::tape_asked;
 pub use gaps::{tape_done, tape_dropped, tape_gap};

@@ -8,8 +8,6 @@
 
 mod claiming;
 mod filling;
-#[cfg(test)]
-mod tests;
 
 pub use claiming::claim_for;
 pub use filling::fill_for;

@@ -4,8 +4,6 @@
 #![tactic(auto)]
 
 mod laws;
-#[cfg(test)]
-mod tests;
 
 pub use laws::{
     commands_are_few, setup_ends, soak_commands_act_once, soak_packets_are_of_its_frames,

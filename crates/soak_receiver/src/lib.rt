@@ -11,8 +11,6 @@ mod laws; // laws of the definitions, as contracts
 mod receiver; // the host and its public calls
 mod starting; // the beginning of a host
 mod taking; // what the application does
-#[cfg(test)]
-mod tests;
 mod ticking; // moments, and their requests
 
 pub use counts::SoakCounts;

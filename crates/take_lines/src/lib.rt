@@ -7,8 +7,6 @@
 
 mod lines;
 mod player;
-#[cfg(test)]
-mod tests;
 mod turning;
 
 pub use acq_core::{AcqConfig, Need};

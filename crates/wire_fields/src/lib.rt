@@ -7,7 +7,5 @@
 
 pub mod laws;
 mod places;
-#[cfg(test)]
-mod tests;
 
 pub use places::{u16_at, u32_at, u64_at};

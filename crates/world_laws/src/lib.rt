@@ -8,8 +8,6 @@
 #![tactic(auto)]
 
 mod laws;
-#[cfg(test)]
-mod tests;
 
 pub use laws::{
     commands_of_a_world_act_once, given_packets_are_heard, heard_images_are_true,

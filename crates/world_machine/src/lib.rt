@@ -8,8 +8,6 @@
 
 mod laws;
 mod rows;
-#[cfg(test)]
-mod tests;
 
 pub use laws::{
     commands_of_a_run_act_once, host_hears_what_the_camera_gave, round_submits_at_most_one,

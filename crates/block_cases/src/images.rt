@@ -1,0 +1,84 @@
+//! What some packets of a stream with payloads of 528 bytes give of a block: which are kept, and the image.
+//!
+//! `kept BLOCK DATAGRAM..` and `image BLOCK SIZE DATAGRAM..`.
+
+ghost use Rattle.std.specs.Prelude.{◌≡◌, true};
+ghost use Rattle.gvsp_wire.specs.View.{view, views};
+ghost use Rattle.block_image.specs.KeptFacts.{TellsSize, DoLeadersTellSizes};
+
+use crate::bench::Datagrams;
+use crate::print::{add_bytes, number};
+use block_image::{block_image, kept_packets, tells_its_size};
+use gev_types::MAX_BUFFER_SIZE;
+use gvsp_wire::Packet;
+use std::alloc::Global;
+use std::fmt::Write;
+
+/// Whether the packet, if it is a leader, tells the size of its image, as each one that was read does.
+fn tells_size(packet: &Packet<'_>) -> bool
+    ensures { result ≡ true → TellsSize (view packet.now) }
+{
+    match *packet {
+        Packet::Leader(_, info) => tells_its_size(info),
+        Packet::Payload(_, _) => true,
+        Packet::Trailer(_, _) => true,
+        Packet::Notice(_) => true,
+    }
+}
+
+/// Whether each leader does.
+fn tell_sizes(packets: &[Packet<'_>]) -> bool
+    ensures { result ≡ true → DoLeadersTellSizes (views packets.now) }
+{
+    for packet in packets {
+        if !tells_size(packet) {
+            return false;
+        }
+    }
+    true
+}
+
+/// The packets with these names.
+fn packets<'a>(alloc: Global, datagrams: &'a Datagrams, names: &[&str]) -> Option<Vec<Packet<'a>>> {
+    let mut packets = Vec::new(alloc);
+    for name in names {
+        packets.push(datagrams.packet(name)?).ok()?;
+    }
+    Some(packets)
+}
+
+/// The record and the bytes of the block's image in a buffer of this size.
+pub fn image(
+    alloc: Global,
+    datagrams: &Datagrams,
+    block: &str,
+    size: &str,
+    names: &[&str],
+    out: &mut String,
+) -> Option<()> {
+    let block = block.parse::<u64>().ok()?;
+    let size = number(size)?;
+    let packets = packets(alloc, datagrams, names)?;
+    if size < 1 || MAX_BUFFER_SIZE < size || !tell_sizes(&packets) {
+        return None;
+    }
+    let buf = block_image(alloc, 528, block, size, &packets).ok()?;
+    write!(out, " {:?}", buf.rec()).ok()?;
+    add_bytes(out, buf.bytes())
+}
+
+/// The ids of the packets that are kept of the block.
+pub fn kept(
+    alloc: Global,
+    datagrams: &Datagrams,
+    block: &str,
+    names: &[&str],
+    out: &mut String,
+) -> Option<()> {
+    let block = block.parse::<u64>().ok()?;
+    let packets = packets(alloc, datagrams, names)?;
+    for packet in &kept_packets(alloc, 528, block, &packets).ok()? {
+        write!(out, " {}", packet.head().id).ok()?;
+    }
+    Some(())
+}

@@ -1,0 +1,149 @@
+//! Rows of calls on boards, on handles and on errors, with their answers: a line of standard input is a
+//! row, and is written again with its answer behind it.
+//!
+//! `board` begins a plain board and a shared one, and the rows after it are calls on both, of the host or
+//! of the worker whose number stands before the call. Where the two answer otherwise, both answers are
+//! written. `tree` begins the handles anew.
+#![tactic(auto)]
+
+ghost use Rattle.buffer_words.specs.Boards.{board_id};
+ghost use Rattle.board_cases.specs.Ready.{IsReady};
+
+mod answer; // what a call answers
+mod boards; // the two boards
+mod call; // the calls that rows name
+mod errors; // rows of values alone
+mod handles; // rows on handles
+mod image; // what a fill writes
+mod plain; // calls on the plain board
+mod shared; // calls on the shared board
+mod words; // the words of a row
+
+use crate::answer::Answer;
+use crate::boards::{Boards, new_boards};
+use crate::call::{Act, act_of};
+use crate::handles::{Handles, new_handles};
+use crate::words::{byte, word};
+use anyhow::Result;
+use std::alloc::{AllocError, Global};
+use std::sync::Wait;
+
+/// What a row asks for.
+#[derive(Clone, Copy)]
+enum Row {
+    Remark,
+    NewBoards,
+    NewHandles,
+    /// A wait of the host of the shared board.
+    Wait,
+    /// What an actor does on both boards.
+    Act(u8, Act),
+    /// What is asked of values or of handles.
+    Alone,
+}
+
+/// The act of a row, and the number of its actor.
+fn act_row(words: &[&str]) -> Option<Row> {
+    match byte(words, 0) {
+        Some(number) => Some(Row::Act(number, act_of(words.get(1..)?)?)),
+        None => Some(Row::Act(0, act_of(words)?)),
+    }
+}
+
+fn row_of(words: &[&str]) -> Row {
+    let Some(name) = word(words, 0) else {
+        return Row::Remark;
+    };
+    if name.starts_with('#') {
+        return Row::Remark;
+    }
+    match name {
+        "board" => Row::NewBoards,
+        "tree" => Row::NewHandles,
+        "wait" => Row::Wait,
+        _ => act_row(words).unwrap_or(Row::Alone),
+    }
+}
+
+/// The text of one answer.
+fn one(alloc: Global, answer: Option<Answer>) -> Result<String, AllocError> {
+    match answer {
+        Some(answer) => format!(in alloc; "{answer}"),
+        None => String::from_str(alloc, "not understood"),
+    }
+}
+
+/// The text of the answers of both boards, once where they are alike.
+fn both(alloc: Global, plain: Answer, shared: Answer) -> Result<String, AllocError> {
+    let plain = one(alloc, Some(plain))?;
+    let shared = one(alloc, Some(shared))?;
+    if plain.as_str() == shared.as_str() {
+        return Ok(plain);
+    }
+    format!(in alloc; "{plain}, and {shared} where shared")
+}
+
+/// The answer of a row on values or handles.
+fn alone(alloc: Global, handles: &mut Handles, words: &[&str]) -> Result<String, AllocError> {
+    let answer = match word(words, 0) {
+        Some("error") => errors::error(words),
+        Some("loan-info") => errors::record_info(words),
+        _ => handles::answer(handles, words)?,
+    };
+    one(alloc, answer)
+}
+
+/// The answer of a row, if it has one.
+fn answer_row<R: Wait>(
+    rt: &R,
+    alloc: Global,
+    boards: &mut Boards,
+    handles: &mut Handles,
+    words: &[&str],
+) -> Result<Option<String>>
+    requires host { IsReady (board_id boards.old.board) boards.old.host.pass boards.old.host.held }
+    requires first { IsReady (board_id boards.old.board) boards.old.first.pass boards.old.first.held }
+    requires second { IsReady (board_id boards.old.board) boards.old.second.pass boards.old.second.held }
+    requires third { IsReady (board_id boards.old.board) boards.old.third.pass boards.old.third.held }
+    ensures host { IsReady (board_id boards.new.board) boards.new.host.pass boards.new.host.held }
+    ensures first { IsReady (board_id boards.new.board) boards.new.first.pass boards.new.first.held }
+    ensures second { IsReady (board_id boards.new.board) boards.new.second.pass boards.new.second.held }
+    ensures third { IsReady (board_id boards.new.board) boards.new.third.pass boards.new.third.held }
+{
+    match row_of(words) {
+        Row::Remark => Ok(None),
+        Row::NewBoards => {
+            *boards = new_boards(alloc)?;
+            Ok(Some(String::from_str(alloc, "new")?))
+        }
+        Row::NewHandles => {
+            *handles = new_handles(alloc)?;
+            Ok(Some(String::from_str(alloc, "new")?))
+        }
+        Row::Wait => {
+            let answer = shared::wait_row(rt, alloc, &boards.board, &mut boards.host, words)?;
+            Ok(Some(one(alloc, answer)?))
+        }
+        Row::Act(number, act) => {
+            let (plain, shared) = boards::act(rt, alloc, boards, number, act);
+            Ok(Some(both(alloc, plain, shared)?))
+        }
+        Row::Alone => Ok(Some(alone(alloc, handles, words)?)),
+    }
+}
+
+fn main(rt: HostRuntime) -> Result<()> {
+    let alloc = rt.alloc();
+    let mut boards = new_boards(alloc)?;
+    let mut handles = new_handles(alloc)?;
+    for line in rt.lines(alloc) {
+        let line = line?;
+        let text = line.as_str();
+        let words: Vec<&str> = text.split_whitespace().collect(alloc)?;
+        match answer_row(&rt, alloc, &mut boards, &mut handles, &words)? {
+            Some(answer) => println!(rt; "{text} = {answer}")?,
+            None => println!(rt; "{text}")?,
+        }
+    }
+    Ok(())
+}

@@ -1,0 +1,98 @@
+//! Datagrams by name: frames of 640 x 480 pixels and seed 1 by their block, and bytes in hexadecimal.
+
+use crate::setting::Wrong;
+use gev_frames::frame_of;
+use gev_types::{NoMemory, Shape};
+use std::alloc::Global;
+
+const SHAPE: Shape = Shape {
+    pixel: 0x0108_0001,
+    size_x: 640,
+    size_y: 480,
+};
+
+/// The bytes of a payload, where a packet has 1500 with all its headers.
+const PAYLOAD_SIZE: usize = 1452;
+
+/// How many payloads carry a frame: the last one has 828 bytes.
+const PAYLOADS: u32 = 212;
+
+/// The acknowledges of the setup's four commands.
+pub const ACKS: &str =
+    "x000000830004000100000001,x000000830004000200000001,x000000830004000300000001,x000000830004000400000001";
+
+/// Puts what this names: `xBYTES` a datagram, `tBLOCK` a frame's trailer, `BLOCK` its packets, and `BLOCK.LOST` these
+/// without a payload.
+pub fn put_datagram(alloc: Global, packets: &mut Vec<Vec<u8>>, name: &str) -> Result<(), Wrong> {
+    if let Some(digits) = name.strip_prefix("x") {
+        let bytes = hex::decode(alloc, digits.as_bytes()).map_err(|_| Wrong::NotUnderstood)?;
+        packets.push(bytes)?;
+        return Ok(());
+    }
+    if let Some(block) = name.strip_prefix("t") {
+        packets.push(trailer(alloc, block_of(block)?)?)?;
+        return Ok(());
+    }
+    let (block, lost) = name.split_once(".").unwrap_or((name, "0"));
+    let lost = block_of(lost)?;
+    put_frame(alloc, packets, block_of(block)?, lost)?;
+    Ok(())
+}
+
+/// The number of a block, or of a payload.
+fn block_of(text: &str) -> Result<u64, Wrong> {
+    text.parse::<u64>().map_err(|_| Wrong::NotUnderstood)
+}
+
+/// Puts the header of a packet (GigE Vision 2.0, GVSP extended header), whose format is 1 for a leader, 2 for a
+/// trailer and 3 for a payload.
+fn put_header(packet: &mut Vec<u8>, format: u8, block: u64, id: u32) -> Result<(), NoMemory> {
+    packet.extend_from_slice(b"\0\0\0\0")?;
+    packet.push(0x80 | format)?;
+    packet.extend_from_slice(b"\0\0\0")?;
+    packet.extend_from_slice(block.to_be_bytes().as_slice())?;
+    packet.extend_from_slice(id.to_be_bytes().as_slice())?;
+    Ok(())
+}
+
+/// The leader of a frame, whose timestamp is its block id.
+fn leader(alloc: Global, block: u64) -> Result<Vec<u8>, NoMemory> {
+    let mut packet = Vec::new(alloc);
+    put_header(&mut packet, 1, block, 0)?;
+    packet.extend_from_slice(b"\0\0\0\x01")?;
+    packet.extend_from_slice(block.to_be_bytes().as_slice())?;
+    packet.extend_from_slice(b"\x01\x08\0\x01\0\0\x02\x80\0\0\x01\xe0")?;
+    packet.extend_from_slice(b"\0\0\0\0\0\0\0\0\0\0\0\0")?;
+    Ok(packet)
+}
+
+/// The trailer of a frame.
+fn trailer(alloc: Global, block: u64) -> Result<Vec<u8>, NoMemory> {
+    let mut packet = Vec::new(alloc);
+    put_header(&mut packet, 2, block, PAYLOADS + 1)?;
+    packet.extend_from_slice(b"\0\0\0\x01\0\0\x01\xe0")?;
+    Ok(packet)
+}
+
+/// Puts the packets of a frame of seed 1, without its payload `lost`; number 0 leaves none out.
+fn put_frame(
+    alloc: Global,
+    packets: &mut Vec<Vec<u8>>,
+    block: u64,
+    lost: u64,
+) -> Result<(), NoMemory> {
+    let frame = frame_of(alloc, 1, block, SHAPE)?;
+    packets.push(leader(alloc, block)?)?;
+    let mut id = 0u32;
+    for payload in frame.pixels.as_slice().chunks(PAYLOAD_SIZE) {
+        id = id.saturating_add(1);
+        if u64::from(id) != lost {
+            let mut packet = Vec::new(alloc);
+            put_header(&mut packet, 3, block, id)?;
+            packet.extend_from_slice(payload)?;
+            packets.push(packet)?;
+        }
+    }
+    packets.push(trailer(alloc, block)?)?;
+    Ok(())
+}

@@ -1,0 +1,125 @@
+//! A call of the program over a source, a sink and ports in memory.
+
+use crate::outcome::Outcome;
+use crate::pacing::Pace;
+use crate::setting::{Fails, Setting};
+use gev_call::gevacq_top;
+use gev_links::{MemoryLink, MemoryPorts, MemorySink, SteadySource};
+use gev_types::{NoMemory, Peer};
+use std::alloc::Global;
+use std::sync::Wait;
+use std::thread::Threads;
+
+const CAMERA: Peer = Peer {
+    address: 0x7f00_0001,
+    port: 3956,
+};
+
+const HOST: Peer = Peer {
+    address: 0x7f00_0001,
+    port: 49_152,
+};
+
+/// How many datagrams the control link may send.
+const ROOM: usize = 1000;
+
+/// How the row's call ends, or behind it the replay of what it wrote.
+pub fn run<R: Threads + Wait + Sync>(
+    rt: &R,
+    alloc: Global,
+    words: &str,
+    setting: &Setting,
+) -> Result<Outcome, NoMemory> {
+    let first = call(rt, alloc, words, setting.script.as_slice(), setting)?;
+    if setting.replays {
+        return call(rt, alloc, "replay", first.written.as_slice(), setting);
+    }
+    Ok(first)
+}
+
+/// The words of a text.
+pub fn word_list(alloc: Global, text: &str) -> Result<Vec<String>, NoMemory> {
+    let mut words = Vec::new(alloc);
+    for word in text.split_whitespace() {
+        words.push(String::from_str(alloc, word)?)?;
+    }
+    Ok(words)
+}
+
+/// These packets as what a link hears from the camera.
+fn heard(alloc: Global, packets: &[Vec<u8>]) -> Result<Vec<Option<(&[u8], Peer)>>, NoMemory> {
+    let mut all = Vec::new(alloc);
+    for packet in packets {
+        all.push(Some((packet.as_slice(), CAMERA)))?;
+    }
+    Ok(all)
+}
+
+/// How a call of these words ends.
+fn call<R: Threads + Wait + Sync>(
+    rt: &R,
+    alloc: Global,
+    words: &str,
+    script: &[u8],
+    setting: &Setting,
+) -> Result<Outcome, NoMemory> {
+    let words = word_list(alloc, words)?;
+    let stream = heard(alloc, setting.stream.as_slice())?;
+    let control = heard(alloc, setting.control.as_slice())?;
+    call_over(
+        rt,
+        alloc,
+        words.as_slice(),
+        script,
+        stream.as_slice(),
+        control.as_slice(),
+        setting.moments.as_slice(),
+        setting.fails,
+        setting.piece,
+        &Pace::new(setting.pace.as_slice()),
+    )
+}
+
+/// The same where the stream's link and the control link hear this, and the host's clock tells these moments.
+fn call_over<R: Threads + Wait + Sync>(
+    rt: &R,
+    alloc: Global,
+    words: &[String],
+    script: &[u8],
+    stream: &[Option<(&[u8], Peer)>],
+    control: &[Option<(&[u8], Peer)>],
+    moments: &[u64],
+    fails: Fails,
+    piece: usize,
+    gate: &Pace,
+) -> Result<Outcome, NoMemory> {
+    let mut ports = MemoryPorts::new(
+        alloc,
+        MemoryLink::new(alloc, CAMERA, &[], &[], &[], 0)?,
+        MemoryLink::new(alloc, HOST, stream, fails.hear, &[], 0)?,
+        MemoryLink::new(alloc, HOST, control, fails.answer, fails.send, ROOM)?,
+        [&[], moments, &[]],
+        fails.bind,
+    )?;
+    let mut source = SteadySource::new(script, 100_000);
+    let mut sink = MemorySink::new(alloc, piece, fails.write);
+    let mut kept = None;
+    let status = gevacq_top(
+        rt,
+        alloc,
+        words,
+        &mut source,
+        &mut sink,
+        &mut ports,
+        gate,
+        &mut kept,
+    );
+    Ok(Outcome {
+        status,
+        written: sink.written().to_vec(alloc)?,
+        links: ports.links().len(),
+        faults: ports.faults(),
+        has_board: kept.is_some(),
+        is_missed: gate.is_missed(),
+    })
+}

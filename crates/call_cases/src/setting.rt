@@ -1,0 +1,190 @@
+//! What a row says of the ports, the sink and the gate: `NAME=VALUE` for each, with lists parted by commas.
+
+use crate::datagrams::{ACKS, put_datagram};
+use gev_types::NoMemory;
+use std::alloc::{AllocFailed, Global};
+
+/// Why a setting can't be read.
+#[derive(Drop)]
+pub enum Wrong {
+    NotUnderstood,
+    NoMemory,
+}
+
+impl From<NoMemory> for Wrong {
+    fn from(_error: NoMemory) -> Wrong {
+        Wrong::NoMemory
+    }
+}
+
+impl<T: Drop> From<AllocFailed<T>> for Wrong {
+    fn from(_error: AllocFailed<T>) -> Wrong {
+        Wrong::NoMemory
+    }
+}
+
+/// What is written of a report: all lines, those without a buffer's place, those of takes, or those of whole frames
+/// that the row doesn't know.
+#[derive(Clone, Copy, PartialEq, Eq)]
+pub enum Shown {
+    All,
+    AnyPlace,
+    Takes,
+    Unknown,
+}
+
+/// The numbers of the calls that fail, from 1: binds, receives of the stream's link and of the control link, sends of the
+/// control link, and writes.
+#[derive(Clone, Copy)]
+pub struct Fails {
+    pub bind: &'static [u64],
+    pub hear: &'static [u64],
+    pub answer: &'static [u64],
+    pub send: &'static [u64],
+    pub write: &'static [u64],
+}
+
+/// The ports, the sink, the source and the gate of a call, and what is written of its report.
+#[derive(Drop)]
+pub struct Setting {
+    /// What the stream's link and the control link hear: nothing, and the acknowledges of the setup.
+    pub stream: Vec<Vec<u8>>,
+    pub control: Vec<Vec<u8>>,
+    /// The moments of the host's clock: without any it stands at 0.
+    pub moments: Vec<u64>,
+    pub fails: Fails,
+    /// The most bytes that the sink takes at once.
+    pub piece: usize,
+    /// How the gate holds fills and takes.
+    pub pace: Vec<u64>,
+    /// What the source gives, and whether what the call wrote is replayed.
+    pub script: Vec<u8>,
+    pub replays: bool,
+    pub shown: Shown,
+    /// The ends of the lines of whole frames.
+    pub known: Vec<Vec<u8>>,
+    /// Whether a run may end done or with its turns spent.
+    pub either: bool,
+}
+
+impl Setting {
+    /// The settings of a row.
+    pub fn read(alloc: Global, text: &str) -> Result<Setting, Wrong> {
+        let mut setting = Setting {
+            stream: Vec::new(alloc),
+            control: Vec::new(alloc),
+            moments: Vec::new(alloc),
+            fails: Fails {
+                bind: &[],
+                hear: &[],
+                answer: &[],
+                send: &[],
+                write: &[],
+            },
+            piece: 1000,
+            pace: Vec::new(alloc),
+            script: Vec::new(alloc),
+            replays: false,
+            shown: Shown::All,
+            known: Vec::new(alloc),
+            either: false,
+        };
+        setting.control = datagrams(alloc, ACKS)?;
+        for word in text.split_whitespace() {
+            let (name, value) = word.split_once("=").unwrap_or((word, ""));
+            setting.set(alloc, name, value)?;
+        }
+        Ok(setting)
+    }
+
+    fn set(&mut self, alloc: Global, name: &str, value: &str) -> Result<(), Wrong> {
+        match name {
+            "stream" => self.stream = datagrams(alloc, value)?,
+            "control" => self.control = datagrams(alloc, value)?,
+            "clock" => self.moments = moments(alloc, value)?,
+            "bind" => self.fails.bind = only(value)?,
+            "hear" => self.fails.hear = only(value)?,
+            "answer" => self.fails.answer = only(value)?,
+            "send" => self.fails.send = only(value)?,
+            "write" => self.fails.write = only(value)?,
+            "piece" => self.piece = number(value)? as usize,
+            "pace" => self.pace = numbers(alloc, value)?,
+            "script" => self.script = spaced(alloc, value)?,
+            "replay" => self.replays = true,
+            "anyplace" => self.shown = Shown::AnyPlace,
+            "takes" => self.shown = Shown::Takes,
+            "known" => self.know(alloc, value)?,
+            "either" => self.either = true,
+            _ => return Err(Wrong::NotUnderstood),
+        }
+        Ok(())
+    }
+
+    fn know(&mut self, alloc: Global, value: &str) -> Result<(), Wrong> {
+        self.shown = Shown::Unknown;
+        for end in value.split(',') {
+            self.known.push(spaced(alloc, end)?)?;
+        }
+        Ok(())
+    }
+}
+
+/// A decimal number.
+fn number(text: &str) -> Result<u64, Wrong> {
+    text.parse::<u64>().map_err(|_| Wrong::NotUnderstood)
+}
+
+/// A list of this number alone.
+fn only(text: &str) -> Result<&'static [u64], Wrong> {
+    match text {
+        "1" => Ok(&[1]),
+        "2" => Ok(&[2]),
+        "3" => Ok(&[3]),
+        "4" => Ok(&[4]),
+        "5" => Ok(&[5]),
+        _ => Err(Wrong::NotUnderstood),
+    }
+}
+
+/// Numbers parted by commas.
+fn numbers(alloc: Global, list: &str) -> Result<Vec<u64>, Wrong> {
+    let mut all = Vec::new(alloc);
+    for text in list.split(',') {
+        all.push(number(text)?)?;
+    }
+    Ok(all)
+}
+
+/// The moments up to this one, each by one later.
+fn moments(alloc: Global, last: &str) -> Result<Vec<u64>, Wrong> {
+    let last = number(last)?;
+    let mut all = Vec::new(alloc);
+    for moment in 0..=last {
+        all.push(moment)?;
+    }
+    Ok(all)
+}
+
+/// Datagrams parted by commas; of an empty list none.
+fn datagrams(alloc: Global, list: &str) -> Result<Vec<Vec<u8>>, Wrong> {
+    let mut all = Vec::new(alloc);
+    for name in list.split(',') {
+        if !name.is_empty() {
+            put_datagram(alloc, &mut all, name)?;
+        }
+    }
+    Ok(all)
+}
+
+/// A text that is written with `_` for a space and `;` for the end of a line.
+fn spaced(alloc: Global, written: &str) -> Result<Vec<u8>, NoMemory> {
+    let mut bytes = Vec::new(alloc);
+    for byte in written.bytes() {
+        bytes.push(match byte {
+            b'_' => b' ',
+            b';' => b'\n',
+            _ => byte,
+        })?;
+    }
+    Ok(bytes)
+}

@@ -1,0 +1,85 @@
+//! The camera as a whole, with seed 0. Commands come from ports of this machine.
+
+use crate::fault::Fault;
+use crate::frames::SHAPE;
+use crate::row::{bytes, number, port, word};
+use crate::shown::{shown, told};
+use camera_sim::{Camera, MESSAGE_SIZE, PACKET_ROOM};
+use gev_types::{NoMemory, Peer};
+use std::alloc::Global;
+
+/// This machine itself, 127.0.0.1.
+const HOST: u32 = 0x7F00_0001;
+
+/// A camera that can send the packets of its last four frames again.
+pub fn new_camera(alloc: Global) -> Result<Camera, NoMemory> {
+    Camera::new(alloc, 0, SHAPE, 4)
+}
+
+/// A camera that was set to make short frames, and then so or back.
+fn set_camera(alloc: Global, short: bool) -> Result<Camera, NoMemory> {
+    let mut camera = Camera::new(alloc, 0, SHAPE, 4)?;
+    camera.set_short(true);
+    camera.set_short(short);
+    Ok(camera)
+}
+
+/// The answer to a row of the camera.
+pub fn answer(alloc: Global, camera: &mut Camera, row: &str) -> Result<String, Fault> {
+    match word(row, 1) {
+        "new" => *camera = new_camera(alloc)?,
+        "short" => *camera = set_camera(alloc, true)?,
+        "whole" => *camera = set_camera(alloc, false)?,
+        "tick" => camera.tick(number(row, 2)?),
+        "state" => {}
+        "frame" => return frame(alloc, camera),
+        "next" => return next(alloc, camera),
+        _ => return command(alloc, camera, row),
+    }
+    told(alloc, state(camera))
+}
+
+/// How many commands were executed, how many packets wait, whether none does, and how many frames were made.
+fn state(camera: &Camera) -> (u64, usize, bool, u64) {
+    (
+        camera.executed(),
+        camera.waiting_count(),
+        camera.is_idle(),
+        camera.frame_count(),
+    )
+}
+
+/// Makes a frame, and tells its block id.
+fn frame(alloc: Global, camera: &mut Camera) -> Result<String, Fault> {
+    if !camera.is_idle() || camera.frame_count() == u64::MAX {
+        return Err(Fault::NotNow);
+    }
+    told(alloc, camera.frame(alloc)?)
+}
+
+/// The packet that waits first, and the port that it goes to.
+fn next(alloc: Global, camera: &mut Camera) -> Result<String, Fault> {
+    let mut out = [0; PACKET_ROOM];
+    match camera.next_packet(&mut out) {
+        Some((peer, len)) => {
+            let packet = shown(alloc, &out[..len])?;
+            Ok(format!(in alloc; "{} {packet}", peer.port)?)
+        }
+        None => told(alloc, ()),
+    }
+}
+
+/// A command at a moment from a port: its acknowledge.
+fn command(alloc: Global, camera: &mut Camera, row: &str) -> Result<String, Fault> {
+    let moment = number(row, 1)?;
+    let peer = Peer {
+        address: HOST,
+        port: port(row, 2)?,
+    };
+    let sent = bytes(alloc, row, 3)?;
+    let mut out = [0; MESSAGE_SIZE];
+    match camera.command(peer, &sent, moment, &mut out) {
+        Some(len) => Ok(hex::encode(alloc, &out[..len])?),
+        None => told(alloc, ()),
+    }
+}

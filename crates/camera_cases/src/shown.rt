@@ -1,0 +1,31 @@
+//! Answers as text.
+
+use crate::fault::Fault;
+use sha2::{Digest, Sha256};
+use std::alloc::Global;
+use std::fmt::Debug;
+
+/// The longest bytes that are shown as hex digits.
+const MOST_SHOWN: usize = 64;
+
+/// A value as a term.
+pub fn told<T: Debug + Drop>(alloc: Global, value: T) -> Result<String, Fault> {
+    Ok(format!(in alloc; "{value:?}")?)
+}
+
+/// A word of the registers in hex, or the status with which its reading is refused.
+pub fn told_word(alloc: Global, read: Result<u32, u16>) -> Result<String, Fault> {
+    match read {
+        Ok(word) => Ok(format!(in alloc; "{word:08x}")?),
+        Err(status) => Ok(format!(in alloc; "refused {status:04x}")?),
+    }
+}
+
+/// Bytes in hex, or where they are long their number and their SHA-256 digest.
+pub fn shown(alloc: Global, bytes: &[u8]) -> Result<String, Fault> {
+    if bytes.len() <= MOST_SHOWN {
+        return Ok(hex::encode(alloc, bytes)?);
+    }
+    let digest = hex::encode(alloc, Sha256::digest(bytes).as_slice())?;
+    Ok(format!(in alloc; "{} bytes {digest}", bytes.len())?)
+}

@@ -1,0 +1,75 @@
+//! The packets of a camera's stream.
+
+use crate::fault::Fault;
+use crate::frames::SHAPE;
+use crate::row::{count, number, short_number, word};
+use crate::shown::{shown, told};
+use camera_stream::{CameraStream, PACKET_ROOM};
+use gev_frames::frame_of;
+use gev_types::{MAX_PAYLOAD_SIZE, MIN_PAYLOAD_SIZE};
+use gvcp_aux::Resend;
+use resend_store::SentFrame;
+use std::alloc::Global;
+
+/// The answer to a row of the stream.
+pub fn answer(alloc: Global, stream: &mut CameraStream, row: &str) -> Result<String, Fault> {
+    match word(row, 1) {
+        "new" => *stream = new_stream(alloc, count(row, 2)?)?,
+        "ask" => ask(stream, row)?,
+        "drop" => stream.drop_waiting(),
+        "forget" => stream.forget(),
+        "push" => return push(alloc, stream, short_number(row, 2)?),
+        "next" => return next(alloc, stream),
+        _ => return Err(Fault::NotUnderstood),
+    }
+    told(alloc, state(stream))
+}
+
+/// How many packets wait, whether none does, and how many frames were made.
+fn state(stream: &CameraStream) -> (usize, bool, u64) {
+    (
+        stream.waiting_count(),
+        stream.is_idle(),
+        stream.frame_count(),
+    )
+}
+
+fn new_stream(alloc: Global, room: u8) -> Result<CameraStream, Fault> {
+    if room < 1 || room > 8 {
+        return Err(Fault::NotNow);
+    }
+    Ok(CameraStream::new(alloc, room)?)
+}
+
+fn ask(stream: &mut CameraStream, row: &str) -> Result<(), Fault> {
+    stream.reply(Resend {
+        channel: 0,
+        first: short_number(row, 2)?,
+        last: short_number(row, 3)?,
+        block: number(row, 4)?,
+    });
+    Ok(())
+}
+
+/// Makes the next image, and tells the block of the one that fell out.
+fn push(alloc: Global, stream: &mut CameraStream, payload_size: u32) -> Result<String, Fault> {
+    let count = stream.frame_count();
+    let is_size = MIN_PAYLOAD_SIZE <= payload_size && payload_size <= MAX_PAYLOAD_SIZE;
+    if !is_size || !stream.is_idle() || count == u64::MAX {
+        return Err(Fault::NotNow);
+    }
+    let frame = frame_of(alloc, 0, count + 1, SHAPE)?;
+    let fallen = stream.push_frame(SentFrame {
+        frame,
+        payload_size,
+    });
+    told(alloc, fallen.map(|frame| frame.block))
+}
+
+fn next(alloc: Global, stream: &mut CameraStream) -> Result<String, Fault> {
+    let mut out = [0; PACKET_ROOM];
+    match stream.next_packet(&mut out) {
+        Some(len) => shown(alloc, &out[..len]),
+        None => told(alloc, ()),
+    }
+}

@@ -1,0 +1,5 @@
+use Rattle.captured_scripts.proofs.Replayed.{captures_are_replayed}
+use Rattle.captured_scripts.proofs.laws.captures_are_replayed.Goals as goal
+
+pub returns : goal.returns
+returns c = captures_are_replayed

@@ -1,5 +1,0 @@
-use Rattle.gev_lanes.specs.Sides.{AreReadersOf}
-use Rattle.lane_turns.proofs.tests.hear_many.Given as goal
-
-abbrev pub invariant-moments : goal.invariant-moments
-invariant-moments g l = AreReadersOf l.lanes l.reader

@@ -1,0 +1,79 @@
+//! The application's turns.
+
+ghost use Rattle.std.specs.Prelude.{◌≡◌, ◌<◌};
+ghost use Rattle.gev_types.specs.Limits.{place_count};
+ghost use Rattle.buffer_words.specs.Boards.{board_id};
+
+use crate::case::Case;
+use crate::links::print_text;
+use anyhow::{Result, anyhow};
+use buffer_words::{Board, Pass, Tried};
+use gev_apply::apply;
+use gev_gates::MeetingGate;
+use gev_links::{Clock, MemoryClock};
+use gev_types::{Buf, Record};
+use std::alloc::Global;
+use std::sync::Wait;
+
+/// A buffer of three bytes with the whole image `abc` of block 7.
+fn whole(alloc: Global) -> Result<Buf> {
+    let mut buf = Buf::new(alloc, 3)?;
+    buf.put(0, b"abc");
+    if buf.bytes().len() != 3 {
+        return Err(anyhow!("another size"));
+    }
+    buf.set_rec(Record {
+        block: 7,
+        complete: true,
+        larger: false,
+        has_leader: true,
+        data_len: 3,
+        filled: 3,
+    });
+    Ok(buf)
+}
+
+/// Announces this buffer at a place and fills it.
+fn fill_new(board: &Board, pass: &mut Pass, place: u8, buf: Buf) -> Result<()>
+    requires table { pass.old.table ≡ board_id board.now }
+    requires in_range { place < place_count }
+    ensures table { pass.new.table ≡ pass.old.table }
+{
+    let Ok(_) = board.enrol(pass, place, buf) else {
+        return Err(anyhow!("not vacant"));
+    };
+    match board.try_fill(pass, place) {
+        Tried::Did(true) => Ok(()),
+        _ => Err(anyhow!("not filled")),
+    }
+}
+
+/// The application where the acquisition runs or not, where one buffer waits or a second one of 2 bytes too, and so many
+/// are asked for: how many it took, the moment that is read next, how often the gate was passed, the places in the pool,
+/// and the lines.
+pub fn apply_some<R: Wait>(rt: &HostRuntime, handles: &R, case: &Case<'_>) -> Result<()> {
+    let (board, mut pass) = Board::new(rt.alloc())?;
+    if case.number(0) == 1 {
+        let _ = board.start(&mut pass);
+    }
+    fill_new(&board, &mut pass, 0, whole(rt.alloc())?)?;
+    if case.number(1) == 2 {
+        fill_new(&board, &mut pass, 1, Buf::new(rt.alloc(), 2)?)?;
+    }
+    let mut clock = MemoryClock::new(case.moments);
+    let gate = MeetingGate::new(1);
+    let mut out = Vec::new(rt.alloc());
+    let taken = apply(
+        handles,
+        rt.alloc(),
+        &board,
+        &mut pass,
+        &mut clock,
+        &gate,
+        case.small(2),
+        &mut out,
+    )?;
+    print!(rt; "{taken} next {} takes {}", clock.now(), gate.takes())?;
+    print!(rt; " pool {:?}", board.look_pool(&mut pass).as_slice())?;
+    print_text(rt, out.as_slice())
+}

@@ -1,0 +1,104 @@
+//! Boards for the tests of lanes, and the blocks that they are told of.
+
+ghost use Rattle.std.specs.Prelude.{◌≡◌, ◌<◌, IfOk};
+ghost use Rattle.buffer_words.specs.Boards.{board_id};
+
+use acq_core::AcqConfig;
+use board_calls::TakeEnd;
+use buffer_words::{Board, Pass};
+use gev_types::{Buf, Peer};
+use output_queue::take;
+use std::alloc::Global;
+use std::sync::Wait;
+use std::test::Fail;
+
+pub const CAMERA: Peer = Peer {
+    address: 0x7f00_0001,
+    port: 3956,
+};
+
+pub const ONE_BLOCK: AcqConfig = AcqConfig {
+    p: 528,
+    window: 1,
+    timeout: 1000,
+    age: 100,
+    rounds: 1,
+};
+
+// The leader, payload and trailer of the image `abc` in block 1, and of `xyz` in block 2.
+pub const PACKETS: &[Option<(&[u8], Peer)>] = &[
+    Some((
+        b"\0\0\0\0\x81\0\0\0\0\0\0\0\0\0\0\x01\0\0\0\0\0\0\0\x01\0\0\0\0\0\0\0\0\x01\x08\0\x01\0\0\0\x03\0\0\0\x01\0\0\0\0\0\0\0\0\0\0\0\0",
+        CAMERA,
+    )),
+    Some((b"\0\0\0\0\x83\0\0\0\0\0\0\0\0\0\0\x01\0\0\0\x01abc", CAMERA)),
+    Some((
+        b"\0\0\0\0\x82\0\0\0\0\0\0\0\0\0\0\x01\0\0\0\x02\0\0\0\x01\0\0\0\x01",
+        CAMERA,
+    )),
+    Some((
+        b"\0\0\0\0\x81\0\0\0\0\0\0\0\0\0\0\x02\0\0\0\0\0\0\0\x01\0\0\0\0\0\0\0\0\x01\x08\0\x01\0\0\0\x03\0\0\0\x01\0\0\0\0\0\0\0\0\0\0\0\0",
+        CAMERA,
+    )),
+    Some((b"\0\0\0\0\x83\0\0\0\0\0\0\0\0\0\0\x02\0\0\0\x01xyz", CAMERA)),
+    Some((
+        b"\0\0\0\0\x82\0\0\0\0\0\0\0\0\0\0\x02\0\0\0\x02\0\0\0\x01\0\0\0\x01",
+        CAMERA,
+    )),
+];
+
+// Announces a buffer of 4 bytes at a place and puts it into the pool.
+fn bring(alloc: Global, board: &Board, pass: &mut Pass, place: u8) -> Result<(), Fail>
+    requires table { pass.old.table ≡ board_id board.now }
+    requires in_range { place < 15 }
+    ensures table { pass.new.table ≡ pass.old.table }
+{
+    let buf = Buf::new(alloc, 4)?;
+    match board.enrol(pass, place, buf) {
+        Ok(_) => {
+            board.pool(pass, place);
+            Ok(())
+        }
+        Err(_) => Err(Fail::new("not vacant")),
+    }
+}
+
+// The same at place 1, where two buffers are wanted.
+fn bring_second(alloc: Global, board: &Board, pass: &mut Pass, buffers: u8) -> Result<(), Fail>
+    requires table { pass.old.table ≡ board_id board.now }
+    ensures table { pass.new.table ≡ pass.old.table }
+{
+    if buffers < 2 {
+        return Ok(());
+    }
+    bring(alloc, board, pass, 1)
+}
+
+// A board whose acquisition runs, with one or two buffers in the pool.
+pub fn new_board(alloc: Global, buffers: u8) -> Result<(Board, Pass), Fail>
+    ensures table { IfOk result (λ made. made.1.table ≡ board_id made.0) }
+{
+    let (board, mut pass) = Board::new(alloc)?;
+    bring(alloc, &board, &mut pass, 0)?;
+    bring_second(alloc, &board, &mut pass, buffers)?;
+    let _ = board.start(&mut pass);
+    Ok((board, pass))
+}
+
+// The block of the first buffer in the output; 0 where there is none, and 9 where it isn't the block's whole image.
+pub fn next_block<R: Wait>(rt: &R, board: &Board, pass: &mut Pass) -> u64
+    requires table { pass.old.table ≡ board_id board.now }
+    ensures table { pass.new.table ≡ pass.old.table }
+{
+    match take(rt, board, pass) {
+        TakeEnd::Taken(place) => {
+            let buf = board.lift(pass, place);
+            let block = buf.rec().block;
+            let image: &[u8] = if block == 1 { b"abc\0" } else { b"xyz\0" };
+            let is_whole = buf.rec().complete && buf.bytes() == image;
+            board.set_down(pass, place, buf);
+            if is_whole { block } else { 9 }
+        }
+        _ => 0,
+    }
+}

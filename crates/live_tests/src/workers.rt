@@ -1,0 +1,111 @@
+//! Two lanes and their reader, one after the other on one thread.
+
+ghost use Rattle.std.specs.Prelude.{◌≡◌};
+ghost use Rattle.buffer_words.specs.Boards.{board_id};
+ghost use Rattle.gev_lanes.specs.Sides.{AreReadersOf, AreLanesOf, IsLaneAt};
+
+use crate::boards::{CAMERA, ONE_BLOCK, PACKETS, new_board, next_block};
+use acq_core::Acq;
+use buffer_words::{Board, Pass};
+use control_client::Client;
+use gev_acq::AcqEnd;
+use gev_lanes::{LaneEnds, Lanes, ReaderEnds};
+use gev_links::{MemoryClock, MemoryLink, OpenGate};
+use gev_types::NoMemory;
+use lane_reader::read_lanes;
+use lane_worker::lane;
+use mode_calls::Mode;
+use std::alloc::Global;
+use std::process::Abort;
+use std::sync::Wait;
+use std::test::Fail;
+
+// A lane takes its cells up to the end, with a receiver of its own, and meets the reader.
+fn serve_one<R: Wait>(
+    rt: &R,
+    alloc: Global,
+    board: &Board,
+    pass: &mut Pass,
+    lanes: &Lanes,
+    reader: &mut ReaderEnds,
+    mut ends: LaneEnds,
+    mode: Mode,
+) -> Result<(), NoMemory>
+    requires table { pass.old.table ≡ board_id board.now }
+    requires reader { AreReadersOf lanes.now reader.old }
+    requires lane { IsLaneAt lanes.now ends }
+    ensures table { pass.new.table ≡ pass.old.table }
+    ensures reader { reader.new ≡ reader.old }
+{
+    let mut acq = Acq::new(alloc, ONE_BLOCK)?;
+    lane(rt, board, pass, lanes, &mut ends, &mut acq, &OpenGate, mode);
+    lanes.meet(reader, ends);
+    Ok(())
+}
+
+// The lanes, the last one first: lane 1 has block 2, and lane 0 block 1.
+fn serve_all<R: Wait>(
+    rt: &R,
+    alloc: Global,
+    board: &Board,
+    pass: &mut Pass,
+    lanes: &Lanes,
+    reader: &mut ReaderEnds,
+    mut all: Vec<LaneEnds>,
+    mode: Mode,
+) -> Result<(), NoMemory>
+    requires table { pass.old.table ≡ board_id board.now }
+    requires reader { AreReadersOf lanes.now reader.old }
+    requires lanes { AreLanesOf lanes.now all.items }
+    ensures table { pass.new.table ≡ pass.old.table }
+{
+    'lanes: while let Some(ends) = all.pop() {
+        serve_one(rt, alloc, board, pass, lanes, reader, ends, mode)?;
+    }
+    Ok(())
+}
+
+// Six datagrams of two blocks, and a clock that always tells 0: the reader makes its six turns, and the lanes serve what
+// they got, block 2 first. The blocks of two takes.
+fn blocks_served<R: Abort + Wait>(
+    rt: &R,
+    alloc: Global,
+    buffers: u8,
+    mode: Mode,
+) -> Result<(u64, u64), Fail> {
+    let (board, mut pass) = new_board(alloc, buffers)?;
+    let (lanes, mut reader, all) = Lanes::new(alloc, 2)?;
+    let mut client = Client::new();
+    let mut stream = MemoryLink::new(alloc, CAMERA, PACKETS, &[], &[], 0)?;
+    let mut control = MemoryLink::new(alloc, CAMERA, &[], &[], &[], 9)?;
+    let mut clock = MemoryClock::new(&[]);
+    let end = read_lanes(
+        rt,
+        &board,
+        &mut pass,
+        &lanes,
+        &mut reader,
+        &mut client,
+        &mut stream,
+        &mut control,
+        &mut clock,
+        CAMERA,
+        6,
+    );
+    assert!(rt; end == AcqEnd::Spent && control.sent().is_empty());
+    serve_all(rt, alloc, &board, &mut pass, &lanes, &mut reader, all, mode)?;
+    let first = next_block(rt, &board, &mut pass);
+    let second = next_block(rt, &board, &mut pass);
+    Ok((first, second))
+}
+
+// Two lanes fill a block each; with one buffer, which waits with block 2, lane 0 overwrites it; and where lane 0 has a
+// buffer of its own it drops what waits.
+#[test]
+fn two_lanes_fill_by_the_mode(rt: HostRuntime) -> Result<(), Fail> {
+    let alloc = rt.alloc();
+    assert!(rt; blocks_served(&rt, alloc, 2, Mode::OldestFirst)? == (2, 1));
+    assert!(rt; blocks_served(&rt, alloc, 1, Mode::OldestFirstOverwrite)? == (1, 0));
+    assert!(rt; blocks_served(&rt, alloc, 2, Mode::NewestOnly)? == (1, 0));
+    Ok(())
+}

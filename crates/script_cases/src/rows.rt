@@ -1,0 +1,49 @@
+//! Which call a row is.
+
+use crate::captures::{capture, content, moment, moments};
+use crate::fields::Fields;
+use crate::machines::{Held, echo};
+use crate::miss::Miss;
+use crate::pictures::{image, picture};
+use crate::players::{play, takes};
+use crate::reports::{ack, executed, frame, live, soak, stream};
+use crate::scripts::{line, long, name, refused};
+use std::alloc::Global;
+
+/// The answer to a row.
+pub fn answer(alloc: Global, held: &mut Held, row: &str) -> Result<String, Miss> {
+    let mut fields = Fields::new(row);
+    match fields.word() {
+        "begin" => held.begin(alloc),
+        "replay" => held.replay(alloc, fields.rest()),
+        "explain" => held.explain(alloc, fields.rest()),
+        "play" => play(alloc, &mut held.player, &mut fields),
+        "takes" => takes(alloc, &mut fields),
+        "line" => line(alloc, fields.rest()),
+        "name" => name(alloc, fields.rest()),
+        "refused" => refused(alloc, &mut fields),
+        "long" => long(alloc, &mut fields),
+        "echo" => echo(alloc, &mut fields),
+        "script" => held.replay_whole(alloc, &mut fields),
+        word => later_answer(alloc, word, &mut fields),
+    }
+}
+
+/// The answer to a row of reports, pictures or captures.
+fn later_answer(alloc: Global, word: &str, fields: &mut Fields<'_>) -> Result<String, Miss> {
+    match word {
+        "picture" => picture(alloc, fields),
+        "image" => image(alloc, fields),
+        "ack" => ack(alloc, fields),
+        "stream" => stream(alloc, fields),
+        "frame" => frame(alloc, fields),
+        "executed" => executed(alloc, fields),
+        "soak" => soak(alloc, fields),
+        "live" => live(alloc, fields),
+        "capture" => capture(alloc, fields),
+        "content" => content(alloc, fields),
+        "moments" => moments(alloc, fields),
+        "moment" => moment(alloc, fields),
+        _ => Err(Miss::Row),
+    }
+}

@@ -1,0 +1,28 @@
+//! Rows for the crates of sizes and buffers, of the packets of an image stream and of the messages of
+//! the control channel. Each row is a call and what it is given; it is written again with the answer.
+#![tactic(auto)]
+
+mod answers; // which call a row names
+mod base; // sizes, buffers, numbers
+mod control; // messages of the control channel
+mod standard; // standard identifiers
+mod stream; // packets of the stream
+mod words; // what a row gives
+
+use std::io;
+
+fn main(rt: HostRuntime) -> io::Result<()> {
+    for line in rt.lines(rt.alloc()) {
+        let line = line?;
+        let row = line.as_str();
+        if row.is_empty() || row.starts_with('#') {
+            println!(rt; "{row}")?;
+            continue;
+        }
+        match answers::answer(rt.alloc(), row) {
+            Some(answer) => println!(rt; "{row} = {answer}")?,
+            None => println!(rt; "{row} = not understood")?,
+        }
+    }
+    Ok(())
+}

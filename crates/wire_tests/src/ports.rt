@@ -1,0 +1,67 @@
+//! Ports in memory: which binds fail, and what comes back.
+
+ghost use Rattle.std.specs.Prelude.{◌≡◌, [], Some, IfOk};
+
+use crate::links::{HERE, THERE};
+use gev_links::{Clock, CountsFaults, Link, MemoryLink, MemoryPorts, Ports};
+use gev_types::{NoMemory, Peer};
+use std::alloc::Global;
+use std::test::*;
+
+/// A link to which nothing comes.
+fn quiet_link<'a>(
+    alloc: Global,
+    peer: Peer,
+    failing_sends: &'a [u64],
+) -> Result<MemoryLink<'a>, NoMemory>
+    ensures unheard { IfOk result (λ link. link.received ≡ Some []) }
+    ensures unsent { IfOk result (λ link. link.sent ≡ []) }
+    ensures faults { IfOk result (λ link. link.faults ≡ 0) }
+{
+    MemoryLink::new(alloc, peer, &[], &[], failing_sends, 1)
+}
+
+/// Ports whose second bind fails. The first link's first send fails.
+fn some_ports<'a>(alloc: Global) -> Result<MemoryPorts<'a, MemoryLink<'a>>, NoMemory> {
+    let first = quiet_link(alloc, HERE, &[1])?;
+    let second = quiet_link(alloc, HERE, &[])?;
+    let third = quiet_link(alloc, THERE, &[])?;
+    MemoryPorts::new(alloc, first, second, third, [&[1], &[2, 3], &[4]], &[2])
+}
+
+/// The faults of each link, one digit a link behind a 1.
+fn faults(links: &[MemoryLink<'_>]) -> u64 {
+    let mut number = 1u64;
+    for link in links {
+        number = number.wrapping_mul(10).wrapping_add(link.fault_count());
+    }
+    number
+}
+
+#[test]
+fn links_of_ports(rt: HostRuntime) -> Result<(), Fail> {
+    let mut ports = some_ports(rt.alloc())?;
+    let (mut faulty, here) = ports.bind()?;
+    assert!(rt; ports.bind().is_err());
+    let (last, there) = ports.bind()?;
+    assert!(rt; ports.bind().is_err());
+    assert!(rt; here == HERE && there == THERE);
+    assert!(rt; faulty.send(THERE, &[]).is_err());
+    ports.unbind(last);
+    assert!(rt; ports.faults() == 2);
+    ports.unbind(faulty);
+    assert!(rt; ports.faults() == 3);
+    assert!(rt; faults(ports.links()) == 101);
+    Ok(())
+}
+
+#[test]
+fn clocks_of_ports(rt: HostRuntime) -> Result<(), Fail> {
+    let mut ports = some_ports(rt.alloc())?;
+    for want in [1, 2, 4, 0] {
+        let mut clock = ports.clock();
+        assert!(rt; clock.now() == want);
+        ports.unclock(clock);
+    }
+    Ok(())
+}

@@ -1,0 +1,42 @@
+//! Each law of the network, of the worlds and of their runs is called once.
+
+use gev_make::laws as scripts;
+use lossy_queue::laws as network;
+
+#[test]
+fn laws_can_be_called() {
+    network::draws_three();
+    network::puts_one_datagram();
+    network::keeps_order();
+    network::loses_all();
+    scripts::made_lines_are_read();
+    world_machine::run_has_one_text_and_one_end::<u8>();
+    world_machine::run_ends_in_a_round::<u8>();
+    world_machine::rounds_are_acts_of_a_session::<u8>();
+    world_machine::round_submits_at_most_one::<u8>();
+    world_machine::commands_of_a_run_act_once::<u8>();
+    world_machine::host_hears_what_the_camera_gave::<u8>();
+    world_machine::shortness_is_set_first::<u8>();
+    world_machine::setup_alone_is_a_run();
+    world_machine::nothing_comes_through();
+    world_laws::commands_of_a_world_act_once();
+    world_laws::schedule_has_a_trace();
+    world_laws::trace_of_a_world_keeps_promises();
+    world_laws::heard_images_are_true();
+    world_laws::given_packets_are_heard();
+    world_laws::images_of_a_world_are_true();
+    world_laws::packets_are_of_made_frames();
+    world_laws::images_are_of_made_frames();
+    world_laws::run_is_a_world::<u8>();
+    world_laws::soak_is_an_application();
+    world_laws::images_of_a_run_are_true::<u8>();
+    world_laws::text_of_a_run_has_take_lines();
+    soak_ends::setup_ends::<u8>();
+    soak_ends::commands_are_few::<u8>();
+    soak_ends::soak_run_ends();
+    soak_ends::soak_run_has_a_text();
+    soak_ends::soak_commands_act_once();
+    soak_ends::soak_packets_are_of_its_frames();
+    soak_receiver::hosts_keep_promises();
+    soak_receiver::inputs_are_heard();
+}
