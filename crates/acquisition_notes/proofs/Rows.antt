@@ -8,4 +8,4 @@ use Rattle.acquisition_notes.specs.Worked.{NotesAreWorked}
 
 pub notes_are_worked : NotesAreWorked
 unfolding digits encode_with reading header_of number_at leader_of trailer_of payload_of sized_info
-notes_are_worked = record { complete = refl; lost = refl; absent = refl; starved = refl; small = refl; ignored = refl }
+notes_are_worked = record { complete = refl; lost = refl; absent = refl; starved = refl; small = refl; ignored = refl; dropping = refl }

@@ -54,6 +54,11 @@ is_ending (drops b buffer) = false
 is_ending (done o) = true
 is_ending (unbuffered b cause) = true
 
+-- the notes of blocks that retired
+abbrev pub endings : List Note → List Note
+endings [] = []
+endings (x ∷ xs) = if is_ending x then x ∷ endings xs else endings xs
+
 -- of how many notes the test says true
 abbrev pub times_so : (Note → Bool) → List Note → ℕ
 times_so test [] = 0

@@ -1,18 +1,17 @@
 -- What the notes of an acquisition account for.
-use Rattle.std.specs.Prelude.{◌≡◌, ◌⊎◌, ◌↔◌, ⊤, ℕ, ◌+◌, ◌≤◌, true, List, [], ◌∷◌, ◌++◌, length, Some}
-use Rattle.std.specs.List.{AllByRecursion}
+use Rattle.std.specs.Prelude.{◌≡◌, ◌⊎◌, ◌↔◌, ℕ, ◌+◌, ◌≤◌, true, List, [], ◌∷◌, ◌++◌, length, Option, Some, None}
 use Rattle.missing_ranges.specs.Missing.{top_of}
 use Rattle.block_reasons.specs.Reasons.{no_reason}
 use Rattle.block_reasons.specs.Laws.{AreLost}
 use Rattle.board_machine.specs.Machine.{Board, Item}
 use Rattle.acquisition_machine.specs.declared.config.AcqConfig.{AcqConfig}
-use Rattle.acquisition_machine.specs.Blocks.{Given, Open, kept_in, filling_in}
+use Rattle.acquisition_machine.specs.Blocks.{Given, Retirement, kept_in, filling_in}
 use Rattle.acquisition_machine.specs.Machine.{Input, restart, State}
-use Rattle.acquisition_machine.specs.Runs.{no_counts, first_state, After}
+use Rattle.acquisition_machine.specs.Runs.{no_counts, first_state, After, retired_from}
 use Rattle.acquisition_machine.specs.Laws.{HasNoRestart}
-use Rattle.acquisition_notes.specs.Notes.{Outcome, Note, idle, ignored, unwidened, leads, opens, asks, first, absent, drops, done, unbuffered}
+use Rattle.acquisition_notes.specs.Notes.{Outcome, Note, done, unbuffered}
 use Rattle.acquisition_notes.specs.Inputs.{notes_from}
-use Rattle.acquisition_notes.specs.Counted.{counted, is_opening, is_ending, times_so}
+use Rattle.acquisition_notes.specs.Counted.{counted, is_opening, is_ending, endings, times_so}
 use Rattle.acquisition_notes.specs.Spans.{spans, AreAccounted}
 
 -- Every datagram is accounted for: what was counted is what the notes count.
@@ -39,32 +38,32 @@ OpenedAreAccounted =
     → times_so is_opening (notes_from c b ds first_state q)
     ≡ times_so is_ending (notes_from c b ds first_state q) + length (After c q).opens
 
--- The outcome is of a block with a buffer. It names a reason exactly where the image isn't whole, and as lost the
--- ids up to the block's last one that have no kept packet.
-pub record IsReasoned (c : AcqConfig) (o : Outcome) : Type 0 where
-  pub block : Open
-  pub given : Given
-  pub of_block : o.block ≡ block.block
-  pub as_recorded : o.complete ≡ (filling_in c.p block given).rec.complete
-  pub kept : o.kept ≡ length (kept_in c.p block)
+-- The outcome is of this block, which retired with this buffer. It names a reason exactly where the image isn't
+-- whole, and as lost the ids up to the block's last one that have no kept packet.
+pub record IsReasoned (c : AcqConfig) (r : Retirement) (given : Given) (o : Outcome) : Type 0 where
+  pub of_block : o.block ≡ r.was.block
+  pub by : o.cause ≡ r.cause
+  pub place : o.buffer.place ≡ given.place
+  pub as_recorded : o.complete ≡ (filling_in c.p r.was given).rec.complete
+  pub kept : o.kept ≡ length (kept_in c.p r.was)
   pub why : (o.complete ≡ true) ↔ (o.why ≡ no_reason)
-  pub lost : (top : ℕ) → top_of c.p (kept_in c.p block) ≡ Some top → AreLost (kept_in c.p block) top o.lost
+  pub lost : (top : ℕ) → top_of c.p (kept_in c.p r.was) ≡ Some top → AreLost (kept_in c.p r.was) top o.lost
+  -- where no packet tells a last id
+  pub nothing : top_of c.p (kept_in c.p r.was) ≡ None → o.lost ≡ []
 
-abbrev pub IsReasonedNote : AcqConfig → Note → Type 0
-IsReasonedNote c (idle bytes) = ⊤
-IsReasonedNote c (ignored why x) = ⊤
-IsReasonedNote c (unwidened e) = ⊤
-IsReasonedNote c (leads b i) = ⊤
-IsReasonedNote c (opens b buffer) = ⊤
-IsReasonedNote c (asks b r round) = ⊤
-IsReasonedNote c (first b) = ⊤
-IsReasonedNote c (absent r) = ⊤
-IsReasonedNote c (drops b buffer) = ⊤
-IsReasonedNote c (done o) = IsReasoned c o
-IsReasonedNote c (unbuffered b cause) = ⊤
+-- The note tells how this block ended, with this buffer or none.
+abbrev pub TellsEnd : AcqConfig → Retirement → Option Given → Note → Type 0
+TellsEnd c r None x = x ≡ unbuffered r.was.block r.cause
+TellsEnd c r (Some given) x = (o : Outcome) × (x ≡ done o) × IsReasoned c r given o
 
--- So it is of each outcome that is told.
+-- The notes tell how these blocks ended, one each, in order.
+abbrev pub TellEnds : AcqConfig → List Retirement → List Note → Type 0
+TellEnds c [] xs = xs ≡ []
+TellEnds c (r ∷ rs) [] = ⊥
+TellEnds c (r ∷ rs) (x ∷ xs) = TellsEnd c r r.was.given x × TellEnds c rs xs
+
+-- Of the blocks that these inputs retire each one's end is told once, in order, and no other.
 abbrev pub NotesAreReasoned : Type 0
 NotesAreReasoned =
     (c : AcqConfig) (b : Board) (ds : List (List Item)) (s : State) (q : List Input) → 1 ≤ c.p
-    → AllByRecursion (IsReasonedNote c) (notes_from c b ds s q)
+    → TellEnds c (retired_from c s q) (endings (notes_from c b ds s q))

@@ -1,10 +1,10 @@
 -- The notes of some inputs, worked out by hand: images of three bytes, in one payload, with a window of one block.
-use Rattle.std.specs.Prelude.{◌≡◌, ℕ, List, [], ◌∷◌, ◌++◌, codes, Some, None}
+use Rattle.std.specs.Prelude.{◌≡◌, ℕ, true, false, List, [], ◌∷◌, ◌++◌, codes, Some, None}
 use Rattle.gentl_types.specs.declared.word.State.TheVariants.{Held}
 use Rattle.stream_packets.specs.declared.fields.Head.{Head}
 use Rattle.stream_packets.specs.Packets.{leader, payload, trailer, notice}
 use Rattle.gvsp_wire.specs.Plain.{plain}
-use Rattle.board_machine.specs.Machine.{Board, empty_board}
+use Rattle.board_machine.specs.Machine.{Board, Item, empty_board}
 use Rattle.acquisition_machine.specs.declared.config.AcqConfig.{AcqConfig}
 use Rattle.acquisition_machine.specs.Machine.{Input, datagram, claimed, tick, stop}
 use Rattle.acquisition_machine.specs.Runs.{first_state}
@@ -41,6 +41,25 @@ whole b = leads b ∷ finds 3 ∷ leads b ∷ carries b ∷ trails b ∷ []
 
 abbrev pub told : List Input → List ℕ
 told q = notes_text 5 0 (notes_from config board [] first_state q)
+
+-- a board with three buffers
+abbrev pub board_of_three : Board
+board_of_three = record empty_board {
+  words =
+      (record { state = Held; size = 3; generation = 1 }) ∷ (record { state = Held; size = 3; generation = 4 })
+      ∷ (record { state = Held; size = 3; generation = 2 }) ∷ [];
+}
+
+-- an entry of the output, with the record of this block
+abbrev pub waited : ℕ → ℕ → Item
+waited place block = record {
+  place = place;
+  filling = record { bytes = 97 ∷ 98 ∷ 99 ∷ []; rec = record { block = block; complete = true; larger = false; has_leader = true; data_len = 3; filled = 3 } };
+}
+
+-- with these lists of what claims and fills dropped
+abbrev pub told_dropping : List (List Item) → List Input → List ℕ
+told_dropping ds q = notes_text 5 0 (notes_from config board_of_three ds first_state q)
 
 pub record NotesAreWorked : Type 0 where
   -- a block that is whole
@@ -85,3 +104,12 @@ pub record NotesAreWorked : Type 0 where
       ++ (codes "# 5 0 notice block=1 id=1 status=0x800c\n"
       ++ (codes "# 5 0 done block=1 buffer=0.1 cause=stopped complete=0 kept=1 missing=2 why=trailer,payloads ids=1-2 out=1\n"
       ++ (codes "# 5 0 late block=1 id=2 bound=2\n" ++ []))))))
+  -- the claim takes an entry of the output, and the fill drops two
+  pub dropping : told_dropping ((waited 2 6 ∷ []) ∷ (waited 1 7 ∷ waited 2 8 ∷ []) ∷ []) (whole 3) ≡
+      codes "# 5 0 drop block=6 buffer=2.2\n"
+      ++ (codes "# 5 0 open block=3 buffer=0.1\n"
+      ++ (codes "# 5 0 leader block=3 width=3 height=1 pixel=0x01080001 bytes=3 time=0\n"
+      ++ (codes "# 5 0 first block=3\n"
+      ++ (codes "# 5 0 drop block=7 buffer=1.4\n"
+      ++ (codes "# 5 0 drop block=8 buffer=2.2\n"
+      ++ (codes "# 5 0 done block=3 buffer=0.1 cause=complete complete=1 kept=3 missing=0 why=- ids=- out=1\n" ++ []))))))

@@ -20,8 +20,9 @@ pub fn opened_are_accounted()
     ensures { OpenedAreAccounted }
 {}
 
-/// Each note of a block that retired with a buffer names a reason exactly where the image isn't whole, and as
-/// lost exactly the packet ids that have no kept packet.
+/// The end of each block that the inputs retire is told once, in order, and no other: with a buffer its id, its
+/// cause, its place, whether the image is whole and how many packets were kept, a reason exactly where it isn't, and
+/// as lost exactly the packet ids that have no kept packet.
 pub fn notes_are_reasoned()
     ensures { NotesAreReasoned }
 {}

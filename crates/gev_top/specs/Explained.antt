@@ -22,8 +22,8 @@ abbrev pub StandsAccounted : List Note → List Note → Standing → Type 0
 StandsAccounted notes since at_first = ⊤
 StandsAccounted notes since (running c w t) = KeepsAccount c w t notes since
 
--- The trace keeps the promises of a replay. The notes account for each datagram, each block, each opened block and
--- each fill, and name the reasons of each block that retired.
+-- The trace keeps the promises of a replay. The notes account for each datagram, each block, each opened block, each
+-- fill and each drop, and tell the end of each block that retired.
 pub record StandsExplained (m : Telling) : Type 0 where
   pub well : StandsWell m.standing
   pub account : StandsAccounted m.notes m.since m.standing

@@ -1,37 +1,45 @@
 -- At every line of every script all is accounted for.
-use Rattle.std.proofs.Common.{◌≡◌, ◌⊎◌, inl, inr, ℕ, ◌+◌, ◌≤◌, Bool, false, List, [], ◌∷◌, ◌++◌, length, refl, sym, ap, subst, ◌∙◌, arith}
+use Rattle.std.proofs.Common.{◌≡◌, ◌⊎◌, inl, inr, ℕ, ◌+◌, ◌≤◌, Bool, false, List, [], ◌∷◌, ◌++◌, length, map, refl, sym, ap, subst, ◌∙◌, arith}
 use Rattle.std.specs.Prelude.{if◌then◌else◌}
 use Rattle.std.specs.List.{AllByRecursion}
 use Rattle.script_runs.specs.declared.ran.Ran.TheVariants.{GoesOn}
 use Rattle.script_runs.specs.Runs.{RunsLines}
+use Rattle.std.proofs.lemmas.List.{length-append, length-map}
+use Rattle.board_machine.specs.declared.events.Entry.{Entry}
+use Rattle.board_machine.specs.Histories.{Run}
+use Rattle.board_machine.proofs.Handouts.{length-places}
+use Rattle.mode_calls.specs.Dropped.{dropped_items}
 use Rattle.acquisition_machine.specs.declared.config.AcqConfig.{AcqConfig}
 use Rattle.acquisition_machine.specs.Machine.{Input, datagram, claimed, tick, stop, restart, State}
-use Rattle.acquisition_machine.specs.Runs.{no_counts, first_state, after_from, After}
+use Rattle.acquisition_machine.specs.Runs.{no_counts, first_state, after_from, After, retired_from}
 use Rattle.acquisition_machine.specs.Laws.{HasNoRestart}
-use Rattle.acquisition_machine.proofs.Joining.{after_from-append}
-use Rattle.acquisition_machine.proofs.Order.{all_append}
+use Rattle.acquisition_machine.proofs.Joining.{after_from-append, retired_from-append}
 use Rattle.acquisition_machine.proofs.Window.{blocks_are_in_order}
 use Rattle.acquisition_notes.specs.Notes.{Note, idle, ignored, unwidened, leads, opens, asks, first, absent, drops, done, unbuffered}
 use Rattle.acquisition_notes.specs.Inputs.{notes_from}
-use Rattle.acquisition_notes.specs.Counted.{counted, is_opening, is_ending, times_so}
+use Rattle.acquisition_notes.specs.Counted.{counted, is_opening, is_ending, endings, times_so}
 use Rattle.acquisition_notes.specs.Spans.{spans}
-use Rattle.acquisition_notes.specs.Laws.{IsReasonedNote}
+use Rattle.acquisition_notes.specs.Laws.{TellEnds}
 use Rattle.acquisition_notes.proofs.Counts.{counted-append, inputs_counted}
 use Rattle.acquisition_notes.proofs.Opened.{times-append, run_balances}
 use Rattle.acquisition_notes.proofs.Spans.{spans-append, Accounts, run_accounts, accounted}
-use Rattle.acquisition_notes.proofs.Reasoned.{notes_are_reasoned}
+use Rattle.acquisition_notes.proofs.Reasoned.{endings-append, ends_both, notes_are_reasoned}
 use Rattle.acquisition_notes.proofs.OfInputs.{IsOfInput, notes_are_of_inputs}
 use Rattle.script_trace.specs.Trace.{Trace}
 use Rattle.script_trace.specs.Opening.{opening}
+use Rattle.script_trace.specs.Modes.{acquires, dropped as dropped_places}
+use Rattle.script_trace.proofs.Histories.{opening_runs}
+use Rattle.script_trace.proofs.Counting.{takes_counted}
 use Rattle.script_trace.specs.Ending.{filled_blocks}
 use Rattle.script_trace.proofs.BlockFills.{opening_agrees}
 use Rattle.script_trace.specs.Wide.{Wide, nothing_wide, meaning, kept_behind}
 use Rattle.script_trace.specs.Standing.{Standing, running, config_of}
 use Rattle.script_trace.specs.Standing.{first as at_first}
 use Rattle.script_notes.specs.LineNotes.{inputs_as, notes_as}
-use Rattle.script_notes.specs.Explaining.{Telling, untold, begins, since_after, ExplainsFirst, ExplainsLater, ExplainRuns}
-use Rattle.script_notes.specs.Laws.{is_idle, is_unwidened, HasSizes, StandsTold, ScriptsAreAccounted}
-use Rattle.script_notes.proofs.Filled.{wholes, wholes_in, Agrees, Fills, fills_told, filled_counted, whole_counted}
+use Rattle.script_notes.specs.Explaining.{Telling, untold, is_drop, begins, since_after, ExplainsFirst, ExplainsLater, ExplainRuns}
+use Rattle.script_notes.specs.Laws.{is_idle, is_unwidened, told_fills, told_drops_of, told_drops, drop_told, HasSizes, StandsTold, ScriptsAreAccounted}
+use Rattle.script_notes.proofs.Filled.{fills_in, Agrees, Fills, fills_told, filled_counted, whole_counted}
+use Rattle.script_notes.proofs.Told.{drops-append}
 use Rattle.script_notes.proofs.Others.{read_by_other}
 use Rattle.script_notes.proofs.Lines.{Adds, line_adds}
 
@@ -42,9 +50,11 @@ record Keeps (c : AcqConfig) (w : Wide) (t : Trace) (notes since : List Note) : 
   refused : times_so is_unwidened notes ≡ w.refused
   opened : times_so is_opening notes ≡ times_so is_ending notes + length (After c t.inputs).opens
   blocks : Accounts (After c t.inputs).floor (spans since)
-  reasons : AllByRecursion (IsReasonedNote c) notes
+  reasons : TellEnds c (retired_from c first_state t.inputs) (endings notes)
   agrees : Agrees c t
-  wholes : wholes notes ≡ wholes_in (filled_blocks t)
+  filled : told_fills notes ≡ fills_in (filled_blocks t)
+  run : Run t.entries
+  dropped : told_drops notes ≡ map drop_told (dropped_items acquires t.entries)
 
 -- ---- notes of inputs
 
@@ -112,6 +122,16 @@ blocks_keep c w v t after since added inputs some a b = go a.shape where
 
 -- ---- one line
 
+ends_keep : (c : AcqConfig) (t after : Trace) (notes added theirs : List Note) (inputs : List Input) → TellEnds c (retired_from c first_state t.inputs) (endings notes)
+    → endings added ≡ endings theirs
+    → retired_from c first_state after.inputs ≡ retired_from c first_state t.inputs ++ retired_from c (After c t.inputs) inputs
+    → TellEnds c (retired_from c (After c t.inputs) inputs) (endings theirs)
+    → TellEnds c (retired_from c first_state after.inputs) (endings (notes ++ added))
+ends_keep c t after notes added theirs inputs before mine gone now =
+    subst (λ rs. TellEnds c rs (endings (notes ++ added))) (sym gone)
+    (subst (λ l. TellEnds c (retired_from c first_state t.inputs ++ retired_from c (After c t.inputs) inputs) l) (sym (endings-append notes added ∙ ap (λ l. endings notes ++ l) mine))
+    (ends_both c (retired_from c first_state t.inputs) (retired_from c (After c t.inputs) inputs) (endings notes) (endings theirs) before now))
+
 line_keeps : (c : AcqConfig) (w v : Wide) (t after : Trace) (notes since added : List Note) (inputs : List Input) → HasSizes c → Adds c w v t after added inputs → Keeps c w t notes since
     → Keeps c v after (notes ++ added) (since_after inputs since added)
 line_keeps c w v t after notes since added inputs sizes a k =
@@ -124,6 +144,9 @@ line_keeps c w v t after notes since added inputs sizes a k =
     let balance = run_balances c a.words a.dropped s inputs sizes.window (blocks_are_in_order c t.inputs sizes.window) in
     let opens : length (After c after.inputs).opens ≡ length (after_from c s inputs).opens = ap (λ (u : State). length u.opens) next in
     let fills : Fills c t after a.words inputs = a.fills k.agrees in
+    let mine : endings added ≡ endings theirs = ap endings a.are ∙ (endings-append a.front theirs ∙ ap (λ l. l ++ endings theirs) a.is_front.endings) in
+    let gone : retired_from c first_state after.inputs ≡ retired_from c first_state t.inputs ++ retired_from c s inputs =
+    ap (retired_from c first_state) a.inputs_are ∙ retired_from-append c first_state t.inputs inputs in
     record {
       counts = counted-append notes added no_counts
           ∙ ap (counted added) k.counts
@@ -136,11 +159,14 @@ line_keeps c w v t after notes since added inputs sizes a k =
       refused = omega (arith, part is_unwidened, k.refused, a.is_front.refused, never_refused theirs of_inputs, a.refused);
       opened = omega (arith, part is_opening, part is_ending, k.opened, a.is_front.opens, a.is_front.ends, balance, opens);
       blocks = blocks_keep c w v t after since added inputs sizes.window a k.blocks;
-      reasons = all_append (IsReasonedNote c) notes added k.reasons
-          (subst (λ l. AllByRecursion (IsReasonedNote c) l) (sym a.are)
-          (all_append (IsReasonedNote c) a.front theirs a.is_front.reasons (notes_are_reasoned c a.words a.dropped s inputs sizes.payload)));
+      reasons = ends_keep c t after notes added theirs inputs k.reasons mine gone (notes_are_reasoned c a.words a.dropped s inputs sizes.payload);
       agrees = fills.agrees;
-      wholes = ap (λ l. wholes (notes ++ l)) a.are ∙ fills_told c t after a.words a.dropped notes a.front inputs k.wholes a.is_front.wholes fills;
+      filled = ap (λ l. told_fills (notes ++ l)) a.are ∙ fills_told c t after a.words a.dropped notes a.front inputs k.filled a.is_front.fills fills;
+      run = a.runs k.run;
+      dropped = drops-append notes added
+          ∙ (ap (λ l. told_drops notes ++ told_drops l) a.are
+          ∙ (ap (λ l. told_drops notes ++ l) (drops-append a.front theirs ∙ ap (λ l. l ++ told_drops theirs) a.is_front.drops)
+          ∙ (ap (λ l. l ++ told_drops theirs) k.dropped ∙ sym (a.drops k.run))));
     }
 
 -- ---- all lines
@@ -156,15 +182,17 @@ opening_keeps c version = record {
   refused = refl;
   opened = omega arith;
   blocks = inl (refl, refl);
-  reasons = tt;
+  reasons = refl;
   agrees = opening_agrees c;
-  wholes = refl;
+  filled = refl;
+  run = opening_runs;
+  dropped = refl;
 }
 
 -- the kept words may differ in the greatest block
 same_refused : (c : AcqConfig) (v : Wide) (t after : Trace) (notes since : List Note) → Keeps c v after notes since → Keeps c (kept_behind v t after) after notes since
 same_refused c v t after notes since k =
-    record { counts = k.counts; idle = k.idle; refused = k.refused; opened = k.opened; blocks = k.blocks; reasons = k.reasons; agrees = k.agrees; wholes = k.wholes }
+    record { counts = k.counts; idle = k.idle; refused = k.refused; opened = k.opened; blocks = k.blocks; reasons = k.reasons; agrees = k.agrees; filled = k.filled; run = k.run; dropped = k.dropped }
 
 later_keeps : (c : AcqConfig) (w : Wide) (t : Trace) (notes since : List Note) (n : ℕ) (line text : List ℕ) (new : Telling) → ExplainsLater c w t notes since n line text new
     → KeepsSo notes since (running c w t) → KeepsSo new.notes new.since new.standing
@@ -198,6 +226,21 @@ all_keep m n [] told new (silent, is) k = subst (λ (u : Telling). KeepsSo u.not
 all_keep m n (l ∷ lines) told new (mid, front, rest, runs, later, parts) k =
     all_keep mid (n + 1) lines rest new later (one_keeps m.notes m.since m.standing (n + 1) l front mid runs k)
 
+one_drop : (x : Note) → (if is_drop x then 1 else 0) ≡ length (told_drops_of x)
+one_drop (drops b buffer) = refl
+one_drop _ = refl
+
+told_many : (xs : List Note) → times_so is_drop xs ≡ length (told_drops xs)
+told_many [] = refl
+told_many (x ∷ xs) = omega (arith, one_drop x, told_many xs, length-append (told_drops_of x) (told_drops xs))
+
+-- the drops that are told are as many as the places that were dropped
+drops_counted : (notes : List Note) (h : List Entry) → Run h → told_drops notes ≡ map drop_told (dropped_items acquires h) → times_so is_drop notes ≡ length (dropped_places h)
+drops_counted notes h run told =
+    told_many notes
+    ∙ (ap length told
+    ∙ (length-map (dropped_items acquires h) drop_told ∙ (sym (length-places (dropped_items acquires h)) ∙ ap length (takes_counted acquires h run))))
+
 told_so : (notes since : List Note) (s : Standing) → KeepsSo notes since s → StandsTold notes since s
 told_so notes since at_first k = tt
 told_so notes since (running c w t) k = λ sizes.
@@ -209,8 +252,11 @@ told_so notes since (running c w t) k = λ sizes.
       opened = h.opened;
       blocks = accounted (After c t.inputs).floor (spans since) h.blocks;
       reasons = h.reasons;
-      fills = filled_counted notes (filled_blocks t) h.wholes;
-      complete = whole_counted notes (filled_blocks t) h.wholes;
+      filled = h.filled;
+      fills = filled_counted notes (filled_blocks t) h.filled;
+      complete = whole_counted notes (filled_blocks t) h.filled;
+      dropped = h.dropped;
+      drops = drops_counted notes t.entries h.run h.dropped;
     }
 
 pub scripts_are_accounted : ScriptsAreAccounted

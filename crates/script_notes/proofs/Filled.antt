@@ -32,79 +32,63 @@ use Rattle.script_trace.specs.Adding.{AddsPart}
 use Rattle.script_trace.specs.Ending.{filled_blocks}
 use Rattle.script_trace.specs.Fills.{tried_blocks}
 use Rattle.script_trace.proofs.BlockFills.{IsByOther, leads_agree}
-use Rattle.script_notes.specs.Laws.{is_filled, is_filled_whole}
+use Rattle.script_notes.specs.Laws.{is_filled, is_filled_whole, ToldFill, told_fill, told_fills_of, told_fills, fill_told}
 use Rattle.script_notes.proofs.Shapes.{IsShaped, KeepsOpen, StaysOpen}
 
 -- ---- what notes tell
 
-abbrev wholes_if : Bool → Bool → List Bool
-wholes_if true complete = complete ∷ []
-wholes_if false complete = []
+pub told-append : (xs ys : List Note) → told_fills (xs ++ ys) ≡ told_fills xs ++ told_fills ys
+told-append [] ys = refl
+told-append (x ∷ xs) ys = ap (λ l. told_fills_of x ++ l) (told-append xs ys) ∙ sym (append_assoc (told_fills_of x) (told_fills xs) (told_fills ys))
 
-abbrev wholes_of : Note → List Bool
-wholes_of (done o) = wholes_if o.out o.complete
-wholes_of _ = []
-
--- of each block whose buffer went into the output, whether its image is whole
-abbrev pub wholes : List Note → List Bool
-wholes [] = []
-wholes (x ∷ xs) = wholes_of x ++ wholes xs
-
-pub wholes-append : (xs ys : List Note) → wholes (xs ++ ys) ≡ wholes xs ++ wholes ys
-wholes-append [] ys = refl
-wholes-append (x ∷ xs) ys = ap (λ l. wholes_of x ++ l) (wholes-append xs ys) ∙ sym (append_assoc (wholes_of x) (wholes xs) (wholes ys))
-
--- how many are true
-abbrev trues : List Bool → ℕ
+-- how many are of whole images
+abbrev trues : List ToldFill → ℕ
 trues [] = 0
-trues (b ∷ bs) = (if b then 1 else 0) + trues bs
+trues (f ∷ fs) = (if f.complete then 1 else 0) + trues fs
 
-one_filled : (x : Note) → (if is_filled x then 1 else 0) ≡ length (wholes_of x)
-one_filled (done o) = by o.out o.complete where
-  by : (out complete : Bool) → (if out then 1 else 0) ≡ length (wholes_if out complete)
-  by true complete = omega arith
-  by false complete = refl
+one_filled : (x : Note) → (if is_filled x then 1 else 0) ≡ length (told_fills_of x)
+one_filled (done o) = by o.out (told_fill o) where
+  by : (out : Bool) (f : ToldFill) → (if out then 1 else 0) ≡ length (if out then f ∷ [] else [])
+  by true f = omega arith
+  by false f = refl
 one_filled _ = refl
 
-pub filled_told : (xs : List Note) → times_so is_filled xs ≡ length (wholes xs)
+pub filled_told : (xs : List Note) → times_so is_filled xs ≡ length (told_fills xs)
 filled_told [] = refl
-filled_told (x ∷ xs) = omega (arith, one_filled x, filled_told xs, length-append (wholes_of x) (wholes xs))
+filled_told (x ∷ xs) = omega (arith, one_filled x, filled_told xs, length-append (told_fills_of x) (told_fills xs))
 
-trues-append : (xs ys : List Bool) → trues (xs ++ ys) ≡ trues xs + trues ys
+trues-append : (xs ys : List ToldFill) → trues (xs ++ ys) ≡ trues xs + trues ys
 trues-append [] ys = omega arith
 trues-append (x ∷ xs) ys = omega (arith, trues-append xs ys)
 
-one_whole : (x : Note) → (if is_filled_whole x then 1 else 0) ≡ trues (wholes_of x)
-one_whole (done o) = by o.out o.complete where
-  by : (out complete : Bool) → (if out && complete then 1 else 0) ≡ trues (wholes_if out complete)
-  by true complete = omega arith
-  by false complete = refl
+one_whole : (x : Note) → (if is_filled_whole x then 1 else 0) ≡ trues (told_fills_of x)
+one_whole (done o) = by o.out (told_fill o) where
+  by : (out : Bool) (f : ToldFill) → (if out && f.complete then 1 else 0) ≡ trues (if out then f ∷ [] else [])
+  by true f = omega arith
+  by false f = refl
 one_whole _ = refl
 
-whole_told : (xs : List Note) → times_so is_filled_whole xs ≡ trues (wholes xs)
+whole_told : (xs : List Note) → times_so is_filled_whole xs ≡ trues (told_fills xs)
 whole_told [] = refl
-whole_told (x ∷ xs) = omega (arith, one_whole x, whole_told xs, trues-append (wholes_of x) (wholes xs))
+whole_told (x ∷ xs) = omega (arith, one_whole x, whole_told xs, trues-append (told_fills_of x) (told_fills xs))
 
 -- ---- what entries and retired blocks are
 
-abbrev is_whole : Item → Bool
-is_whole x = x.filling.rec.complete
+-- what is to be told of these entries
+abbrev pub fills_in : List Item → List ToldFill
+fills_in xs = map fill_told xs
 
--- of each entry, whether its image is whole
-abbrev pub wholes_in : List Item → List Bool
-wholes_in xs = map is_whole xs
-
-trues_in : (xs : List Item) → trues (wholes_in xs) ≡ count_by (λ x. x.filling.rec.complete) xs
-trues_in = is_count_by (λ l. trues (wholes_in l)) (λ x. x.filling.rec.complete) refl (λ x l. by x.filling.rec.complete (trues (wholes_in l))) where
+trues_in : (xs : List Item) → trues (fills_in xs) ≡ count_by (λ x. x.filling.rec.complete) xs
+trues_in = is_count_by (λ l. trues (fills_in l)) (λ x. x.filling.rec.complete) refl (λ x l. by x.filling.rec.complete (trues (fills_in l))) where
   by : (whole : Bool) (n : ℕ) → (if whole then 1 else 0) + n ≡ cond whole (1 + n) n
   by true n = refl
   by false n = omega arith
 
-pub whole_counted : (notes : List Note) (xs : List Item) → wholes notes ≡ wholes_in xs → times_so is_filled_whole notes ≡ count_by (λ x. x.filling.rec.complete) xs
+pub whole_counted : (notes : List Note) (xs : List Item) → told_fills notes ≡ fills_in xs → times_so is_filled_whole notes ≡ count_by (λ x. x.filling.rec.complete) xs
 whole_counted notes xs e = whole_told notes ∙ (ap trues e ∙ trues_in xs)
 
-pub filled_counted : (notes : List Note) (xs : List Item) → wholes notes ≡ wholes_in xs → times_so is_filled notes ≡ length xs
-filled_counted notes xs e = filled_told notes ∙ (ap length e ∙ length-map xs is_whole)
+pub filled_counted : (notes : List Note) (xs : List Item) → told_fills notes ≡ fills_in xs → times_so is_filled notes ≡ length xs
+filled_counted notes xs e = filled_told notes ∙ (ap length e ∙ length-map xs fill_told)
 
 -- where the stream is closed nothing goes into the output
 abbrev pub unless : {A : Type 0} → Bool → List A → List A
@@ -119,28 +103,28 @@ unless-append : {A : Type 0} (closed : Bool) (xs ys : List A) → unless closed 
 unless-append true xs ys = refl
 unless-append false xs ys = refl
 
-unless-wholes : (closed : Bool) (xs : List Item) → unless closed (wholes_in xs) ≡ wholes_in (unless closed xs)
-unless-wholes true xs = refl
-unless-wholes false xs = refl
+unless-fills : (closed : Bool) (xs : List Item) → unless closed (fills_in xs) ≡ fills_in (unless closed xs)
+unless-fills true xs = refl
+unless-fills false xs = refl
 
 -- what these blocks give the output
-abbrev given : AcqConfig → Board → List Retirement → List Bool
-given c b rs = unless b.closed (wholes_in (map item_of (fills c.p rs)))
+abbrev given : AcqConfig → Board → List Retirement → List ToldFill
+given c b rs = unless b.closed (fills_in (map item_of (fills c.p rs)))
 
 given-append : (c : AcqConfig) (b : Board) (rs qs : List Retirement) → given c b (rs ++ qs) ≡ given c b rs ++ given c b qs
 given-append c b rs qs =
-    ap (λ l. unless b.closed (wholes_in (map item_of l))) (fills-append c.p rs qs)
-    ∙ (ap (λ l. unless b.closed (wholes_in l)) (map-append item_of (fills c.p rs) (fills c.p qs))
-    ∙ (ap (unless b.closed) (map-append is_whole (map item_of (fills c.p rs)) (map item_of (fills c.p qs)))
-    ∙ unless-append b.closed (wholes_in (map item_of (fills c.p rs))) (wholes_in (map item_of (fills c.p qs)))))
+    ap (λ l. unless b.closed (fills_in (map item_of l))) (fills-append c.p rs qs)
+    ∙ (ap (λ l. unless b.closed (fills_in l)) (map-append item_of (fills c.p rs) (fills c.p qs))
+    ∙ (ap (unless b.closed) (map-append fill_told (map item_of (fills c.p rs)) (map item_of (fills c.p qs)))
+    ∙ unless-append b.closed (fills_in (map item_of (fills c.p rs))) (fills_in (map item_of (fills c.p qs)))))
 
 -- ---- the notes of inputs
 
 abbrev Silent : List Note → Type 0
-Silent xs = wholes xs ≡ []
+Silent xs = told_fills xs ≡ []
 
-both : (xs ys : List Note) (fs bs : List Bool) → wholes xs ≡ fs → wholes ys ≡ bs → wholes (xs ++ ys) ≡ fs ++ bs
-both xs ys fs bs e f = wholes-append xs ys ∙ (ap (λ l. l ++ wholes ys) e ∙ ap (λ l. fs ++ l) f)
+both : (xs ys : List Note) (fs bs : List ToldFill) → told_fills xs ≡ fs → told_fills ys ≡ bs → told_fills (xs ++ ys) ≡ fs ++ bs
+both xs ys fs bs e f = told-append xs ys ∙ (ap (λ l. l ++ told_fills ys) e ∙ ap (λ l. fs ++ l) f)
 
 of_drops : (b : Board) (xs : List Item) → Silent (drop_notes b xs)
 of_drops b [] = refl
@@ -154,24 +138,24 @@ of_gap floor b = go (nat_lt floor b) (floor == 1) where
   go false w = refl
 
 of_ended : (c : AcqConfig) (b : Board) (ds : List (List Item)) (o : Open) (cause : Cause) (got : Option Given)
-    → wholes (ended_notes c b ds o cause got) ≡ unless b.closed (wholes_in (map item_of (fill_of c.p o got)))
+    → told_fills (ended_notes c b ds o cause got) ≡ unless b.closed (fills_in (map item_of (fill_of c.p o got)))
 of_ended c b ds o cause None = sym (unless-nil b.closed)
 of_ended c b ds o cause (Some g) =
     both (drop_notes b (first_dropped ds)) _ [] _ (of_drops b (first_dropped ds)) (by b.closed _)
   where
-    by : (closed complete : Bool) → wholes_if (not closed) complete ++ [] ≡ unless closed (complete ∷ [])
-    by true complete = refl
-    by false complete = refl
+    by : (closed : Bool) (f : ToldFill) → (if not closed then f ∷ [] else []) ++ [] ≡ unless closed (f ∷ [])
+    by true f = refl
+    by false f = refl
 
-of_retired : (c : AcqConfig) (b : Board) (ds : List (List Item)) (floor : ℕ) (rs : List Retirement) → wholes (retired_notes c b ds floor rs) ≡ given c b rs
+of_retired : (c : AcqConfig) (b : Board) (ds : List (List Item)) (floor : ℕ) (rs : List Retirement) → told_fills (retired_notes c b ds floor rs) ≡ given c b rs
 of_retired c b ds floor [] = sym (unless-nil b.closed)
 of_retired c b ds floor (r ∷ rs) =
     both (gap floor r.was.block) _ [] _ (of_gap floor r.was.block)
-    (both (ended_notes c b ds r.was r.cause r.was.given) _ (unless b.closed (wholes_in (map item_of (fill_of c.p r.was r.was.given)))) (given c b rs)
+    (both (ended_notes c b ds r.was r.cause r.was.given) _ (unless b.closed (fills_in (map item_of (fill_of c.p r.was r.was.given)))) (given c b rs)
     (of_ended c b ds r.was r.cause r.was.given) (of_retired c b (after_end ds r.was.given) (r.was.block + 1) rs))
-    ∙ (sym (unless-append b.closed (wholes_in (map item_of (fill_of c.p r.was r.was.given))) (wholes_in (map item_of (fills c.p rs))))
-    ∙ (ap (unless b.closed) (sym (map-append is_whole (map item_of (fill_of c.p r.was r.was.given)) (map item_of (fills c.p rs))))
-    ∙ ap (λ l. unless b.closed (wholes_in l)) (sym (map-append item_of (fill_of c.p r.was r.was.given) (fills c.p rs)))))
+    ∙ (sym (unless-append b.closed (fills_in (map item_of (fill_of c.p r.was r.was.given))) (fills_in (map item_of (fills c.p rs))))
+    ∙ (ap (unless b.closed) (sym (map-append fill_told (map item_of (fill_of c.p r.was r.was.given)) (map item_of (fills c.p rs))))
+    ∙ ap (λ l. unless b.closed (fills_in l)) (sym (map-append item_of (fill_of c.p r.was r.was.given) (fills c.p rs)))))
 
 of_kept : (x : Option StreamPacket) → Silent (kept_note x)
 of_kept None = refl
@@ -199,7 +183,7 @@ of_rounds c now [] = refl
 of_rounds c now (o ∷ os) =
     both (ask_notes o.block (o.rounds + 1) (ranges_asked c now o)) _ [] [] (of_asks o.block (o.rounds + 1) (ranges_asked c now o)) (of_rounds c now os)
 
-of_turn : (c : AcqConfig) (b : Board) (ds : List (List Item)) (s : State) (i : Input) → wholes (turn_notes c b ds s i (step c s i)) ≡ given c b (step c s i).retired
+of_turn : (c : AcqConfig) (b : Board) (ds : List (List Item)) (s : State) (i : Input) → told_fills (turn_notes c b ds s i (step c s i)) ≡ given c b (step c s i).retired
 of_turn c b ds s (datagram bytes) =
     both (need_notes (packet_of bytes) (step c s (datagram bytes)).need) _ [] _ (of_need (packet_of bytes) (step c s (datagram bytes)).need)
     (of_retired c b ds s.floor (step c s (datagram bytes)).retired)
@@ -211,7 +195,7 @@ of_turn c b ds s (tick moment) =
 of_turn c b ds s stop = of_retired c b ds s.floor (step c s stop).retired
 of_turn c b ds s restart = sym (unless-nil b.closed)
 
-of_inputs : (c : AcqConfig) (b : Board) (ds : List (List Item)) (s : State) (q : List Input) → wholes (notes_from c b ds s q) ≡ given c b (retired_from c s q)
+of_inputs : (c : AcqConfig) (b : Board) (ds : List (List Item)) (s : State) (q : List Input) → told_fills (notes_from c b ds s q) ≡ given c b (retired_from c s q)
 of_inputs c b ds s [] = sym (unless-nil b.closed)
 of_inputs c b ds s (i ∷ q) =
     both (turn_notes c b ds s i (step c s i)) _ (given c b (step c s i).retired) (given c b (retired_from c (step c s i).after q)) (of_turn c b ds s i)
@@ -284,7 +268,7 @@ Agrees c t = tried_blocks t ≡ retired_items c t.inputs
 -- What a line with these inputs adds, and with these words of the board before it.
 pub record Fills (c : AcqConfig) (t after : Trace) (b : Board) (inputs : List Input) : Type 0 where
   pub agrees : Agrees c after
-  pub fills : wholes_in (filled_blocks after) ≡ wholes_in (filled_blocks t) ++ given c b (retired_from c (After c t.inputs) inputs)
+  pub fills : fills_in (filled_blocks after) ≡ fills_in (filled_blocks t) ++ given c b (retired_from c (After c t.inputs) inputs)
 
 part_tried : (c : AcqConfig) (t : Trace) (part : Part) → Agrees c t → Agrees c (grown t part)
     → tried (own_of acquirer part.entries) ≡ items_from c (After c t.inputs) part.inputs
@@ -296,7 +280,7 @@ part_tried c t part before after =
     ∙ (items_from-append c first_state t.inputs part.inputs
     ∙ ap (λ l. l ++ items_from c (After c t.inputs) part.inputs) (sym before)))))
 
-pub line_fills : (c : AcqConfig) (t : Trace) (l : ScriptLine) (part : Part) → IsByOther l → AddsPart c t l part → IsShaped part → Agrees c t → Fills c t (grown t part) (board t) part.inputs
+pub line_fills : (c : AcqConfig) (t : Trace) (l : ScriptLine) (part : Part) → IsByOther l → AddsPart c t l part → IsShaped c t part → Agrees c t → Fills c t (grown t part) (board t) part.inputs
 line_fills c t l part other adds shape before =
     let after : Agrees c (grown t part) = leads_agree c t (l ∷ []) (grown t part) (other, tt) (part, adds, refl) before in
     let mine : filled (own_of acquirer part.entries) ≡ unless (board t).closed (items_from c (After c t.inputs) part.inputs) =
@@ -304,26 +288,26 @@ line_fills c t l part other adds shape before =
     record {
       agrees = after;
       fills =
-          ap (λ l. wholes_in (filled l)) (own_of-append acquirer t.entries part.entries)
-          ∙ (ap wholes_in (filled-append (own_of acquirer t.entries) (own_of acquirer part.entries))
-          ∙ (map-append is_whole (filled_blocks t) (filled (own_of acquirer part.entries))
-          ∙ ap (λ l. wholes_in (filled_blocks t) ++ l)
-          (ap wholes_in mine ∙ sym (unless-wholes (board t).closed (items_from c (After c t.inputs) part.inputs)))));
+          ap (λ l. fills_in (filled l)) (own_of-append acquirer t.entries part.entries)
+          ∙ (ap fills_in (filled-append (own_of acquirer t.entries) (own_of acquirer part.entries))
+          ∙ (map-append fill_told (filled_blocks t) (filled (own_of acquirer part.entries))
+          ∙ ap (λ l. fills_in (filled_blocks t) ++ l)
+          (ap fills_in mine ∙ sym (unless-fills (board t).closed (items_from c (After c t.inputs) part.inputs)))));
     }
 
 -- a line that changes nothing
 pub nothing_fills : (c : AcqConfig) (t after : Trace) → after ≡ t → Agrees c t → Fills c t after (board t) []
 nothing_fills c t after same before = record {
   agrees = subst (Agrees c) (sym same) before;
-  fills = ap (λ (u : Trace). wholes_in (filled_blocks u)) same
-      ∙ (sym (append-nil (wholes_in (filled_blocks t))) ∙ ap (λ l. wholes_in (filled_blocks t) ++ l) (sym (unless-nil (board t).closed)));
+  fills = ap (λ (u : Trace). fills_in (filled_blocks u)) same
+      ∙ (sym (append-nil (fills_in (filled_blocks t))) ∙ ap (λ l. fills_in (filled_blocks t) ++ l) (sym (unless-nil (board t).closed)));
 }
 
 -- the notes of a line tell what its fills are
 pub fills_told : (c : AcqConfig) (t after : Trace) (b : Board) (ds : List (List Item)) (notes front : List Note) (inputs : List Input)
-    → wholes notes ≡ wholes_in (filled_blocks t) → Silent front → Fills c t after b inputs
-    → wholes (notes ++ (front ++ notes_from c b ds (After c t.inputs) inputs)) ≡ wholes_in (filled_blocks after)
+    → told_fills notes ≡ fills_in (filled_blocks t) → Silent front → Fills c t after b inputs
+    → told_fills (notes ++ (front ++ notes_from c b ds (After c t.inputs) inputs)) ≡ fills_in (filled_blocks after)
 fills_told c t after b ds notes front inputs before none f =
-    both notes (front ++ notes_from c b ds (After c t.inputs) inputs) (wholes_in (filled_blocks t)) (given c b (retired_from c (After c t.inputs) inputs)) before
+    both notes (front ++ notes_from c b ds (After c t.inputs) inputs) (fills_in (filled_blocks t)) (given c b (retired_from c (After c t.inputs) inputs)) before
     (both front (notes_from c b ds (After c t.inputs) inputs) [] (given c b (retired_from c (After c t.inputs) inputs)) none (of_inputs c b ds (After c t.inputs) inputs))
     ∙ sym f.fills

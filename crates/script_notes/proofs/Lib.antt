@@ -8,3 +8,9 @@ pub mod Filled
 pub mod Others
 pub mod Lines
 pub mod Accounts
+pub mod OneExplanation
+pub mod Worked
+pub mod Yields
+pub mod Taken
+pub mod Told
+pub mod Listed

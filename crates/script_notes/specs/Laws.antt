@@ -1,22 +1,24 @@
 -- What explanations are, in words of their own.
-use Rattle.std.specs.Prelude.{◌≡◌, ⊤, ℕ, ◌+◌, ◌≤◌, ◌&&◌, Bool, true, false, List, length, count_by}
-use Rattle.std.specs.List.{AllByRecursion}
+use Rattle.std.specs.Prelude.{◌≡◌, ⊤, ℕ, ◌+◌, ◌≤◌, ◌&&◌, Bool, true, false, List, [], ◌∷◌, ◌++◌, length, map, count_by, if◌then◌else◌}
 use Rattle.script_runs.specs.declared.ran.Ran.{Ran}
-use Rattle.script_runs.specs.Runs.{RunsLines}
+use Rattle.script_runs.specs.Runs.{RunsLines, AreLines}
 use Rattle.script_runs.specs.Verdicts.{Judges}
+use Rattle.board_machine.specs.Machine.{Item}
 use Rattle.acquisition_machine.specs.declared.config.AcqConfig.{AcqConfig}
-use Rattle.acquisition_machine.specs.Runs.{no_counts, After}
-use Rattle.acquisition_notes.specs.Notes.{Note, idle, unwidened, done}
-use Rattle.acquisition_notes.specs.Counted.{counted, is_opening, is_ending, times_so}
+use Rattle.acquisition_machine.specs.Runs.{no_counts, first_state, After, retired_from}
+use Rattle.acquisition_notes.specs.Notes.{Outcome, Note, idle, unwidened, drops, done}
+use Rattle.acquisition_notes.specs.Counted.{counted, is_opening, is_ending, endings, times_so}
 use Rattle.acquisition_notes.specs.Spans.{spans, AreAccounted}
-use Rattle.acquisition_notes.specs.Laws.{IsReasonedNote}
+use Rattle.acquisition_notes.specs.Laws.{TellEnds}
+use Rattle.mode_calls.specs.Dropped.{dropped_items}
 use Rattle.script_trace.specs.Trace.{Trace}
+use Rattle.script_trace.specs.Modes.{acquires, dropped as dropped_places}
 use Rattle.script_trace.specs.Wide.{Wide}
 use Rattle.script_trace.specs.Ending.{filled_blocks}
 use Rattle.script_trace.specs.Standing.{Standing, running, ReplayRuns, replay_verdict, IsBehind}
 use Rattle.script_trace.specs.Standing.{first as at_first}
 use Rattle.script_notes.specs.NoteLines.{LeavesOut}
-use Rattle.script_notes.specs.Explaining.{Telling, untold, ExplainRuns, ExplainRefuses}
+use Rattle.script_notes.specs.Explaining.{Telling, untold, is_drop, ExplainRuns, ExplainRefuses}
 
 -- ---- the report
 
@@ -41,6 +43,25 @@ pub record ExplanationsHoldReports : Type 0 where
       (m : Telling) (n : ℕ) (line : List ℕ) (ran : Ran) (told : List ℕ) (new : Telling) → ExplainRuns m n line ran told new
       → HoldsLast m n line ran told new
 
+-- ---- one explanation
+
+-- two texts, and what was told and how the script stands after each
+pub record IsSameTelling (said said_also : List ℕ) (new new_also : Telling) : Type 0 where
+  pub text : said ≡ said_also
+  pub telling : new ≡ new_also
+
+-- One script has one explanation: the same lines lead from the same telling to one text and one telling, and a line
+-- can't both go on and end the script.
+pub record ExplanationIsOne : Type 0 where
+  pub lines_agree :
+      (m : Telling) (n : ℕ) (lines : List (List ℕ)) (text text_also : List ℕ) (new new_also : Telling) → AreLines lines
+      → RunsLines ExplainRuns m n lines text new → RunsLines ExplainRuns m n lines text_also new_also
+      → IsSameTelling text text_also new new_also
+  pub line_agrees :
+      (m : Telling) (n : ℕ) (line : List ℕ) (ran ran_also : Ran) (text text_also : List ℕ) (new new_also : Telling)
+      → length line ≤ 20000 → ExplainRuns m n line ran text new → ExplainRuns m n line ran_also text_also new_also
+      → (ran ≡ ran_also) × IsSameTelling text text_also new new_also
+
 -- ---- what is accounted for
 
 abbrev pub is_idle : Note → Bool
@@ -61,7 +82,47 @@ abbrev pub is_filled_whole : Note → Bool
 is_filled_whole (done o) = o.out && o.complete
 is_filled_whole _ = false
 
--- Every datagram, every block, every opened block and every fill is accounted for, and each outcome is reasoned.
+-- what is told of a fill
+pub record ToldFill : Type 0 where
+  pub place : ℕ
+  pub block : ℕ
+  pub complete : Bool
+
+abbrev pub told_fill : Outcome → ToldFill
+told_fill o = record { place = o.buffer.place; block = o.block; complete = o.complete }
+
+abbrev pub told_fills_of : Note → List ToldFill
+told_fills_of (done o) = if o.out then told_fill o ∷ [] else []
+told_fills_of _ = []
+
+-- of each block whose buffer went into the output
+abbrev pub told_fills : List Note → List ToldFill
+told_fills [] = []
+told_fills (x ∷ xs) = told_fills_of x ++ told_fills xs
+
+-- what is to be told of an entry of the output
+abbrev pub fill_told : Item → ToldFill
+fill_told x = record { place = x.place; block = x.filling.rec.block; complete = x.filling.rec.complete }
+
+-- what is told of an entry of the output that gave way to another
+pub record ToldDrop : Type 0 where
+  pub place : ℕ
+  pub block : ℕ
+
+abbrev pub told_drops_of : Note → List ToldDrop
+told_drops_of (drops b buffer) = record { place = buffer.place; block = b } ∷ []
+told_drops_of _ = []
+
+abbrev pub told_drops : List Note → List ToldDrop
+told_drops [] = []
+told_drops (x ∷ xs) = told_drops_of x ++ told_drops xs
+
+-- what is to be told of it
+abbrev pub drop_told : Item → ToldDrop
+drop_told x = record { place = x.place; block = x.filling.rec.block }
+
+-- Every datagram, every block, every opened block, every fill and every drop is accounted for, and each end is
+-- reasoned.
 pub record KeepsAccount (c : AcqConfig) (w : Wide) (t : Trace) (notes since : List Note) : Type 0 where
   -- each count of the acquisition is that of the notes
   pub counts : counted notes no_counts ≡ (After c t.inputs).counts
@@ -70,10 +131,16 @@ pub record KeepsAccount (c : AcqConfig) (w : Wide) (t : Trace) (notes since : Li
   pub opened : times_so is_opening notes ≡ times_so is_ending notes + length (After c t.inputs).opens
   -- of the last acquisition, and of each before it as long as it lasted
   pub blocks : AreAccounted (spans since) (After c t.inputs).floor
-  pub reasons : AllByRecursion (IsReasonedNote c) notes
-  -- what the report's last line tells as the acquisition's fills, and as those of whole images
+  -- of the blocks that retired each one's end is told once, in order, and no other
+  pub reasons : TellEnds c (retired_from c first_state t.inputs) (endings notes)
+  -- the acquisition's fills in order, each with its place, its block and whether its image is whole
+  pub filled : told_fills notes ≡ map fill_told (filled_blocks t)
+  -- what the acquisition's takes took out of the output in order, each with its place and its record's block
+  pub dropped : told_drops notes ≡ map drop_told (dropped_items acquires t.entries)
+  -- what the report's last line tells as the acquisition's fills, as those of whole images, and as dropped
   pub fills : times_so is_filled notes ≡ length (filled_blocks t)
   pub complete : times_so is_filled_whole notes ≡ count_by (λ x. x.filling.rec.complete) (filled_blocks t)
+  pub drops : times_so is_drop notes ≡ length (dropped_places t.entries)
 
 -- the numbers of every configuration that a header gives
 pub record HasSizes (c : AcqConfig) : Type 0 where

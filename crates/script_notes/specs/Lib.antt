@@ -3,3 +3,4 @@ pub mod LineNotes
 pub mod Explaining
 pub mod NoteLines
 pub mod Laws
+pub mod Worked

@@ -7,4 +7,7 @@
 
 mod laws;
 
-pub use laws::{explanations_are_judged, explanations_hold_reports, scripts_are_accounted};
+pub use laws::{
+    drops_are_worked, explanation_is_one, explanations_are_judged, explanations_hold_reports,
+    scripts_are_accounted,
+};
