@@ -1,5 +1,5 @@
 -- The application's part in the whole history.
-use Rattle.std.proofs.Common.{◌≡◌, ℕ, false, List, [], ◌∷◌, ◌++◌, refl, sym, ap, subst, ◌∙◌, inl, inr, append_assoc}
+use Rattle.std.proofs.Common.{◌≡◌, ℕ, Bool, true, false, List, [], ◌∷◌, ◌++◌, refl, sym, ap, subst, ◌∙◌, append_assoc}
 use Rattle.std.proofs.lemmas.List.{append-nil, append_cancel_left}
 use Rattle.gentl_types.specs.declared.buffer_id.BufferId.{BufferId}
 use Rattle.board_machine.specs.declared.events.Entry.{Entry}
@@ -17,7 +17,7 @@ use Rattle.buffer_words.specs.Several.{EntersEach}
 use Rattle.buffer_words.proofs.Several.{each_one, each_then}
 use Rattle.gev_apply.specs.TakenIds.{taken_ids}
 use Rattle.gev_apply.specs.Looks.{lent_in, items_of, ids_of}
-use Rattle.gev_apply.specs.History.{StopsAtMost, IsStopAtMost, ApplicationsPartStays}
+use Rattle.gev_apply.specs.History.{StopsAfter, IsStopAfter, ApplicationsPartStays}
 use Rattle.gev_apply.proofs.Ids.{ids-append, ids_none}
 
 -- all that a new pass did is what it entered
@@ -27,37 +27,37 @@ own_entered s t events none_there e =
     ∙ (ap (λ l. own_of s.number l) e.seen
     ∙ (own_of-append s.number s.seen e.between ∙ (ap (λ l. l ++ own_of s.number e.between) none_there ∙ e.own)))
 
--- ---- what the pass did after its turns
+-- ---- what a pass did after its turns
 
--- So much was seen after the turns, and it has the pass's stop alone, if that.
-record Later (s t u : Token) (events : List Event) : Type 0 where
-  stops : List Event
-  are : IsStopAtMost stops
-  between : List Entry
-  seen : u.seen ≡ t.seen ++ between
-  own : own u ≡ entries_of s.number (events ++ stops)
+-- So much was seen after the turns, and of the pass it has the stop alone, where there had to be one.
+pub record Later (stopped : Bool) (s t u : Token) (events : List Event) : Type 0 where
+  pub stops : List Event
+  pub are : IsStopAfter stopped stops
+  pub between : List Entry
+  pub seen : u.seen ≡ t.seen ++ between
+  pub own : own u ≡ entries_of s.number (events ++ stops)
 
-later : (s t u : Token) (events : List Event) → own s ≡ [] → EntersEach s events t → StopsAtMost t u → Later s t u events
-later s t u events none_there e (inl same) = record {
+pub later : (stopped : Bool) (s t u : Token) (events : List Event) → own s ≡ [] → EntersEach s events t → StopsAfter stopped t u → Later stopped s t u events
+later false s t u events none_there e same = record {
   stops = [];
-  are = inl refl;
+  are = refl;
   between = [];
   seen = ap (λ (x : Token). x.seen) same ∙ sym (append-nil t.seen);
   own = ap own same ∙ (own_entered s t events none_there e ∙ ap (λ l. entries_of s.number l) (sym (append-nil events)));
 }
-later s t u events none_there e (inr stop) =
+later true s t u events none_there e stop =
     let one : EntersEach t (Stop false stop.0 ∷ []) u = each_one t u (Stop false stop.0) stop.1 refl in
     record {
       stops = Stop false stop.0 ∷ [];
-      are = inr (stop.0, refl);
+      are = (stop.0, refl);
       between = one.between;
       seen = one.seen;
       own = own_entered s u (events ++ Stop false stop.0 ∷ []) none_there (each_then s t u events (Stop false stop.0 ∷ []) e one);
     }
 
-stop_hands : (n : ℕ) (stops : List Event) → IsStopAtMost stops → handed (entries_of n stops) ≡ []
-stop_hands n stops (inl none_there) = ap (λ l. handed (entries_of n l)) none_there
-stop_hands n stops (inr stop) = ap (λ l. handed (entries_of n l)) stop.1
+stop_hands : (n : ℕ) (stopped : Bool) (stops : List Event) → IsStopAfter stopped stops → handed (entries_of n stops) ≡ []
+stop_hands n false stops none_there = ap (λ l. handed (entries_of n l)) none_there
+stop_hands n true stops stop = ap (λ l. handed (entries_of n l)) stop.1
 
 -- ---- what was taken
 
@@ -77,7 +77,7 @@ ids_whole n seen front more h ids is new none_there takes =
     ∙ (append-nil (taken_ids n front) ∙ (takes ∙ ap (λ l. l ++ ids) (ids_none n empty_board seen (ap handed new))))))
 
 pub part_stays : ApplicationsPartStays
-part_stays told now made s t u h looks stops new run front whole = record {
+part_stays told now made stopped s t u h looks stops new run front whole = record {
   looked = looks.events;
   looks = looks.looks;
   stops = then.stops;
@@ -90,8 +90,8 @@ part_stays told now made s t u h looks stops new run front whole = record {
   ids = ids_whole s.number s.seen t.seen more h (ids_of (lent_in made)) is new none_there looks.ids;
 }
   where
-    then : Later s t u looks.events
-    then = later s t u looks.events new looks.enters stops
+    then : Later stopped s t u looks.events
+    then = later stopped s t u looks.events new looks.enters stops
 
     more : List Entry
     more = then.between ++ front.rest
@@ -112,4 +112,4 @@ part_stays told now made s t u h looks stops new run front whole = record {
         ∙ (entries_of-append s.number looks.events then.stops ∙ ap (λ l. l ++ entries_of s.number then.stops) (sym own_before))))))
 
     none_there : handed (own_of s.number more) ≡ []
-    none_there = ap handed own_more ∙ stop_hands s.number then.stops then.are
+    none_there = ap handed own_more ∙ stop_hands s.number stopped then.stops then.are

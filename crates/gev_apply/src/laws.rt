@@ -10,7 +10,7 @@ pub fn turns_are_of_their_kind()
 {}
 
 /// In the history of a whole run, which begins with what the application has seen, its entries are those of its
-/// turns and of its stop, and what it took are the turns' buffers.
+/// turns and, where it stopped the run, of its stop, and what it took are the turns' buffers.
 pub fn the_applications_part_stays()
     ensures { ApplicationsPartStays }
 {}

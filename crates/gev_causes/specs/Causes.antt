@@ -1,11 +1,12 @@
 -- Why a live run's reader ended as its client did.
 use Rattle.std.specs.Prelude.{◌≡◌, ℕ, ◌+◌, false, List, [], ◌∷◌, ◌++◌}
 use Rattle.board_machine.specs.declared.events.Event.{Event}
+use Rattle.gvcp_wire.specs.Messages.{PlainCommand}
 use Rattle.client_machine.specs.Times.{SENDS}
 use Rattle.client_machine.specs.declared.outcome.Outcome.{Outcome}
 use Rattle.client_machine.specs.declared.outcome.Outcome.TheVariants.{Waiting, Idle, Acked, Refused, NoAnswer}
 use Rattle.client_machine.specs.Machine.{Client, HasSubmittedNone}
-use Rattle.client_machine.specs.Events.{Request}
+use Rattle.client_machine.specs.Events.{Request, new_request}
 use Rattle.acquisition_machine.specs.declared.config.AcqConfig.{AcqConfig}
 use Rattle.mode_calls.specs.declared.mode.Mode.{Mode}
 use Rattle.gev_links.specs.Links.{Address}
@@ -28,11 +29,10 @@ pub data HasSent (r : Request) : ℕ → List Move → Type 0 where
   again : (n : ℕ) (ms : List Move) → HasSent r n ms → HasSent r (n + 1) (sends r.bytes ∷ ms)
   meanwhile : (n : ℕ) (m : Move) (ms : List Move) → HasSent r n ms → is_answering r m ≡ false → HasSent r n (m ∷ ms)
 
--- A request with this number was sent three times, and had no answer since.
+-- A command was sent three times under this request number, and no matching acknowledge came after the first of these.
 pub record IsUnanswered (req : ℕ) (ms : List Move) : Type 0 where
-  pub request : Request
-  pub number : request.req ≡ req
-  pub sent : HasSent request SENDS ms
+  pub command : PlainCommand
+  pub sent : HasSent (new_request req command) SENDS ms
 
 -- the moves of the setup's turns and of the reader's
 abbrev pub run_moves : (mode : Mode) (c : AcqConfig) (camera stream : Address) (o n : Outside) (journal journal_after : List Turn) (turns : ℕ) (end : AcqEnd)
@@ -40,7 +40,7 @@ abbrev pub run_moves : (mode : Mode) (c : AcqConfig) (camera stream : Address) (
 run_moves mode c camera stream o n journal journal_after turns end made turned last on =
     setup_moves stream (set_up o.client 0) on.setup ++ reader_moves c [] on.client made
 
--- Where the reader of a new client ends with NoAnswer, a request with that number was sent three times over the
+-- Where the reader of a new client ends with NoAnswer, a command was sent three times with that number over the
 -- control link, and no matching acknowledge came after the first of these. The moves are what that link sent and
 -- heard.
 pub record GivesUpUnanswered (mode : Mode) (c : AcqConfig) (camera stream : Address) (o n : Outside) (journal journal_after : List Turn) (turns req : ℕ)

@@ -1,6 +1,12 @@
 -- What the camera's worker did, by its promise.
 use Rattle.std.proofs.Common.{◌≡◌, inl, inr, ℕ, List, [], ◌∷◌, ◌++◌, length, Option, ◌<◌, refl, sym, ap, subst, ◌∙◌, append_assoc, append-nil}
-use Rattle.buffer_words.specs.Passes.{Token}
+use Rattle.board_machine.specs.declared.events.Entry.{Entry}
+use Rattle.board_machine.specs.declared.events.Event.{Event}
+use Rattle.board_machine.specs.declared.events.Event.TheVariants.{LookRun}
+use Rattle.board_machine.specs.Histories.{own_of}
+use Rattle.buffer_words.specs.Passes.{Token, Enters, own}
+use Rattle.buffer_words.specs.Several.{EntersEach}
+use Rattle.buffer_words.proofs.Several.{each_push}
 use Rattle.camera_machine.specs.Camera.{Camera}
 use Rattle.gev_links.specs.Links.{Address, failed, Adds}
 use Rattle.gev_links.specs.Moments.{TellsEach}
@@ -9,10 +15,12 @@ use Rattle.gev_links.proofs.Growing.{tells_more, adds_then}
 use Rattle.gev_serve.specs.declared.ends.ServeEnd.{ServeEnd}
 use Rattle.gev_serve.specs.declared.ends.ServeEnd.TheVariants.{Stopped, Fault, NoMemory, Spent}
 use Rattle.gev_serve.specs.Wires.{Wire, SendEnd, send_failed, gave_up, EndsSending}
-use Rattle.gev_serve.specs.Turns.{Served, answer_with, framed_turn, sent_in, after_turns, sent_over, answers_in, moments_in}
+use Rattle.gev_serve.specs.Turns.{Served, answer_with, framed_turn, sent_in, after_turns, sent_over, answers_in, moments_in, looks_in}
 use Rattle.gev_serve.specs.Serving.{TurnsOn, MakesPart, EndsMissing, EndsCut, ServesTo}
-use Rattle.gev_crew.specs.Work.{most_turns}
-use Rattle.gev_live.specs.Parts.{LiveCamera}
+use Rattle.gev_apply.proofs.Whole.{Later, later}
+use Rattle.gev_crew.specs.Work.{most_turns, has_failed, StopsIf}
+use Rattle.gev_live.specs.Parts.{LiveCamera, EndsLooks, LiveServes}
+use Rattle.gev_live.proofs.ApplicationPart.{stops_after}
 
 answers-push : (ts : List Served) (t : Served) → answers_in (ts ++ t ∷ []) ≡ answers_in ts ++ answer_with t.arrived ∷ []
 answers-push [] t = refl
@@ -152,3 +160,42 @@ camera_part Spent s new v w told now_told p q serves = spent s new v w told now_
 camera_part NoMemory s new v w told now_told p q serves = lacked s v w told now_told (cut_turn gave_up s v w told now_told p q most_turns serves)
 camera_part Fault s new v w told now_told p q (inl misses) = missing s new v w told now_told p q most_turns misses
 camera_part Fault s new v w told now_told p q (inr cut) = failed_send s v w told now_told (cut_turn send_failed s v w told now_told p q most_turns cut)
+
+-- ---- the worker's own entries
+
+-- a look after the turns
+look_more : (p middle m : Token) (made : List Served) (run : ℕ) → EntersEach p (looks_in made) middle → Enters middle (LookRun run) m
+    → EntersEach p (looks_in made ++ LookRun run ∷ []) m
+look_more p middle m made run enters look = each_push p middle m (looks_in made) (LookRun run) enters look refl
+
+by_looks : (end : ServeEnd) (whole : List Served) (looks : List Event) (p m q : Token) (h : List Entry) → EndsLooks end whole looks → EntersEach p looks m
+    → StopsIf (has_failed end) m q → own p ≡ [] → own_of p.number h ≡ own q → LiveServes p.number end whole h
+by_looks end whole looks p m q h are enters stops new mine = record {
+  looks = looks;
+  are = are;
+  stops = then.stops;
+  are_stops = then.are;
+  own = mine ∙ then.own;
+}
+  where
+    then : Later (has_failed end) p m q looks
+    then = later (has_failed end) p m q looks new enters (stops_after (has_failed end) m q stops)
+
+pub camera_owns : (end : ServeEnd) (s new : Camera) (v w : Wire) (told now_told : Option (List ℕ)) (p m q : Token) (h : List Entry)
+    → (serves : ServesTo end s new v w told now_told p m most_turns) → StopsIf (has_failed end) m q → own p ≡ [] → own_of p.number h ≡ own q
+    → LiveServes p.number end (camera_part end s new v w told now_told p m serves).whole h
+unfolding camera_part stopped spent missing lacked failed_send cut_turn
+camera_owns Stopped s new v w told now_told p m q h serves stops first mine =
+    by_looks Stopped serves.on.made (looks_in serves.on.made ++ LookRun serves.run ∷ []) p m q h (serves.run, serves.ended, refl)
+    (look_more p serves.middle m serves.on.made serves.run serves.on.on.entries serves.look) stops first mine
+camera_owns Spent s new v w told now_told p m q h serves stops first mine =
+    by_looks Spent serves.made (looks_in serves.made) p m q h refl serves.on.entries stops first mine
+camera_owns NoMemory s new v w told now_told p m q h serves stops first mine =
+    by_looks NoMemory serves.begins.on.made (looks_in serves.begins.on.made ++ LookRun 1 ∷ []) p m q h refl
+    (look_more p serves.begins.middle m serves.begins.on.made 1 serves.begins.on.on.entries serves.begins.look) stops first mine
+camera_owns Fault s new v w told now_told p m q h (inl misses) stops first mine =
+    by_looks Fault misses.begins.on.made (looks_in misses.begins.on.made ++ LookRun 1 ∷ []) p m q h refl
+    (look_more p misses.begins.middle m misses.begins.on.made 1 misses.begins.on.on.entries misses.begins.look) stops first mine
+camera_owns Fault s new v w told now_told p m q h (inr cut) stops first mine =
+    by_looks Fault cut.begins.on.made (looks_in cut.begins.on.made ++ LookRun 1 ∷ []) p m q h refl
+    (look_more p cut.begins.middle m cut.begins.on.made 1 cut.begins.on.on.entries cut.begins.look) stops first mine

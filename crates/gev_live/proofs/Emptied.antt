@@ -124,10 +124,10 @@ reader_front mode c n end made h g l reading is some =
 
 -- ---- the end
 
-pub emptied : (mode : Mode) (c : AcqConfig) (buffers : ℕ) (k : Crew) (end : AcqEnd) (made : List Turned) (looked : List Looked) (h : List Entry) → LiveHistory mode buffers k h
-    → LiveReading mode c k.reader end made h → LiveTakes k.application looked h → EndsStopped looked → HasNone is_stop (own_of k.camera h)
+pub emptied : (mode : Mode) (c : AcqConfig) (buffers : ℕ) (k : Crew) (end : AcqEnd) (made : List Turned) (enough : Bool) (looked : List Looked) (h : List Entry) → LiveHistory mode buffers k h
+    → LiveReading mode c k.reader end made h → LiveTakes k.application enough looked h → EndsStopped looked → HasNone is_stop (own_of k.camera h)
     → HasNone is_stop (own_of 0 h) → (After h).out ≡ []
-emptied mode c buffers k end made looked h history reading takes stopped camera host = by_reader (own_of k.reader two.later) refl
+emptied mode c buffers k end made enough looked h history reading takes stopped camera host = by_reader (own_of k.reader two.later) refl
   where
     n : ℕ
     n = k.application

@@ -1,5 +1,5 @@
 -- Where fewer frames were handed out than asked, and nothing failed, the output is empty.
-use Rattle.std.proofs.Common.{◌≡◌, ◌⊎◌, inl, inr, ℕ, Bool, true, false, List, [], ◌∷◌, Option, Result, Ok, Err, refl, sym, ap, subst, ◌∙◌}
+use Rattle.std.proofs.Common.{◌≡◌, ◌⊎◌, inl, inr, ℕ, ◌==◌, Bool, true, false, List, [], ◌∷◌, Option, Result, Ok, Err, refl, sym, ap, subst, ◌∙◌}
 use Rattle.gev_types.specs.declared.memory.NoMemory as memory
 use Rattle.board_machine.specs.declared.events.Entry.{Entry}
 use Rattle.board_machine.specs.declared.events.Event.{Event}
@@ -140,6 +140,6 @@ all_or_empty mode c buffers k served end made told now frames turns lines (Ok ta
 
     go : IsEnough frames taken application.made → (taken ≡ frames) ⊎ ((After h).out ≡ [])
     go (inl all) = inl all.0
-    go (inr stopped) = inr (emptied mode c buffers k end made application.made h history reading application.takes stopped (camera well) host)
+    go (inr stopped) = inr (emptied mode c buffers k end made (taken == frames) application.made h history reading application.takes stopped (camera well) host)
 all_or_empty mode c buffers k served end made told now frames turns lines (Err error) answer h history reading application camera host cause is =
     absurd (told_well served end frames turns (Err error) (first_told (status_by served end frames turns (Err error)) answer cause is))

@@ -37,7 +37,7 @@ use Rattle.gev_live.specs.Ran.{RanCrew}
 use Rattle.gev_live.proofs.Quiet.{one_size}
 use Rattle.gev_live.proofs.Untaken.{reader_untaken}
 use Rattle.gev_live.proofs.Acquiring.{HandsOut, hands_out}
-use Rattle.gev_live.proofs.CameraPart.{camera_part}
+use Rattle.gev_live.proofs.CameraPart.{camera_part, camera_owns}
 use Rattle.gev_live.proofs.ApplicationPart.{application_part}
 use Rattle.gev_live.specs.Parts.{LiveCamera, LiveApplication}
 use Rattle.gev_live.proofs.Meaning.{links_stay, link_failed, answer_means, spent_all, never_spent}
@@ -73,6 +73,8 @@ ran_live n camera stream answer o e served read taken lines written written_afte
   history = history;
   served = served;
   camera_part = served_part;
+  camera_own = camera_owns served (live_camera n.seed) r.serves.camera o.camera e.camera o.camera_clock e.camera_clock r.a r.serves.middle r.worked_a u.seen
+      r.serves.serves r.serves.stops r.crew.first.new own_a;
   read = read;
   reader_part = record {
     client = r.client;

@@ -19,7 +19,7 @@ use Rattle.board_machine.specs.declared.events.Event.{Event}
 use Rattle.gev_live.specs.Told.{Told, live_config, live_camera}
 use Rattle.gev_live.specs.History.{Crew, live_size, LiveHistory}
 use Rattle.gev_live.specs.Endings.{taken_of, status_by, is_told, EndsSo}
-use Rattle.gev_live.specs.Parts.{LiveReader, LiveCamera, LiveApplication}
+use Rattle.gev_live.specs.Parts.{LiveReader, LiveCamera, LiveServes, LiveApplication}
 
 -- what is asked of a live run
 pub record Numbers : Type 0 where
@@ -58,6 +58,7 @@ pub record LiveRun (n : Numbers) (camera stream : Address) (answer : Status) (o 
   pub history : LiveHistory n.mode n.buffers crew h
   pub served : ServeEnd
   pub camera_part : LiveCamera (live_camera n.seed) o.camera e.camera o.camera_clock e.camera_clock served
+  pub camera_own : LiveServes crew.camera served camera_part.whole h
   pub read : AcqEnd
   pub reader_part : LiveReader n.mode live_config camera stream o e n.turns crew.reader read h
   pub applied : Result ℕ NoMemory

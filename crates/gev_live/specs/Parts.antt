@@ -1,9 +1,11 @@
 -- What each worker of a live run did, by the whole history and by what its links and its clock told.
-use Rattle.std.specs.Prelude.{◌≡◌, ◌⊎◌, ℕ, ◌<◌, ◌≤◌, List, [], ◌∷◌, ◌++◌, length, Option, Result, Ok, Err}
+use Rattle.std.specs.Prelude.{◌≡◌, ◌≢◌, ◌⊎◌, ℕ, ◌<◌, ◌≤◌, List, [], ◌∷◌, ◌++◌, length, Option, Result, Ok, Err}
 use Rattle.gev_types.specs.declared.memory.NoMemory.{NoMemory}
 use Rattle.board_machine.specs.declared.events.Entry.{Entry}
 use Rattle.board_machine.specs.declared.events.Event.{Event}
+use Rattle.board_machine.specs.declared.events.Event.TheVariants.{LookRun}
 use Rattle.board_machine.specs.Histories.{own_of}
+use Rattle.board_machine.specs.Adding.{entries_of}
 use Rattle.acquisition_machine.specs.declared.config.AcqConfig.{AcqConfig}
 use Rattle.acquisition_machine.specs.Machine.{stop}
 use Rattle.block_fills.specs.Fills.{tried, retired_items}
@@ -32,8 +34,8 @@ use Rattle.gev_serve.specs.Turns as camera
 use Rattle.gev_apply.specs.Looks.{Looked, lent_in, lines_of}
 use Rattle.gev_apply.specs.Looks as application
 use Rattle.gev_apply.specs.Applied.{IsEnough}
-use Rattle.gev_apply.specs.History.{LiveTakes}
-use Rattle.gev_crew.specs.Work.{most_turns}
+use Rattle.gev_apply.specs.History.{IsStopAfter, LiveTakes}
+use Rattle.gev_crew.specs.Work.{most_turns, has_failed, has_enough}
 use Rattle.gev_live.specs.Told.{Told, reader_side}
 use Rattle.gev_live.specs.History.{live_size}
 
@@ -78,6 +80,23 @@ pub record LiveCamera (s : Camera) (v w : Wire) (told now_told : Option (List �
   pub are : sent_over s (whole ++ cut) ≡ sent ++ rest
   pub ends : EndsServing end whole cut missed rest v.faults w.faults
 
+-- The looks of the camera's worker at the run word: one before each whole turn, which found 1; where the worker ended
+-- Stopped a last one, which found another value; and one that found 1 before a turn that failed.
+abbrev pub EndsLooks : ServeEnd → List Served → List Event → Type 0
+EndsLooks serves.Stopped whole looks = (run : ℕ) × (run ≢ 1) × (looks ≡ camera.looks_in whole ++ LookRun run ∷ [])
+EndsLooks serves.Spent whole looks = looks ≡ camera.looks_in whole
+EndsLooks serves.NoMemory whole looks = looks ≡ camera.looks_in whole ++ LookRun 1 ∷ []
+EndsLooks serves.Fault whole looks = looks ≡ camera.looks_in whole ++ LookRun 1 ∷ []
+
+-- All entries of the camera's worker, actor n, are these looks, and behind them, just where it failed, one stop of the
+-- run.
+pub record LiveServes (n : ℕ) (end : ServeEnd) (whole : List Served) (h : List Entry) : Type 0 where
+  pub looks : List Event
+  pub are : EndsLooks end whole looks
+  pub stops : List Event
+  pub are_stops : IsStopAfter (has_failed end) stops
+  pub own : own_of n h ≡ entries_of n (looks ++ stops)
+
 -- How many buffers the application took, and their lines: at most the asked number, and fewer only where the run was
 -- over and no buffer was left. Where memory was wanting for a line the lines are those before it.
 abbrev pub TellsTaken : ℕ → List Looked → List ℕ → Result ℕ NoMemory → Type 0
@@ -86,12 +105,12 @@ TellsTaken frames made lines (Ok taken) =
 TellsTaken frames made lines (Err error) =
     (before : List Looked) × (last : Looked) × (made ≡ before ++ last ∷ []) × (length (lent_in before) < frames) × (lines ≡ lines_of (lent_in before))
 
--- The application, actor k: its entries are those of these turns and of at most one stop. What it took, with the bytes
--- and the records of the fills, is all that was handed out, and with OldestFirst all that was ever taken; its lines are
--- those of these buffers, in order.
+-- The application, actor k: its entries are those of these turns and, just where it took as many buffers as were asked
+-- for or memory was wanting, one stop behind them. What it took, with the bytes and the records of the fills, is all
+-- that was handed out, and with OldestFirst all that was ever taken; its lines are those of these buffers, in order.
 pub record LiveApplication (mode : Mode) (told now_told : Option (List ℕ)) (frames k : ℕ) (lines : List ℕ) (answer : Result ℕ NoMemory) (h : List Entry) : Type 0 where
   pub made : List Looked
-  pub takes : LiveTakes k made h
+  pub takes : LiveTakes k (has_enough frames answer) made h
   pub handed : handed_out h ≡ taken_items k h
   pub undropped : DropsNothing mode k h
   pub tells : TellsEach told now_told (application.moments_in made)

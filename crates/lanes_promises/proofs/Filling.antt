@@ -26,8 +26,8 @@ use Rattle.gev_live.specs.Kinds.{is_filling}
 use Rattle.gev_live.specs.History.{live_size}
 use Rattle.gev_live.proofs.Quiet.{is_beginning, beginning_are}
 use Rattle.gev_live.proofs.Splitting.{member_or}
-use Rattle.run_promises.specs.Headline.{Acquirer, is_acquirer, IsBlockOf}
-use Rattle.run_promises.specs.Laws.{FillsWhatRetires, FillsAsAcquirer, FillsByAcquirers}
+use Rattle.run_promises.specs.Headline.{Acquirer, is_acquirer, FillsAsAcquirer, FillsByAcquirers, IsBlockOf}
+use Rattle.run_promises.specs.Laws.{FillsWhatRetires}
 use Rattle.live_lanes.specs.History.{LanesCrew, LanesHistory}
 use Rattle.live_lanes.specs.Parts.{LanesShare}
 use Rattle.lanes_promises.specs.Promises.{acquirers_in}

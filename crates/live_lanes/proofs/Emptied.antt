@@ -151,10 +151,10 @@ which i k member = first (member_or i 0 (workers_of k) member)
 
 -- ---- the end
 
-pub emptied : (mode : Mode) (buffers : ℕ) (k : LanesCrew) (looked : List Looked) (h : List Entry) → LanesHistory mode buffers k h
-    → StopsLast k.reader h → LiveTakes k.application looked h → EndsStopped looked → HasNone is_stop (own_of k.camera h)
+pub emptied : (mode : Mode) (buffers : ℕ) (k : LanesCrew) (enough : Bool) (looked : List Looked) (h : List Entry) → LanesHistory mode buffers k h
+    → StopsLast k.reader h → LiveTakes k.application enough looked h → EndsStopped looked → HasNone is_stop (own_of k.camera h)
     → HasNone is_stop (own_of 0 h) → ((i : ℕ) → 1 ≤ times i k.lanes → HasNone is_stop (own_of i h)) → (After h).out ≡ []
-emptied mode buffers k looked h history stops takes stopped camera host lanes = by_reader (own_of k.reader two.later) refl
+emptied mode buffers k enough looked h history stops takes stopped camera host lanes = by_reader (own_of k.reader two.later) refl
   where
     n : ℕ
     n = k.application

@@ -1,5 +1,5 @@
 -- Where the lines are written, all asked buffers were handed out or none is left.
-use Rattle.std.proofs.Common.{◌≡◌, ◌≢◌, ◌⊎◌, ℕ, ◌≤◌, true, false, List, [], ◌∷◌, ◌++◌, Option, Result, Ok, Err, refl, sym, ap, subst, ◌∙◌, inl, inr, append_assoc, length}
+use Rattle.std.proofs.Common.{◌≡◌, ◌≢◌, ◌⊎◌, ℕ, ◌==◌, ◌≤◌, true, false, List, [], ◌∷◌, ◌++◌, Option, Result, Ok, Err, refl, sym, ap, subst, ◌∙◌, inl, inr, append_assoc, length}
 use Rattle.gev_types.specs.declared.memory.NoMemory as memory
 use Rattle.board_machine.specs.declared.events.Entry.{Entry}
 use Rattle.board_machine.specs.declared.events.Event.TheVariants.{Join, Stop}
@@ -94,7 +94,7 @@ all_or_empty mode buffers k served end told now frames turns lines (Ok taken) an
 
     go : IsEnough frames taken application.made → (taken ≡ frames) ⊎ ((After h).out ≡ [])
     go (inl all) = inl all.0
-    go (inr stopped) = inr (emptied mode buffers k application.made h history stops application.takes stopped (camera well) host lanes)
+    go (inr stopped) = inr (emptied mode buffers k (taken == frames) application.made h history stops application.takes stopped (camera well) host lanes)
 all_or_empty mode buffers k served end told now frames turns lines (Err error) answer h history stops application camera host lanes cause is =
     absurd (told_well served end frames turns (Err error) (first_told (status_by served end frames turns (Err error)) answer cause is))
 

@@ -33,10 +33,10 @@ use Rattle.gev_live.specs.Told.{Told, live_config, live_camera}
 use Rattle.gev_live.specs.History.{live_size}
 use Rattle.gev_live.specs.Endings.{taken_of, status_by, EndsSo}
 use Rattle.gev_live.specs.LiveRun.{Numbers}
-use Rattle.gev_live.specs.Parts.{LiveCamera, LiveApplication}
+use Rattle.gev_live.specs.Parts.{LiveCamera, LiveServes, LiveApplication}
 use Rattle.gev_live.proofs.Quiet.{one_size}
 use Rattle.gev_live.proofs.Acquiring.{HandsOut, hands_out}
-use Rattle.gev_live.proofs.CameraPart.{camera_part}
+use Rattle.gev_live.proofs.CameraPart.{camera_part, camera_owns}
 use Rattle.gev_live.proofs.ApplicationPart.{application_part}
 use Rattle.gev_live.proofs.Meaning.{links_stay, link_failed, answer_means, never_spent}
 use Rattle.gev_live.proofs.Handing.{camera_stops_nothing, host_stops_nothing}
@@ -164,6 +164,11 @@ module _ (n : Numbers) (lanes : ℕ) (camera stream : Address) (o e : Told) (ser
   pub camera_of : LiveCamera (live_camera n.seed) o.camera e.camera o.camera_clock e.camera_clock served
   camera_of = camera_part served (live_camera n.seed) r.serves.camera o.camera e.camera o.camera_clock e.camera_clock r.a r.serves.middle r.serves.serves
 
+  pub camera_own_of : LiveServes r.a.number served camera_of.whole u.seen
+  unfolding camera_of
+  camera_own_of = camera_owns served (live_camera n.seed) r.serves.camera o.camera e.camera o.camera_clock e.camera_clock r.a r.serves.middle r.worked_a u.seen
+      r.serves.serves r.serves.stops r.crew.first.new own_a
+
   pub shares_of : LanesHistory n.mode n.buffers (crew_of r.a r.b r.d r.tools) u.seen
       → LanesShare n.mode live_config (length r.tools) 0 (numbers_in r.tools) r.reads.made r.reads.after (ends_in r.tools) u.seen
   shares_of history = lanes_share n.mode (length r.tools) 0 r.reads.made r.reads.after r.tools u.seen r.configs r.crew.ended_run
@@ -197,6 +202,7 @@ ran_lanes n lanes camera stream answer o e served read taken lines written writt
   history = history;
   served = served;
   camera_part = served_part;
+  camera_own = camera_own_of n lanes camera stream o e served read taken lines s u r;
   read = read;
   reader_part = part;
   shares = subst (λ k. LanesShare n.mode live_config k 0 (numbers_in r.tools) r.reads.made r.reads.after (ends_in r.tools) u.seen) r.count

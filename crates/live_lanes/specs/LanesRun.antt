@@ -11,7 +11,7 @@ use Rattle.gev_status.specs.declared.status.Status.{Status}
 use Rattle.gev_status.specs.declared.status.Status.TheVariants as status
 use Rattle.gev_live.specs.Told.{Told, live_config, live_camera}
 use Rattle.gev_live.specs.Endings.{taken_of, status_by, is_told, EndsSo}
-use Rattle.gev_live.specs.Parts.{LiveCamera, LiveApplication}
+use Rattle.gev_live.specs.Parts.{LiveCamera, LiveServes, LiveApplication}
 use Rattle.gev_live.specs.LiveRun.{Numbers, LinksStay, LinkFailed, Means, NeverRan}
 use Rattle.live_lanes.specs.History.{LanesCrew, LanesHistory}
 use Rattle.live_lanes.specs.Parts.{LanesReader, LanesShare}
@@ -24,6 +24,7 @@ pub record LanesRun (n : Numbers) (lanes : ℕ) (camera stream : Address) (answe
   pub history : LanesHistory n.mode n.buffers crew h
   pub served : ServeEnd
   pub camera_part : LiveCamera (live_camera n.seed) o.camera e.camera o.camera_clock e.camera_clock served
+  pub camera_own : LiveServes crew.camera served camera_part.whole h
   pub read : AcqEnd
   pub reader_part : LanesReader camera stream o e n.turns crew.reader crew.lanes read h
   pub shares : LanesShare n.mode live_config lanes 0 crew.lanes reader_part.made reader_part.sides_after reader_part.ends h

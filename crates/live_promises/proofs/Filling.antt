@@ -19,8 +19,7 @@ use Rattle.mode_calls.specs.declared.mode.Mode.{Mode}
 use Rattle.gev_live.specs.Kinds.{is_filling}
 use Rattle.gev_live.specs.History.{Crew, live_size, LiveHistory}
 use Rattle.gev_live.proofs.Quiet.{is_beginning, beginning_are}
-use Rattle.run_promises.specs.Headline.{Acquirer}
-use Rattle.run_promises.specs.Laws.{FillsAsAcquirer, FillsByAcquirers}
+use Rattle.run_promises.specs.Headline.{Acquirer, FillsAsAcquirer, FillsByAcquirers}
 
 -- ---- by whom the fills are
 

@@ -15,7 +15,7 @@ use Rattle.gev_reader.specs.Reads.{ReadsOn}
 use Rattle.gev_causes.specs.Moves.{Move, moves_sent, moves_heard, datagrams, later_moves}
 use Rattle.gev_causes.specs.Causes.{IsUnanswered, run_moves, setup_refusals, reader_refusals, refusal_of}
 
--- These moves are what was sent and heard over the control link, in order. Among them a request with this number was
+-- These moves are what was sent and heard over the control link, in order. Among them a command with this number was
 -- sent three times, and no matching acknowledge came after the first of these.
 pub record HadNoAnswer (req : ℕ) (moves : List Move) (sent heard : List (List ℕ)) : Type 0 where
   pub unanswered : IsUnanswered req (later_moves [] moves)

@@ -1,6 +1,7 @@
 -- The headline of traces of scripts, and of any run whose fills are known.
 use Rattle.std.proofs.Common.{◌≡◌, inl, inr, ℕ, ◌==◌, ◌≤◌, Bool, true, false, ◌||◌, cond, List, [], ◌∷◌, ◌++◌, refl, sym, ap, subst, ◌∙◌, append_assoc}
 use Rattle.std.specs.List.{All, AllByRecursion}
+use Rattle.std.proofs.lemmas.Bool.{eq-eqb}
 use Rattle.std.proofs.lemmas.List.Elements.{All-from_recursion, recursion_from_All}
 use Rattle.stream_packets.specs.Packets.{StreamPacket}
 use Rattle.stream_packets.specs.Sent.{IsSent}
@@ -20,9 +21,11 @@ use Rattle.acquisition_machine.specs.declared.config.AcqConfig.{AcqConfig}
 use Rattle.acquisition_machine.proofs.Order.{all_append, all_front, all_back, all_weaker}
 use Rattle.block_fills.specs.Fills.{tried_by, tried, IsRetired, IsHandedSo}
 use Rattle.block_fills.proofs.Acquisitions.{retired_blocks}
+use Rattle.script_trace.specs.Trace.{acquirer}
+use Rattle.script_trace.specs.Fills.{FillsEmpty, IsEmptyElse}
 use Rattle.script_trace.proofs.Handing.{taken_all}
-use Rattle.run_promises.specs.Headline.{Acquirer, is_acquirer, FillsItsBlocks, IsBlockOf, HoldsBlock}
-use Rattle.run_promises.specs.Laws.{receiver_of, TracesKeepHeadline, FillsWhatRetires, FillsAsAcquirer, FillsByAcquirers, RunsKeepHeadline, BlocksHoldFrames}
+use Rattle.run_promises.specs.Headline.{Acquirer, is_acquirer, FillsItsBlocks, FillsAsAcquirer, FillsByAcquirers, IsBlockOf, HoldsBlock}
+use Rattle.run_promises.specs.Laws.{receiver_of, TracesKeepHeadline, FillsWhatRetires, RunsKeepHeadline, BlocksHoldFrames}
 
 -- ---- scripts
 
@@ -30,12 +33,23 @@ one_handed : (c : AcqConfig) (a : Acquirer) (x : Item) → IsHandedSo c a.inputs
 one_handed c a x (inl is) = inl (inl is)
 one_handed c a x (inr none) = inr none
 
+-- the acquisition is the one acquirer of a script
+one_acquires : (inputs : List Input) (k : ℕ) (event : Event) → FillsEmpty k event → FillsAsAcquirer (record { actor = acquirer; inputs = inputs } ∷ []) k event
+one_acquires inputs k (Fill i f filled) (inl own) = inl (eq-eqb k acquirer own)
+one_acquires inputs k (Fill i f filled) (inr none) = inr none
+one_acquires inputs k _ fills = tt
+
+all_acquire : (inputs : List Input) (h : List Entry) → AllByRecursion IsEmptyElse h → FillsByAcquirers (record { actor = acquirer; inputs = inputs } ∷ []) h
+all_acquire inputs [] empty = tt
+all_acquire inputs (e ∷ h) empty = (one_acquires inputs e.by e.event empty.0, all_acquire inputs h empty.1)
+
 pub traces_headline : TracesKeepHeadline
 traces_headline c t keeps = record {
   run = keeps.run;
   owned = keeps.owned;
   legal = keeps.legal;
   fills = (record { retired = keeps.retired; blocks = keeps.blocks }, tt);
+  others = all_acquire t.inputs t.entries keeps.others;
   handed = all_weaker (IsHandedSo c t.inputs) (HoldsBlock c (receiver_of t ∷ [])) (λ x so. one_handed c (receiver_of t) x so) _ keeps.handed;
 }
 
@@ -101,6 +115,7 @@ runs_headline c acquirers h some run fills by = record {
   owned = λ front rest is. prefix_cases h front rest run is;
   legal = run_legal h run;
   fills = blocks;
+  others = by;
   handed = taken_all (HoldsBlock c acquirers) (others (is_acquirer acquirers)) h
       (filled_hold c acquirers h (all_weaker (FillsItsBlocks c h) (OwnAre c h) (λ a its. its.blocks) acquirers blocks) by);
 }

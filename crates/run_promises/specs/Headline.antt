@@ -1,9 +1,11 @@
 -- What every run of the receiver promises of its buffers, whether a script is replayed or frames are received live.
-use Rattle.std.specs.Prelude.{◌≡◌, ◌⊎◌, ℕ, ◌==◌, Bool, false, ◌||◌, List, [], ◌∷◌, ◌++◌, Option}
+use Rattle.std.specs.Prelude.{◌≡◌, ◌⊎◌, ⊤, ℕ, ◌==◌, Bool, true, false, ◌||◌, List, [], ◌∷◌, ◌++◌, Option}
 use Rattle.std.specs.List.{AllByRecursion}
 use Rattle.gev_types.specs.declared.frame.Frame.{Frame}
 use Rattle.gev_types.specs.Filling.{empty_record}
 use Rattle.board_machine.specs.declared.events.Entry.{Entry}
+use Rattle.board_machine.specs.declared.events.Event.{Event}
+use Rattle.board_machine.specs.declared.events.Event.TheVariants.{Fill}
 use Rattle.board_machine.specs.Machine.{Item}
 use Rattle.board_machine.specs.Histories.{Run, After, own_of}
 use Rattle.board_machine.specs.Handout.{IsLegal}
@@ -29,6 +31,14 @@ pub record FillsItsBlocks (c : AcqConfig) (h : List Entry) (a : Acquirer) : Type
   pub retired : tried (own_of a.actor h) ≡ retired_items c a.inputs
   pub blocks : AllByRecursion (IsRetired c a.inputs) (tried (own_of a.actor h))
 
+-- Actor k is one of the acquirers, where the event is a fill, or fills with the empty record.
+abbrev pub FillsAsAcquirer : List Acquirer → ℕ → Event → Type 0
+FillsAsAcquirer acquirers k (Fill i f filled) = (is_acquirer acquirers k ≡ true) ⊎ (f.rec ≡ empty_record)
+FillsAsAcquirer acquirers k _ = ⊤
+
+abbrev pub FillsByAcquirers : List Acquirer → List Entry → Type 0
+FillsByAcquirers acquirers h = AllByRecursion (λ (e : Entry). FillsAsAcquirer acquirers e.by e.event) h
+
 -- a block that retired from one of these acquisitions
 abbrev pub IsBlockOf : AcqConfig → List Acquirer → Item → Type 0
 IsBlockOf c [] x = ⊥
@@ -41,15 +51,16 @@ HoldsBlock c acquirers x = IsBlockOf c acquirers x ⊎ (x.filling.rec ≡ empty_
 
 -- The history is one that the board machine makes. At each step of it each buffer has one owner. Filled buffers are
 -- removed from the output once, in the order of their fills, and none after a close. What the acquirers fill are the
--- blocks that their acquisitions retire. And each buffer that was handed out, which is one that another actor than
--- the acquirers took, holds such a block: with every received byte in place and 0 elsewhere, as its block's frame
--- where it's marked complete, and marked complete where the buffer is large enough and all packets came before it was
--- filled.
+-- blocks that their acquisitions retire, and nobody else fills more than empty records. And each buffer that was
+-- handed out, which is one that another actor than the acquirers took, holds such a block: with every received byte in
+-- place and 0 elsewhere, as its block's frame where it's marked complete, and marked complete where the buffer is large
+-- enough and all packets came before it was filled.
 pub record KeepsHeadline (c : AcqConfig) (acquirers : List Acquirer) (h : List Entry) : Type 0 where
   pub run : Run h
   pub owned : (front rest : List Entry) → h ≡ front ++ rest → IsOwned (After front)
   pub legal : IsLegal h
   pub fills : AllByRecursion (FillsItsBlocks c h) acquirers
+  pub others : FillsByAcquirers acquirers h
   pub handed : AllByRecursion (HoldsBlock c acquirers) (handed_out_items (is_acquirer acquirers) h)
 
 -- Of a block that retired from an acquisition, under a map of frames from which its datagrams were sent: where the

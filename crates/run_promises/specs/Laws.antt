@@ -1,12 +1,9 @@
 -- The headline of traces of scripts, and of any history whose fills are known.
-use Rattle.std.specs.Prelude.{◌≡◌, ◌⊎◌, ⊤, ℕ, ◌≤◌, true, List, [], ◌∷◌, Option}
+use Rattle.std.specs.Prelude.{◌≡◌, ⊤, ℕ, ◌≤◌, List, [], ◌∷◌, Option}
 use Rattle.std.specs.List.{AllByRecursion}
 use Rattle.gev_types.specs.declared.frame.Frame.{Frame}
-use Rattle.gev_types.specs.Filling.{empty_record}
 use Rattle.block_image.specs.OneBlock.{AreSent}
 use Rattle.board_machine.specs.declared.events.Entry.{Entry}
-use Rattle.board_machine.specs.declared.events.Event.{Event}
-use Rattle.board_machine.specs.declared.events.Event.TheVariants.{Fill}
 use Rattle.board_machine.specs.Machine.{Item}
 use Rattle.board_machine.specs.Histories.{Run, own_of}
 use Rattle.acquisition_machine.specs.declared.config.AcqConfig.{AcqConfig}
@@ -17,7 +14,7 @@ use Rattle.block_fills.specs.Laws.{StartsClean}
 use Rattle.script_trace.specs.Trace.{Trace, acquirer}
 use Rattle.script_trace.specs.Laws.{KeepsPromises}
 use Rattle.script_trace.specs.Standing.{Standing, first, running}
-use Rattle.run_promises.specs.Headline.{Acquirer, is_acquirer, KeepsHeadline, HoldsUnder}
+use Rattle.run_promises.specs.Headline.{Acquirer, FillsByAcquirers, KeepsHeadline, HoldsUnder}
 
 -- ---- scripts
 
@@ -40,14 +37,6 @@ TracesKeepHeadline = (c : AcqConfig) (t : Trace) → KeepsPromises c t → Keeps
 pub record FillsWhatRetires (c : AcqConfig) (h : List Entry) (a : Acquirer) : Type 0 where
   pub clean : StartsClean c first_state a.inputs
   pub retired : tried (own_of a.actor h) ≡ retired_items c a.inputs
-
--- Actor k is one of the acquirers, where the event is a fill, or fills with the empty record.
-abbrev pub FillsAsAcquirer : List Acquirer → ℕ → Event → Type 0
-FillsAsAcquirer acquirers k (Fill i f filled) = (is_acquirer acquirers k ≡ true) ⊎ (f.rec ≡ empty_record)
-FillsAsAcquirer acquirers k _ = ⊤
-
-abbrev pub FillsByAcquirers : List Acquirer → List Entry → Type 0
-FillsByAcquirers acquirers h = AllByRecursion (λ (e : Entry). FillsAsAcquirer acquirers e.by e.event) h
 
 -- A run whose acquirers fill what their acquisitions retire, and in which nobody else fills more than empty records,
 -- keeps the headline.

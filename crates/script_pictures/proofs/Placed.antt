@@ -23,7 +23,7 @@ use Rattle.acquisition_machine.specs.Blocks.{Given, Open, Retirement, fills, fil
 use Rattle.block_fills.specs.Fills.{tried_by, tried, item_of}
 use Rattle.frame_pictures.specs.declared.look.Look.{Look}
 use Rattle.script_trace.specs.Trace.{acquirer}
-use Rattle.script_trace.proofs.Handing.{FillsEmpty, IsEmptyElse}
+use Rattle.script_trace.specs.Fills.{FillsEmpty, IsEmptyElse}
 use Rattle.script_pictures.specs.Laws.{AllTogether}
 use Rattle.script_pictures.specs.Looks.{first_look, later_looks, look_by, left_by, filled_looks, given_looks, retired_looks}
 use Rattle.script_pictures.specs.Places.{no_look, noted, noted_all, look_there}

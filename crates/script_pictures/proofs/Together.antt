@@ -13,7 +13,7 @@ use Rattle.board_machine.specs.Handout.{filled_by, filled}
 use Rattle.block_fills.specs.Fills.{tried_by, tried}
 use Rattle.frame_pictures.specs.declared.look.Look.{Look}
 use Rattle.script_trace.specs.Trace.{acquirer}
-use Rattle.script_trace.proofs.Handing.{FillsEmpty, IsEmptyElse}
+use Rattle.script_trace.specs.Fills.{FillsEmpty, IsEmptyElse}
 use Rattle.script_pictures.specs.Laws.{AllTogether}
 use Rattle.script_pictures.specs.Looks.{look_by, left_by, filled_looks}
 

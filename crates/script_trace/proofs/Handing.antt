@@ -1,6 +1,6 @@
 -- What leaves the output was filled with a retired block, or has the empty record.
 use Rattle.std.proofs.Common.{◌≡◌, ◌≢◌, ◌⊎◌, inl, inr, ℕ, ◌==◌, cond, Bool, true, false, List, [], ◌∷◌, length, take, drop, refl, sym, ap, subst}
-use Rattle.std.specs.Prelude.{⊤, Option, Some, None}
+use Rattle.std.specs.Prelude.{Option, Some, None}
 use Rattle.std.specs.List.{AllByRecursion}
 use Rattle.std.proofs.lemmas.Bool.{eq-eqb}
 use Rattle.std.proofs.lemmas.List.{take-append-drop}
@@ -19,16 +19,9 @@ use Rattle.acquisition_machine.specs.declared.config.AcqConfig.{AcqConfig}
 use Rattle.script_trace.specs.Trace.{Trace, grown, acquirer}
 use Rattle.script_trace.specs.Contents.{contents_of, FillsAsLay, FillsFrom}
 use Rattle.script_trace.specs.Adding.{Leads}
+use Rattle.script_trace.specs.Fills.{FillsEmpty, IsEmptyElse}
 use Rattle.script_trace.specs.Opening.{opening}
 use Rattle.block_fills.specs.Fills.{tried_by, tried}
-
--- a fill is the acquisition's, or has the empty record
-abbrev pub FillsEmpty : ℕ → Event → Type 0
-FillsEmpty k (Fill i f filled) = (k ≡ acquirer) ⊎ (f.rec ≡ empty_record)
-FillsEmpty k _ = ⊤
-
-abbrev pub IsEmptyElse : Entry → Type 0
-IsEmptyElse e = FillsEmpty e.by e.event
 
 rec_empty : (f : Filling) (o : Option Filling) → Some f ≡ emptied o → f.rec ≡ empty_record
 rec_empty f None is = absurd cc

@@ -37,6 +37,7 @@ traces_keep_by c lines t some are leads =
       legal = run_legal t.entries run;
       retired = agree;
       blocks = blocks;
+      others = empty;
       handed = taken_all (IsHandedSo c t.inputs) (others acquires) t.entries (filled_all P t.entries empty blocks);
       dropped = taken_all (IsHandedSo c t.inputs) acquires t.entries (filled_all P t.entries empty blocks);
     }

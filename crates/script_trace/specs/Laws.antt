@@ -21,20 +21,22 @@ use Rattle.script_trace.specs.Adding.{Leads}
 use Rattle.script_trace.specs.Opening.{opening}
 use Rattle.script_trace.specs.Wide.{Wide}
 use Rattle.script_trace.specs.Standing.{Standing, first, running, ReplayRuns, ReplayRefuses, replay_verdict, IsBehind}
-use Rattle.script_trace.specs.Fills.{tried_blocks, retired_items, IsRetired, IsHandedSo}
+use Rattle.script_trace.specs.Fills.{tried_blocks, retired_items, IsRetired, IsHandedSo, IsEmptyElse}
 
 -- The history is one that the board machine makes; at each step of it each buffer has one owner; filled
 -- buffers are handed out or dropped once, in the order of their fills, and none after a close. What the
 -- acquisition filled, or tried to fill where the stream was closed, are the blocks that the acquisition
--- machine retires with a buffer, all of them and in order. Each of them holds its block's frame, or what
--- came of it; and so does each buffer that was handed out, which is one that an actor other than the
--- acquisition's took, and each that the acquisition took and so dropped, but for those with the empty record.
+-- machine retires with a buffer, all of them and in order. Nobody else fills more than empty records. Each of
+-- those blocks holds its block's frame, or what came of it; and so does each buffer that was handed out, which
+-- is one that an actor other than the acquisition's took, and each that the acquisition took and so dropped,
+-- but for those with the empty record.
 pub record KeepsPromises (c : AcqConfig) (t : Trace) : Type 0 where
   pub run : Run t.entries
   pub owned : (front rest : List Entry) → t.entries ≡ front ++ rest → IsOwned (After front)
   pub legal : IsLegal t.entries
   pub retired : tried_blocks t ≡ retired_items c t.inputs
   pub blocks : AllByRecursion (IsRetired c t.inputs) (tried_blocks t)
+  pub others : AllByRecursion IsEmptyElse t.entries
   pub handed : AllByRecursion (IsHandedSo c t.inputs) (handed_out_items acquires t.entries)
   pub dropped : AllByRecursion (IsHandedSo c t.inputs) (dropped_items acquires t.entries)
 
