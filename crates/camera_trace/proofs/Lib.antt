@@ -4,3 +4,4 @@ pub mod OneReport
 pub mod Giving
 pub mod Telling
 pub mod WorkedScripts
+pub mod Lines

@@ -1,15 +1,17 @@
 -- What holds of every camera script: how its lines are judged, that its report is one, and that the report is
 -- what the camera's events print.
-use Rattle.std.specs.Prelude.{◌≡◌, ℕ, List, [], ◌++◌, Option, None, Ok}
+use Rattle.std.specs.Prelude.{◌≡◌, ⊤, ℕ, List, [], ◌++◌, Option, None, Ok}
 use Rattle.gev_script.specs.Lines.{ScriptLine}
 use Rattle.gev_script.specs.Grammar.{line_of}
 use Rattle.script_runs.specs.declared.ran.Ran.{Ran}
+use Rattle.script_runs.specs.declared.ran.Ran.TheVariants.{GoesOn, Ended}
 use Rattle.script_runs.specs.Runs.{RunsLines}
 use Rattle.script_runs.specs.Verdicts.{Judges}
 use Rattle.camera_machine.specs.Camera.{Camera}
 use Rattle.camera_machine.specs.Stream.{waiting_count, packets_given, after_given}
 use Rattle.camera_machine.specs.Events.{Event, Turn, turn_of, after}
 use Rattle.camera_machine.specs.Sending.{IsNeverSet}
+use Rattle.camera_machine.specs.Primary.{OnePrimary}
 use Rattle.camera_trace.specs.Serving.{Serving, Part, script_camera, Does}
 use Rattle.camera_trace.specs.Standing.{Standing, first, running, later_kind, IsCameraLine, CameraRuns, CameraRefuses, camera_verdict, IsBehind}
 use Rattle.camera_trace.specs.Printing.{printed_by, ComesTo}
@@ -85,3 +87,38 @@ IsTold text (running s) = IsToldBy text s
 abbrev pub ReportsAreTold : Type 0
 ReportsAreTold =
     (lines : List (List ℕ)) (text : List ℕ) (new : Standing) → RunsLines CameraRuns first 0 lines text new → IsTold text new
+
+-- ---- each line
+
+-- the script stands with this camera
+abbrev pub HasCamera : Camera → Standing → Type 0
+HasCamera camera first = ⊥
+HasCamera camera (running s) = s.camera ≡ camera
+
+-- The line comes to these events: from the camera that it finds they print its report, and they leave the camera that it
+-- leaves.
+pub record RunsEvents (s : Serving) (line report : List ℕ) (new : Standing) : Type 0 where
+  pub says : ScriptLine
+  pub read : line_of line ≡ Ok says
+  pub events : List Event
+  pub comes : ComesTo s says events
+  pub printed : report ≡ printed_by s.camera events
+  pub leaves : HasCamera (after s.camera events) new
+
+-- The line is run, and behind the header each line that goes on comes to events.
+abbrev pub CameraTells : Standing → ℕ → List ℕ → Ran → List ℕ → Standing → Type 0
+CameraTells first n line ran report new = CameraRuns first n line ran report new
+CameraTells (running s) n line GoesOn report new = CameraRuns (running s) n line GoesOn report new × RunsEvents s line report new
+CameraTells (running s) n line Ended report new = CameraRuns (running s) n line Ended report new
+
+-- at most one peer has control of the camera
+abbrev pub HasOnePrimary : Standing → Type 0
+HasOnePrimary first = ⊤
+HasOnePrimary (running s) = OnePrimary s.camera
+
+-- So it is of each line of every script, and behind each.
+pub record ScriptsTell : Type 0 where
+  pub tells :
+      (lines : List (List ℕ)) (text : List ℕ) (now : Standing) (n : ℕ) (line : List ℕ) (ran : Ran) (report : List ℕ) (new : Standing)
+      → RunsLines CameraRuns first 0 lines text now → CameraRuns now n line ran report new → CameraTells now n line ran report new
+  pub one_primary : (m : Standing) → HasOnePrimary m

@@ -1,7 +1,7 @@
 //! What the definitions promise: each function here does nothing, and its contract is a law.
 
 ghost use Rattle.camera_trace.specs.Worked.{ScriptsAreWorked};
-ghost use Rattle.camera_trace.specs.Laws.{LinesAreJudged, LinesAreInPlace, ReportIsOne, TurnsGiveAll, LinesAreEvents, ReportsAreTold};
+ghost use Rattle.camera_trace.specs.Laws.{LinesAreJudged, LinesAreInPlace, ReportIsOne, TurnsGiveAll, LinesAreEvents, ReportsAreTold, ScriptsTell};
 
 /// Whether a line is run, ends its script or is refused follows from its number and its bytes alone; and
 /// behind n lines fewer than n frames were made since the stream channel opened.
@@ -34,6 +34,12 @@ pub fn lines_are_events()
 /// the numbers of frames, and the packets that were given. Between two lines no packet waits.
 pub fn reports_are_told()
     ensures { ReportsAreTold }
+{}
+
+/// Each line of a script comes to events of the camera that it finds, which print its report and leave the camera that it
+/// leaves; and at most one peer has control of that camera.
+pub fn scripts_tell()
+    ensures { ScriptsTell }
 {}
 
 /// Scripts that are written out, with their reports.

@@ -11,5 +11,5 @@ mod laws;
 
 pub use laws::{
     lines_are_events, lines_are_in_place, lines_are_judged, report_is_one, reports_are_told,
-    scripts_are_worked, turns_give_all,
+    scripts_are_worked, scripts_tell, turns_give_all,
 };

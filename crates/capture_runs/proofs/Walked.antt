@@ -1,7 +1,7 @@
 -- A capture that is read record by record, and how its run ends.
-use Rattle.std.proofs.Common.{◌≡◌, ℕ, ◌+◌, ◌-◌, ◌^◌, ◌<◌, List, [], ◌∷◌, ◌++◌, length, drop, Option, Some, None, Result, Ok, Err, refl, ap, sym, ◌∙◌, subst, arith, inl, inr, append_assoc, length-append}
+use Rattle.std.proofs.Common.{◌≡◌, ℕ, ◌+◌, ◌-◌, ◌^◌, ◌<◌, ◌≤◌, List, [], ◌∷◌, ◌++◌, length, drop, Option, Some, None, Result, Ok, Err, refl, ap, sym, ◌∙◌, subst, arith, inl, inr, append_assoc, length-append}
 use Rattle.std.specs.Prelude.{◌⊎◌, false, OnOk, is_err}
-use Rattle.std.proofs.lemmas.List.{append-nil}
+use Rattle.std.proofs.lemmas.List.{append-nil, length-drop}
 use Rattle.gev_links.specs.Faults.{Rose}
 use Rattle.gev_links.specs.Told.{Gives, IsSpent, Appends, WritesFront}
 use Rattle.gev_script.proofs.Tellings.{Gives-append, Gives-same}
@@ -15,7 +15,7 @@ use Rattle.gev_capture.specs.Files.{Packet, Format, fresh, Told, refused, told}
 use Rattle.gev_capture.specs.Captures.{Read, Refusal, IsOpen, IsAtEnd, IsRefused, EndsAs, with_packet, packets_in, HasCaptured}
 use Rattle.gev_capture.specs.Laws.{Stays}
 use Rattle.gev_capture.specs.Sightings.{Sighting, no_moments, sighted, sightings}
-use Rattle.gev_capture.specs.Reading.{ReadsOn, CauseOfEnd}
+use Rattle.gev_capture.specs.Reading.{most_held, ReadsOn, CauseOfEnd}
 use Rattle.gev_capture.specs.Walking as walking
 use Rattle.gev_capture.specs.Walking.{CaptureState, IsNext, Nexts, Walks}
 use Rattle.gev_capture.proofs.OneCapture.{captures_are_one}
@@ -24,7 +24,7 @@ use Rattle.gev_capture.proofs.Walking.{walks_more, walks_next, walks_end, walks_
 use Rattle.capture_runs.specs.declared.ending.Ending.{Ending}
 use Rattle.capture_runs.specs.declared.ending.Ending.TheVariants.{Done, BadCapture, ReadFault, WriteFault, NoMemory}
 use Rattle.capture_runs.specs.Texts.{Texts, said, state, broken, whole, Tells}
-use Rattle.capture_runs.specs.Ends.{WasCaptured, WasRead, StopsShort, at_end, at_fault, between, RunEnds, AnswersContent}
+use Rattle.capture_runs.specs.Ends.{size_of, WasCaptured, WasRead, StopsShort, at_end, at_fault, between, RunEnds, AnswersContent}
 use Rattle.capture_runs.specs.Turns.{moments_behind, Drains, rest_text, EndsWith, GoesOn, BreaksOff, TurnEnds}
 use Rattle.capture_runs.proofs.Fronts.{drains_none, drains_more, drained_whole, drained_front, front_none, front_more, still_front}
 use Rattle.capture_runs.proofs.Behind.{moments_behind-append, sighted-append, said-append, state-append}
@@ -38,6 +38,7 @@ pub record Stood {P : Type 0} (t : Texts P) (Begun Stands : P → Type 0) (reade
   pub records : List Read
   pub came : Gives left left_now all
   pub walks : Walks fresh all records reader.format reader.held
+  pub few : length reader.held ≤ most_held
   pub count : reader.records ≡ length records
   pub moments : m ≡ moments_behind no_moments (packets_in records)
   pub told : (p : P) → Begun p → Stands (state t p (sightings (packets_in records)))
@@ -50,11 +51,17 @@ stood_none t Begun reader m out left written e f = record {
   records = [];
   came = Gives-same left;
   walks = (ap (λ (r : CaptureState). r.format) e, ap (λ (r : CaptureState). r.held) e);
+  few = let none : length reader.held ≡ 0 = ap (λ (r : CaptureState). length r.held) e in omega (arith, none);
   count = ap (λ (r : CaptureState). r.records) e;
   moments = f;
   told = λ p begun. begun;
   drained = λ p begun. subst (λ (text : List ℕ). Drains written written text out) (sym (append-nil out)) (drains_none written out);
 }
+
+-- what is left of so many bytes behind a record
+few_behind : (held more rest : List ℕ) (size : ℕ) → rest ≡ drop size (held ++ more) → length (held ++ more) ≤ most_held → length rest ≤ most_held
+few_behind held more rest size e few =
+    let same : length rest ≡ length (drop size (held ++ more)) = ap length e in omega (arith, same, length-drop size (held ++ more), few)
 
 abbrev read_with : ℕ → Format → Option Packet → Read
 read_with size format packet = record { size = size; format = format; packet = packet }
@@ -86,6 +93,7 @@ module _ {P : Type 0} where
         records = s.records ++ r ∷ [];
         came = Gives-append left mid left_after s.all more s.came g.read.given;
         walks = subst (λ (h : List ℕ). Walks fresh (s.all ++ more) (s.records ++ r ∷ []) reader_after.format h) (sym g.read.holds.held) walked;
+        few = few_behind reader.held more reader_after.held g.read.holds.size g.read.holds.held g.read.few;
         count = omega (arith, g.records, s.count, length-append s.records (r ∷ []));
         moments =
             g.moments ∙ ap (λ (k : Moments). moments_behind k (with_packet reader_after.packet [])) s.moments
@@ -113,6 +121,14 @@ captured_of all rs now rest end w e =
       are = walks_end fresh 0 all rs now rest end w (subst (λ (n : ℕ). EndsAs now n rest end) counted e);
       packets_are = refl;
     }
+
+-- the bytes are those of the records and what is left
+walked_size : (format : Format) (bytes : List ℕ) (rs : List Read) (now : Format) (rest : List ℕ) → Walks format bytes rs now rest → length bytes ≤ size_of rs + length rest
+walked_size format bytes [] now rest w = let same : length rest ≡ length bytes = ap length w.1 in omega (arith, same)
+walked_size format bytes (r ∷ rs) now rest w = omega (arith, walked_size r.format (drop r.size bytes) rs now rest w.1, length-drop r.size bytes)
+
+few_walked : (bytes : List ℕ) (rs : List Read) (now : Format) (rest : List ℕ) → Walks fresh bytes rs now rest → length rest ≤ most_held → length bytes ≤ size_of rs + most_held
+few_walked bytes rs now rest w few = omega (arith, walked_size fresh bytes rs now rest w, few)
 
 -- no more bytes come
 content_spent : (left left_after : Option (List ℕ)) (bytes : List ℕ) (packets : List Packet) (end : Option Refusal) → Gives left left_after bytes → IsSpent left_after
@@ -210,6 +226,7 @@ module _ {P : Type 0} where
   was_ended : (t : Texts P) (Begun Stands : P → Type 0) (reader : CaptureState) (m : Moments) (out held : List ℕ) (left mid left_after written written_mid : Option (List ℕ)) (Q : List Packet → Type 0)
       (s : Stood t Begun Stands reader m out held left mid written written_mid)
       → ReadsOn reader.format reader.held mid left_after (λ bytes. IsAtEnd reader.format bytes × IsSpent left_after) → Q (packets_in s.records) → WasCaptured left left_after None Q
+  unfolding captured_of
   was_ended t Begun Stands reader m out held left mid left_after written written_mid Q s read q =
       let all = s.all ++ read.more in
       let came = Gives-append left mid left_after s.all read.more s.came read.given in
@@ -220,6 +237,7 @@ module _ {P : Type 0} where
         packets = packets_in s.records;
         given = came;
         captured = captured;
+        few = few_walked all s.records reader.format (reader.held ++ read.more) walked read.few;
         content = content_spent left left_after all (packets_in s.records) None came read.holds.1 captured;
         holds = q;
       }
@@ -229,33 +247,36 @@ module _ {P : Type 0} where
       (s : Stood t Begun Stands reader m out held left mid written written_mid) → length s.records + 1 ≡ n
       → ReadsOn reader.format reader.held mid left_after (λ bytes. IsRefused kind reader.format bytes × ((told reader.format bytes ≡ refused kind) ⊎ IsSpent left_after))
       → Q (packets_in s.records) → WasCaptured left left_after (refusal_at n kind) Q
+  unfolding captured_of
   was_refused t Begun Stands reader m out held left mid left_after written written_mid Q kind n s number read q =
       let all = s.all ++ read.more in
       let rest = reader.held ++ read.more in
       let came = Gives-append left mid left_after s.all read.more s.came read.given in
       let walked = came_with t Begun Stands reader m out held read.more left mid left_after written written_mid s in
       let captured = captured_of all s.records reader.format rest (refusal_at (length s.records + 1) kind) walked (refl, read.holds.0) in
-      record {
+      subst (λ (k : ℕ). WasCaptured left left_after (refusal_at k kind) Q) number
+      (record {
         bytes = all;
         packets = packets_in s.records;
         given = came;
-        captured = subst (λ (k : ℕ). HasCaptured all (packets_in s.records) (refusal_at k kind)) number captured;
-        content =
-            subst (λ (k : ℕ). IfTold left (λ content. HasCaptured content (packets_in s.records) (refusal_at k kind))) number
-            (content_cut left left_after all s.records reader.format rest kind came walked captured read.holds.1);
+        captured = captured;
+        few = few_walked all s.records reader.format rest walked read.few;
+        content = content_cut left left_after all s.records reader.format rest kind came walked captured read.holds.1;
         holds = q;
-      }
+      })
 
   -- these bytes came behind the records so far
   was_read : (t : Texts P) (Begun Stands : P → Type 0) (reader : CaptureState) (m : Moments) (out held more : List ℕ) (left mid left_after written written_mid : Option (List ℕ)) (Q : List Read → Format → List ℕ → Type 0)
-      (s : Stood t Begun Stands reader m out held left mid written written_mid) → Gives mid left_after more → Q s.records reader.format (reader.held ++ more) → WasRead left left_after Q
-  was_read t Begun Stands reader m out held more left mid left_after written written_mid Q s came q = record {
+      (s : Stood t Begun Stands reader m out held left mid written written_mid) → Gives mid left_after more → length (reader.held ++ more) ≤ most_held → Q s.records reader.format (reader.held ++ more)
+      → WasRead left left_after Q
+  was_read t Begun Stands reader m out held more left mid left_after written written_mid Q s came few q = record {
     bytes = s.all ++ more;
     records = s.records;
     now = reader.format;
     rest = reader.held ++ more;
     given = Gives-append left mid left_after s.all more s.came came;
     walks = came_with t Begun Stands reader m out held more left mid left_after written written_mid s;
+    few = few;
     holds = q;
   }
 
@@ -284,7 +305,7 @@ module _ {P : Type 0} where
       let xs = sightings (packets_in s.records) in
       at_fault (subst (λ (k : ℕ). Rose k reads_after) e read.holds.1)
       (was_read t Begun Stands reader m out held read.more left mid left_after written written_mid
-      (λ records now rest. IsOpen now rest × WritesFront written written_after (out ++ broken t p (sightings (packets_in records)))) s read.given (
+      (λ records now rest. IsOpen now rest × WritesFront written written_after (out ++ broken t p (sightings (packets_in records)))) s read.given read.few (
         read.holds.0,
         subst (λ (text : List ℕ). WritesFront written written_after text) (append_assoc out (said t p xs) (t.finish (state t p xs)))
             (drained_front written written_mid written_after (out ++ said t p xs) (t.finish (state t p xs)) held (s.drained p begun) front),
@@ -303,6 +324,7 @@ module _ {P : Type 0} where
         rest = b.rest;
         given = Gives-append left mid left_after s.all b.more s.came b.given;
         walks = walks_on fresh all s.records reader.format (reader.held ++ b.more) b.records b.now b.rest (came_with t Begun Stands reader m out held b.more left mid left_after written written_mid s) b.walks;
+        few = b.few;
         holds = λ more.
             front_on t p out (packets_in (s.records ++ b.records)) more written written_after
             (front_written t p m s.records b.records out held written written_mid written_after s.moments (s.drained p begun) (b.front (state t p (sightings (packets_in s.records))) (s.told p begun)));
@@ -324,7 +346,7 @@ module _ {P : Type 0} where
   stood_ends t Begun Stands reader m out held left mid left_after reads reads_mid reads_after written written_mid written_after writes writes_mid writes_after ReadFault s e f turn p begun = (
     subst (λ (k : ℕ). Rose k reads_after) e turn.0,
     was_read t Begun Stands reader m out held turn.1.more left mid left_after written written_mid
-        (λ records now rest. IsOpen now rest × Appends written written_after (out ++ broken t p (sightings (packets_in records)))) s turn.1.given
+        (λ records now rest. IsOpen now rest × Appends written written_after (out ++ broken t p (sightings (packets_in records)))) s turn.1.given turn.1.few
         (turn.1.holds, broken_written t p (sightings (packets_in s.records)) out held written written_mid written_after (s.drained p begun) (turn.2 (state t p (sightings (packets_in s.records))) (s.told p begun))),
   )
   stood_ends t Begun Stands reader m out held left mid left_after reads reads_mid reads_after written written_mid written_after writes writes_mid writes_after WriteFault s e f (rose, inl short) p begun = (
@@ -337,7 +359,7 @@ module _ {P : Type 0} where
   stood_ends t Begun Stands reader m out held left mid left_after reads reads_mid reads_after written written_mid written_after writes writes_mid writes_after NoMemory s e f turn p begun =
       between
       (was_read t Begun Stands reader m out held turn.more left mid left_after written written_mid
-      (λ records now rest. (more : List Packet) → WritesFront written written_after (out ++ whole t p (sightings (packets_in records ++ more)))) s turn.given
+      (λ records now rest. (more : List Packet) → WritesFront written written_after (out ++ whole t p (sightings (packets_in records ++ more)))) s turn.given turn.few
       (λ more. front_on t p out (packets_in s.records) more written written_after
       (still_front (out ++ said t p (sightings (packets_in s.records))) held written written_mid written_after (s.drained p begun) turn.unwritten)))
 
@@ -353,13 +375,14 @@ run_none t p out left reads written writes =
       rest = [];
       given = Gives-same left;
       walks = (refl, refl);
+      few = omega arith;
       holds = λ more. front_none written written (out ++ whole t p (sightings more)) refl;
     })
 
 -- ---- one turn
 
 abbrev reads_weaker : (format : Format) (held : List ℕ) (left left_after : Option (List ℕ)) (P Q : List ℕ → Type 0) → ((bytes : List ℕ) → P bytes → Q bytes) → ReadsOn format held left left_after P → ReadsOn format held left left_after Q
-reads_weaker format held left left_after P Q f r = record { more = r.more; given = r.given; prompt = r.prompt; few = r.few; holds = f (held ++ r.more) r.holds }
+reads_weaker format held left left_after P Q f r = record { more = r.more; given = r.given; first = r.first; few = r.few; holds = f (held ++ r.more) r.holds }
 
 ended_by : (end is : CaptureEnd) (reader reader_after : CaptureState) (left left_after : Option (List ℕ)) (reads reads_after : ℕ) → end ≡ is
     → Nexts (Err end) reader reader_after left left_after reads reads_after
@@ -390,7 +413,7 @@ module _ {P : Type 0} where
   turn_ended t Stands end n WriteFault reader reader_after m held left left_after reads reads_after written written_after writes writes_after c nexts ends =
       (ends.0, inl (record { end = end; read = ended_by end end reader reader_after left left_after reads reads_after refl nexts; front = ends.1 }))
   turn_ended t Stands end n NoMemory reader reader_after m held left left_after reads reads_after written written_after writes writes_after c nexts ends =
-      record { more = nexts.more; given = nexts.given; unwritten = ends }
+      record { more = nexts.more; given = nexts.given; few = nexts.few; unwritten = ends }
 
   -- a record came, and its text wasn't written whole
   pub turn_broken : (t : Texts P) (Stands Stands_after : P → Type 0) (reader reader_after : CaptureState) (m : Moments) (held held_mid : List ℕ)
@@ -410,6 +433,7 @@ module _ {P : Type 0} where
               now = reader_after.format;
               rest = drop nexts.1.holds.size (reader.held ++ nexts.1.more);
               walks = (nexts.1.holds.told_so, (refl, refl));
+              few = few_behind reader.held nexts.1.more (drop nexts.1.holds.size (reader.held ++ nexts.1.more)) nexts.1.holds.size refl nexts.1.few;
               front = λ p stands. subst (λ (text : List ℕ). WritesFront written written_after text) (tells p stands).added front;
             }),
       )
@@ -457,11 +481,11 @@ if_ok (Err x) P h e = absurd (cc)
 read_as_well : (left left_after : Option (List ℕ)) (P Q : List Read → Format → List ℕ → Type 0) → ((rs : List Read) (now : Format) (rest : List ℕ) → P rs now rest → Q rs now rest)
     → WasRead left left_after P → WasRead left left_after Q
 read_as_well left left_after P Q f r =
-    record { bytes = r.bytes; records = r.records; now = r.now; rest = r.rest; given = r.given; walks = r.walks; holds = f r.records r.now r.rest r.holds }
+    record { bytes = r.bytes; records = r.records; now = r.now; rest = r.rest; given = r.given; walks = r.walks; few = r.few; holds = f r.records r.now r.rest r.holds }
 
 captured_as_well : (left left_after : Option (List ℕ)) (end : Option Refusal) (P Q : List Packet → Type 0) → ((ps : List Packet) → P ps → Q ps) → WasCaptured left left_after end P → WasCaptured left left_after end Q
 captured_as_well left left_after end P Q f r =
-    record { bytes = r.bytes; packets = r.packets; given = r.given; captured = r.captured; content = r.content; holds = f r.packets r.holds }
+    record { bytes = r.bytes; packets = r.packets; given = r.given; captured = r.captured; few = r.few; content = r.content; holds = f r.packets r.holds }
 
 short_as : (w v b d : List Sighting → List ℕ) → ((xs : List Sighting) → w xs ≡ v xs) → ((xs : List Sighting) → b xs ≡ d xs)
     → (left left_after : Option (List ℕ)) (reads reads_after : ℕ) (written written_after : Option (List ℕ))

@@ -1,27 +1,34 @@
 -- How a run over a capture ended, and what it has read and written.
-use Rattle.std.specs.Prelude.{◌≡◌, ⊤, ℕ, List, ◌++◌, Option, Some, None}
+use Rattle.std.specs.Prelude.{◌≡◌, ⊤, ℕ, ◌+◌, ◌≤◌, List, [], ◌∷◌, ◌++◌, length, Option, Some, None}
 use Rattle.gev_links.specs.Faults.{Rose}
 use Rattle.gev_links.specs.Told.{Gives, Appends, WritesFront}
 use Rattle.script_runs.specs.Verdicts.{IfTold}
 use Rattle.gev_capture.specs.Files.{Packet, Format, fresh}
 use Rattle.gev_capture.specs.Captures.{Read, Refusal, IsOpen, packets_in, HasCaptured}
+use Rattle.gev_capture.specs.Reading.{most_held}
 use Rattle.gev_capture.specs.Sightings.{Sighting, sightings}
 use Rattle.gev_capture.specs.Walking.{Walks}
 use Rattle.capture_runs.specs.declared.ending.Ending.{Ending}
 use Rattle.capture_runs.specs.declared.ending.Ending.TheVariants.{Done, BadCapture, ReadFault, WriteFault, NoMemory}
 
--- These bytes came from the source. They are a capture with these packets and this end, and where the source
--- tells what it holds, so is all of that. This holds of the packets.
+-- how many bytes records have
+abbrev pub size_of : List Read → ℕ
+size_of [] = 0
+size_of (r ∷ rs) = r.size + size_of rs
+
+-- These bytes came from the source, at most 1,114,112 behind the last record. They are a capture with these packets and
+-- this end, and where the source tells what it holds, so is all of that. This holds of the packets.
 pub record WasCaptured (left left_after : Option (List ℕ)) (end : Option Refusal) (P : List Packet → Type 0) : Type 0 where
   pub bytes : List ℕ
   pub packets : List Packet
   pub given : Gives left left_after bytes
   pub captured : HasCaptured bytes packets end
+  pub few : length bytes ≤ size_of captured.records + most_held
   pub content : IfTold left (λ content. HasCaptured content packets end)
   pub holds : P packets
 
--- These bytes came from the source, and begin with these records, behind which is this format, and these bytes
--- are left. This holds of them.
+-- These bytes came from the source, and begin with these records, behind which is this format, and these bytes, at most
+-- 1,114,112, are left. This holds of them.
 pub record WasRead (left left_after : Option (List ℕ)) (P : List Read → Format → List ℕ → Type 0) : Type 0 where
   pub bytes : List ℕ
   pub records : List Read
@@ -29,6 +36,7 @@ pub record WasRead (left left_after : Option (List ℕ)) (P : List Read → Form
   pub rest : List ℕ
   pub given : Gives left left_after bytes
   pub walks : Walks fresh bytes records now rest
+  pub few : length rest ≤ most_held
   pub holds : P records now rest
 
 -- What was written is a front of the text, where writing failed or memory ran out.

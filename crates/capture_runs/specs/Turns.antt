@@ -1,5 +1,5 @@
 -- One turn of the loop: a record is read and told of, or the run ends.
-use Rattle.std.specs.Prelude.{⊤, ◌≡◌, ◌⊎◌, ℕ, ◌+◌, List, [], ◌∷◌, ◌++◌, Option, Result, Ok, Err}
+use Rattle.std.specs.Prelude.{⊤, ◌≡◌, ◌⊎◌, ℕ, ◌+◌, ◌≤◌, List, [], ◌∷◌, ◌++◌, length, Option, Result, Ok, Err}
 use Rattle.gev_links.specs.Faults.{Rose}
 use Rattle.gev_links.specs.Told.{Gives, IsSpent, Appends, WritesFront}
 use Rattle.gev_capture.specs.declared.capture_end.CaptureEnd.{CaptureEnd}
@@ -9,7 +9,7 @@ use Rattle.gev_capture.specs.declared.moments.Moments.{Moments}
 use Rattle.gev_capture.specs.Files.{Packet, Format, refused, told}
 use Rattle.gev_capture.specs.Captures.{Read, IsOpen, IsAtEnd, IsRefused, with_packet, packets_in}
 use Rattle.gev_capture.specs.Sightings.{moments_after, sighted}
-use Rattle.gev_capture.specs.Reading.{ReadsOn, CauseOfEnd}
+use Rattle.gev_capture.specs.Reading.{most_held, ReadsOn, CauseOfEnd}
 use Rattle.gev_capture.specs.Walking.{CaptureState, IsNext, Walks}
 use Rattle.capture_runs.specs.declared.ending.Ending.{Ending}
 use Rattle.capture_runs.specs.declared.ending.Ending.TheVariants.{Done, BadCapture, ReadFault, WriteFault, NoMemory}
@@ -81,12 +81,14 @@ pub record BreaksOff {P : Type 0} (t : Texts P) (Stands : P → Type 0) (reader 
   pub now : Format
   pub rest : List ℕ
   pub walks : Walks reader.format (reader.held ++ more) records now rest
+  pub few : length rest ≤ most_held
   pub front : (p : P) → Stands p → WritesFront written written_after (held ++ said t p (sighted m (packets_in records)))
 
 -- nothing was written
 pub record RunsOut (reader : CaptureState) (left left_after written written_after : Option (List ℕ)) : Type 0 where
   pub more : List ℕ
   pub given : Gives left left_after more
+  pub few : length (reader.held ++ more) ≤ most_held
   pub unwritten : written_after ≡ written
 
 -- a run ends at this turn

@@ -1,6 +1,7 @@
-ghost use Rattle.std.specs.Prelude.{◌≡◌, ◌≢◌, ◌≤◌, ◌<◌, ◌+◌, ◌-◌, ◌^◌, ℕ, List, ◌++◌, [], None, Some, OnOk, Result, Err};
+ghost use Rattle.std.specs.Prelude.{◌≡◌, ◌≢◌, ◌≤◌, ◌<◌, ◌+◌, ◌-◌, ◌^◌, ℕ, List, ◌++◌, [], length, None, Some, OnOk, Result, Err};
 ghost use Rattle.gev_capture.specs.Files.{fresh};
 ghost use Rattle.gev_capture.specs.Captures.{with_packet};
+ghost use Rattle.gev_capture.specs.Reading.{most_held};
 ghost use Rattle.gev_capture.specs.Sightings.{sighted};
 ghost use Rattle.script_runs.specs.Verdicts.{IfTold};
 ghost use Rattle.capture_runs.specs.Texts.{whole, broken, Tells};
@@ -82,7 +83,8 @@ fn run_next<S: Source, K: Sink, T: Telling>(
     telling: &mut T,
     out: &mut Vec<u8>,
 ) -> Option<Ending>
-    requires { reader.old.records ≤ 2 ^ 64 - 1 }
+    requires counted { reader.old.records ≤ 2 ^ 64 - 1 }
+    requires few { length reader.old.held ≤ most_held }
     ensures goes { result ≡ None → GoesOn T.texts (T.stands_for telling.old) (T.stands_for telling.new) reader.old reader.new moments.old moments.new out.old.items out.new.items
         (S.left source.old) (S.left source.new) (K.written sink.old) (K.written sink.new) }
     ensures counted { result ≡ None → reader.new.records ≤ 2 ^ 64 - 1 }
@@ -137,7 +139,8 @@ fn run_records<S: Source, K: Sink, T: Telling>(
 }
 
 /// Reads the capture that the source gives, tells of its packets one after the other, and writes their text
-/// behind what stands in `out`. The source is read only where no whole record is held.
+/// behind what stands in `out`. The source is read only where no whole record is held, and at most 1,114,112 bytes are
+/// taken behind the last record, whatever the end.
 ///
 /// Where a record is refused, the text of the packets before it is written with its end. Where reading fails,
 /// it's written without.

@@ -1,10 +1,12 @@
 //! The image streams in a capture: who sends to whom, what the leaders tell, and how much came.
 //!
 //! `specs/Signs.antt` says what a datagram is to a stream, `specs/Streams.antt` what is counted of each, and
-//! `specs/Texts.antt` has the text that lists them, as a function of the capture's packets.
+//! `specs/Texts.antt` has the text that lists them, as a function of the capture's packets. `specs/Laws.antt` says how the
+//! counts add up.
 #![tactic(auto)]
 
 mod counts; // what is counted of packets
+mod laws; // a law of the counts, as a contract
 mod listing; // the teller, and the run that lists streams
 mod piece; // a part of a line
 mod sign; // what a datagram is to a stream
@@ -13,4 +15,5 @@ mod stream; // one image stream, and what is counted of it
 mod stream_text; // the lines that list streams
 mod table; // the streams so far
 
+pub use laws::packets_are_counted;
 pub use listing::list_streams;

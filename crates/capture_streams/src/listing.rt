@@ -45,7 +45,8 @@ impl Telling for Table {
 /// and an end line.
 ///
 /// Where a record of the capture is refused, the text of the packets before it is written whole. Where reading
-/// fails, the lines of the streams are written without the end line. Memory doesn't grow with the capture.
+/// fails, the lines of the streams are written without the end line. Memory doesn't grow with the capture, and behind its
+/// last record at most 1,114,112 bytes are taken.
 pub fn list_streams<S: Source, K: Sink>(alloc: Global, source: &mut S, sink: &mut K) -> Ending
     ensures ends { RunEnds streams_text listed_text result
         (S.left source.old) (S.left source.new) (S.faults source.old) (S.faults source.new)

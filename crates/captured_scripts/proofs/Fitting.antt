@@ -17,7 +17,7 @@ use Rattle.acquisition_machine.proofs.Order.{all_append}
 use Rattle.capture_script.specs.Playing.{Line, heard, ticked}
 use Rattle.capture_script.specs.Script.{Scripted, Lines, taking, with_takes, no_lines, both, goes_on, ticks, carries, is_for, carried, seen, sighted, lines_from}
 use Rattle.capture_script.proofs.Spelled.{datagram_fits}
-use Rattle.captured_scripts.specs.Laws.{HasBytes}
+use Rattle.gev_capture.specs.Laws.{HasBytes}
 use Rattle.captured_scripts.proofs.Sitting.{Goes, flush_goes, take_goes, tick_goes, datagram_goes}
 use Rattle.captured_scripts.proofs.Telling.{few_moments}
 

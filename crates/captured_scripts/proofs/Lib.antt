@@ -18,3 +18,4 @@ pub mod Widened
 pub mod Ends
 pub mod Packets
 pub mod Replayed
+pub mod OfCaptures

@@ -18,7 +18,7 @@ use Rattle.script_trace.specs.Trace.{Trace, board}
 use Rattle.script_trace.specs.Wide.{Wide}
 use Rattle.capture_script.specs.Playing.{config, Played, heard, ticked, stopped}
 use Rattle.capture_script.specs.Script.{Scripted, Lines, taking, with_takes, no_lines, both, goes_on, ticks, carries, is_for, seen, sighted, lines_from, script_behind}
-use Rattle.captured_scripts.specs.Laws.{HasBytes}
+use Rattle.gev_capture.specs.Laws.{HasBytes}
 use Rattle.captured_scripts.proofs.Fitting.{AreSmall, SmallSeen, is_datagram, small_seen}
 use Rattle.captured_scripts.specs.Traces.{takes_in}
 use Rattle.captured_scripts.proofs.Holding.{came_back}

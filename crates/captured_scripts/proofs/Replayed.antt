@@ -35,7 +35,7 @@ use Rattle.capture_script.specs.Script.{Scripted, new_script, header_line, begun
 use Rattle.captured_scripts.proofs.Sitting.{Sits, header_sits}
 use Rattle.captured_scripts.proofs.Fitting.{AllGo, packets_go}
 use Rattle.captured_scripts.proofs.Whole.{read_is, between, between_goes}
-use Rattle.captured_scripts.specs.Traces.{stop_lines, lines_before_end, takes_in, TakesWhatIsFilled, CapturesAreReplayed}
+use Rattle.captured_scripts.specs.Traces.{stop_lines, lines_before_end, takes_in, TakesWhatIsFilled, PacketsAreReplayed}
 use Rattle.captured_scripts.proofs.Desk.{IsFull, of_three}
 use Rattle.captured_scripts.proofs.Holding.{held_places, Live}
 use Rattle.captured_scripts.proofs.Stages.{Stage, IsRecorded}
@@ -162,8 +162,8 @@ runs_all p sits ls all wide to on = (
   refl,
 )
 
-pub captures_are_replayed : CapturesAreReplayed
-captures_are_replayed port p size packets some fits least most bytes =
+pub packets_are_replayed : PacketsAreReplayed
+packets_are_replayed port p size packets some fits least most bytes =
     let s : Scripted = new_script port p size in
     let xs : List Sighting = sightings packets in
     let ls : List ScriptLine = lines_from s xs in

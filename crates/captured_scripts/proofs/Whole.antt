@@ -20,7 +20,7 @@ use Rattle.gev_capture.specs.Sightings.{no_moments, sightings}
 use Rattle.acquisition_machine.proofs.Order.{all_append}
 use Rattle.capture_script.specs.Playing.{stopped}
 use Rattle.capture_script.specs.Script.{Scripted, new_script, text_of, header_line, with_takes, closing_lines, lines_from, script_behind}
-use Rattle.captured_scripts.specs.Laws.{CapturesMakeScripts}
+use Rattle.captured_scripts.specs.Laws.{PacketsMakeScripts}
 use Rattle.captured_scripts.proofs.Sitting.{Sits, Goes, header_sits, announce_goes, flush_goes, start_goes, stop_goes, end_sits}
 use Rattle.captured_scripts.proofs.Fitting.{AllGo, taking_goes, packets_go}
 
@@ -122,8 +122,8 @@ script_is p l ls first all few =
     shorter : (ls : List ScriptLine) → suc (suc (length (ls ++ line.end_of_script ∷ []))) ≤ 4294967295 → 1 + suc (length ls) < 4294967295
     shorter ls h = omega (arith, h, end_more ls)
 
-pub captures_make_scripts : CapturesMakeScripts
-captures_make_scripts port p size packets some fits small bytes =
+pub packets_make_scripts : PacketsMakeScripts
+packets_make_scripts port p size packets some fits small bytes =
     let s : Scripted = new_script port p size in
     let xs = capture.sighted no_moments packets in
     let last : Scripted = script_behind s xs in

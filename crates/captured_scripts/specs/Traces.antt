@@ -1,5 +1,5 @@
 -- What holds of the trace of every captured script: what is filled is taken, and its buffer goes back at once.
-use Rattle.std.specs.Prelude.{◌≡◌, ⊤, ℕ, ◌+◌, ◌≤◌, List, [], ◌∷◌, ◌++◌, length, map, None}
+use Rattle.std.specs.Prelude.{◌≡◌, ⊤, ℕ, ◌+◌, ◌≤◌, List, [], ◌∷◌, ◌++◌, length, map, Option, None}
 use Rattle.std.specs.List.{AllByRecursion}
 use Rattle.gev_script.specs.Lines as line
 use Rattle.gev_script.specs.Lines.{ScriptLine}
@@ -18,10 +18,11 @@ use Rattle.script_trace.specs.Ending.{filled_blocks, end_counts}
 use Rattle.script_trace.specs.Wide.{Wide}
 use Rattle.script_trace.specs.Standing.{Standing, first, running, ReplayRuns}
 use Rattle.gev_capture.specs.Files.{Packet}
+use Rattle.gev_capture.specs.Captures.{Refusal, HasCaptured}
+use Rattle.gev_capture.specs.Laws.{AreBytes, HasBytes}
 use Rattle.gev_capture.specs.Sightings.{Sighting, sightings}
 use Rattle.capture_script.specs.Playing.{config, stopped}
 use Rattle.capture_script.specs.Script.{Scripted, new_script, with_takes, begun_lines, script_behind, script_lines}
-use Rattle.captured_scripts.specs.Laws.{HasBytes}
 
 -- ---- lines
 
@@ -69,8 +70,14 @@ pub record IsReplayed (port p size : ℕ) (xs : List Sighting) : Type 0 where
   pub only : (said : List ℕ) (new : Standing) → RunsLines ReplayRuns first 0 (map spelling (lines_before_end port p size xs)) said new → new ≡ running (config p) wide trace
   pub takes : TakesWhatIsFilled (config p) (lines_before_end port p size xs) trace
 
--- So each captured script is, for payloads and buffers of sizes that the command takes.
-abbrev pub CapturesAreReplayed : Type 0
-CapturesAreReplayed =
+-- So is the script of any packets of bytes, for payloads and buffers of sizes that the command takes.
+abbrev pub PacketsAreReplayed : Type 0
+PacketsAreReplayed =
     (port p size : ℕ) (packets : List Packet) → 528 ≤ p → p ≤ 8964 → 1 ≤ size → size ≤ 67108864 → AllByRecursion HasBytes packets
     → IsReplayed port p size (sightings packets)
+
+-- So is that of every capture of bytes.
+abbrev pub CapturesAreReplayed : Type 0
+CapturesAreReplayed =
+    (port p size : ℕ) (bytes : List ℕ) (packets : List Packet) (end : Option Refusal) → 528 ≤ p → p ≤ 8964 → 1 ≤ size → size ≤ 67108864 → AreBytes bytes
+    → HasCaptured bytes packets end → IsReplayed port p size (sightings packets)

@@ -9,21 +9,21 @@ use Rattle.gev_script.proofs.Tellings.{Gives-append, Gives-same}
 use Rattle.gev_capture.specs.Files.{Format, Told, wants, refused, given, told}
 use Rattle.gev_capture.specs.Captures.{IsOpen}
 use Rattle.gev_capture.specs.Laws.{Stays}
-use Rattle.gev_capture.specs.Reading.{IsPrompt, ReadsOn}
+use Rattle.gev_capture.specs.Reading.{FirstIsWanted, ReadsOn}
 use Rattle.gev_capture.proofs.Pieces.{pieces_tell}
 
--- These bytes are held now; what came of them came no sooner than it was wanted.
+-- These bytes are held now; the first of them that came were wanted.
 pub record Came (format : Format) (held now : List ℕ) (left left_now : Option (List ℕ)) : Type 0 where
   pub more : List ℕ
   pub given : Gives left left_now more
-  pub prompt : IsPrompt format held more
+  pub first : FirstIsWanted format held more
   pub is : now ≡ held ++ more
 
 pub came_none : (format : Format) (held : List ℕ) (left : Option (List ℕ)) → Came format held held left left
 came_none format held left = record {
   more = [];
   given = Gives-same left;
-  prompt = inl refl;
+  first = inl refl;
   is = sym (append-nil held);
 }
 
@@ -39,14 +39,14 @@ pub came_more : (format : Format) (held now after : List ℕ) (l m n : Option (L
 came_more format held now after l m n count c is_open h = record {
   more = c.more ++ h.piece;
   given = Gives-append l m n c.more h.piece c.given h.given;
-  prompt = inr (open_front format held c.more (subst (IsOpen format) c.is is_open));
+  first = inr (open_front format held c.more (subst (IsOpen format) c.is is_open));
   is = h.is ∙ ap (λ t. t ++ h.piece) c.is ∙ append_assoc held c.more h.piece;
 }
 
 pub reads_on : (format : Format) (held now : List ℕ) (l m : Option (List ℕ)) (P : List ℕ → Type 0) → Came format held now l m → length now ≤ 1114112 → P now → ReadsOn format held l m P
 reads_on format held now l m P c few p =
     let Few : List ℕ → Type 0 = λ bytes. length bytes ≤ 1114112 in
-    record { more = c.more; given = c.given; prompt = c.prompt; few = subst Few c.is few; holds = subst P c.is p }
+    record { more = c.more; given = c.given; first = c.first; few = subst Few c.is few; holds = subst P c.is p }
 
 -- nothing came
 pub same_still : (now after : List ℕ) (l m : Option (List ℕ)) → Holds 0 now after l m → after ≡ now

@@ -4,3 +4,4 @@ pub mod OneCapture
 pub mod Coming
 pub mod Walking
 pub mod ReaderSteps
+pub mod Bytes

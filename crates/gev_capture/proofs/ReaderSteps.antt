@@ -33,7 +33,7 @@ next_ok form faces faces_new records records_new size slot room room_new found o
       record {
         more = f.more;
         given = f.given;
-        prompt = f.prompt;
+        first = f.first;
         few = f.few;
         holds = record { size = found.size; told_so = as_told; held = ap (λ (bs : List ℕ). drop found.size bs) f.holds.2 };
       },
@@ -50,7 +50,7 @@ next_err form faces records size slot room room_new end old left left_after faul
     (record {
       more = f.more;
       given = f.given;
-      prompt = f.prompt;
+      first = f.first;
       few = f.few;
       holds = (f.holds.0, record { format = refl; records = refl; packet = refl; held = f.holds.1 });
     })

@@ -1,5 +1,6 @@
 -- Laws of captures, in words of their own.
 use Rattle.std.specs.Prelude.{◌≡◌, ℕ, ◌<◌, ◌≤◌, List, ◌++◌, length, Option}
+use Rattle.std.specs.List.{AllByRecursion}
 use Rattle.gev_capture.specs.Files.{Packet, Format, Told, wants, refused, given, told}
 use Rattle.gev_capture.specs.Captures.{Refusal, HasCaptured}
 
@@ -26,3 +27,16 @@ pub record CapturesAreOne : Type 0 where
   pub one :
       (bytes : List ℕ) (packets others : List Packet) (end other : Option Refusal)
       → HasCaptured bytes packets end → HasCaptured bytes others other → (packets ≡ others) × (end ≡ other)
+
+-- ---- bytes
+
+abbrev pub AreBytes : List ℕ → Type 0
+AreBytes bytes = AllByRecursion (λ b. b < 256) bytes
+
+-- the bytes of a packet are bytes
+abbrev pub HasBytes : Packet → Type 0
+HasBytes packet = AreBytes packet.bytes
+
+-- The packets of a capture of bytes have bytes.
+abbrev pub PacketsHaveBytes : Type 0
+PacketsHaveBytes = (bytes : List ℕ) (packets : List Packet) (end : Option Refusal) → AreBytes bytes → HasCaptured bytes packets end → AllByRecursion HasBytes packets

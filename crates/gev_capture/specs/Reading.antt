@@ -12,23 +12,27 @@ use Rattle.gev_capture.specs.Files.{Format, refused, told}
 use Rattle.gev_capture.specs.Captures.{IsOpen, IsAtEnd, IsRefused}
 use Rattle.gev_capture.specs.Steps.{told_by, IsFound}
 
+-- the most bytes that are held behind the records that were told: a block of the greatest length, and a piece
+abbrev pub most_held : ℕ
+most_held = 1114112
+
 -- The room has 1,114,112 bytes, and what is held stands in it.
 pub record IsRoom (room : List ℕ) (start end : ℕ) : Type 0 where
   pub size : length room ≡ 1114112
   pub order : start ≤ end
   pub within : end ≤ 1114112
 
--- Bytes came only where those that were held told of no record.
-abbrev pub IsPrompt : Format → List ℕ → List ℕ → Type 0
-IsPrompt format held more = (more ≡ []) ⊎ IsOpen format held
+-- Where bytes came, those that were held before told of no record, so the first read of the call was wanted. It's no promise on the reads behind it.
+abbrev pub FirstIsWanted : Format → List ℕ → List ℕ → Type 0
+FirstIsWanted format held more = (more ≡ []) ⊎ IsOpen format held
 
--- These bytes were held or came, no sooner than they were wanted and no more than there is room for, and this
--- holds of all of them.
+-- These bytes were held or came, no more than there is room for; the first of them that came were wanted; and this holds
+-- of all of them.
 pub record ReadsOn (format : Format) (held : List ℕ) (left left_after : Option (List ℕ)) (P : List ℕ → Type 0) : Type 0 where
   pub more : List ℕ
   pub given : Gives left left_after more
-  pub prompt : IsPrompt format held more
-  pub few : length (held ++ more) ≤ 1114112
+  pub first : FirstIsWanted format held more
+  pub few : length (held ++ more) ≤ most_held
   pub holds : P (held ++ more)
 
 -- how a capture ends of whose record these bytes are a part, where no more come

@@ -29,7 +29,7 @@ pub use captured::Captured;
 pub use content::Content;
 pub use form::{Face, Form};
 pub use kind::CaptureKind;
-pub use laws::{captures_are_one, pieces_tell};
+pub use laws::{captures_are_one, packets_have_bytes, pieces_tell};
 pub use moments::Moments;
 pub use order::Order;
 pub use reader::Reader;

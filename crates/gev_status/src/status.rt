@@ -87,6 +87,11 @@ impl Status {
 
 /// The text of a fault, as it stands on standard error. `Done` has no text there.
 impl fmt::Display for Status {
+    ghost use Rattle.std.specs.Prelude.{Some};
+    ghost use Rattle.gev_status.specs.StatusTexts.{status_text};
+
+    ghost output = { λ status. Some (status_text status) };
+
     fn fmt<W: fmt::Write>(&self, f: &mut fmt::Formatter<W>) -> fmt::Result {
         match self {
             Status::Done => write!(f, "done"),
@@ -121,6 +126,11 @@ impl fmt::Display for Status {
 struct Cause(ScriptKind);
 
 impl fmt::Display for Cause {
+    ghost use Rattle.std.specs.Prelude.{Some};
+    ghost use Rattle.gev_status.specs.StatusTexts.{script_cause};
+
+    ghost output = { λ cause. Some (script_cause cause.0) };
+
     fn fmt<W: fmt::Write>(&self, f: &mut fmt::Formatter<W>) -> fmt::Result {
         match self.0 {
             ScriptKind::Header => write!(f, "header"),
@@ -139,6 +149,11 @@ impl fmt::Display for Cause {
 struct CaptureCause(CaptureKind);
 
 impl fmt::Display for CaptureCause {
+    ghost use Rattle.std.specs.Prelude.{Some};
+    ghost use Rattle.gev_status.specs.StatusTexts.{capture_cause};
+
+    ghost output = { λ cause. Some (capture_cause cause.0) };
+
     fn fmt<W: fmt::Write>(&self, f: &mut fmt::Formatter<W>) -> fmt::Result {
         match self.0 {
             CaptureKind::Magic => write!(f, "magic"),
@@ -155,6 +170,11 @@ impl fmt::Display for CaptureCause {
 struct PictureCause(NoPicture);
 
 impl fmt::Display for PictureCause {
+    ghost use Rattle.std.specs.Prelude.{Some};
+    ghost use Rattle.gev_status.specs.StatusTexts.{picture_cause};
+
+    ghost output = { λ cause. Some (picture_cause cause.0) };
+
     fn fmt<W: fmt::Write>(&self, f: &mut fmt::Formatter<W>) -> fmt::Result {
         match self.0 {
             NoPicture::Taken(count) => write!(f, "{count} buffers were taken"),

@@ -20,7 +20,7 @@ use Rattle.board_machine.proofs.Room.{few_length, out_few}
 use Rattle.board_machine.proofs.Forms.{cases_owned}
 use Rattle.mode_calls.specs.declared.mode.Mode.TheVariants.{NewestOnly}
 use Rattle.mode_calls.specs.Modes.{GotNothing, takes_and_pools, DropsUntilNothing, DropsAll, FillsFor}
-use Rattle.mode_calls.specs.Laws.{IsAlone}
+use Rattle.mode_calls.specs.Laws.{WaitsAlone}
 
 none_filled : (k : ℕ) (is : List ℕ) → filled (entries_of k (takes_and_pools is)) ≡ []
 none_filled k [] = refl
@@ -103,7 +103,7 @@ drops_clear b k dropped front owned (inl until) runs opened = until_nothing b k 
 drops_clear b k dropped front owned (inr all) runs opened = as_many b k dropped front owned all runs
 
 pub newest : (b : Board) (k i : ℕ) (f : Filling) (dropped : List ℕ) (es : List Event) → IsOwned b → FillsFor NewestOnly dropped i f true es
-    → RunsFrom b (entries_of k es) → IsAlone b dropped i f (after_from b (entries_of k es))
+    → RunsFrom b (entries_of k es) → WaitsAlone b dropped i f (after_from b (entries_of k es))
 newest b k i f dropped es owned fills runs =
     let front = entries_of k fills.front in
     let fill = entries_of k (Fill i f true ∷ []) in

@@ -20,7 +20,7 @@ took_oldest : (b : Board) (k i : ℕ) (es : List Event) → ClaimsOrTakes (Some 
 took_oldest b k i es is runs =
     let made = runs_as b k es (Claim None ∷ Take (Taken i) ∷ []) is runs in
     let first = made.1.0.meets.1 in
-    record { no_pool = made.0.meets; filling = first.0; rest = first.1; first = first.2 }
+    record { no_pool = made.0.meets; oldest = record { filling = first.0; rest = first.1; first = first.2 } }
 
 pub oldest : (mode : Mode) (b : Board) (k i : ℕ) (es : List Event) → ClaimsFor mode (Some (i, true)) es → RunsFrom b (entries_of k es) → WasOldest b i
 oldest OldestFirst b k i es never runs = absurd never

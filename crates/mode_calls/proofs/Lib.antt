@@ -1,3 +1,4 @@
 pub mod Splits
 pub mod Claimed
 pub mod Alone
+pub mod Among

@@ -1,11 +1,13 @@
 -- Laws of the buffer handling modes, which `src/laws.rt` proves.
-use Rattle.std.specs.Prelude.{◌≡◌, ◌⊎◌, ◌↔◌, ℕ, ◌+◌, Bool, true, List, [], ◌∷◌, length, Option, Some, None}
+use Rattle.std.specs.Prelude.{◌≡◌, ◌⊎◌, ◌↔◌, ℕ, ◌+◌, Bool, true, List, [], ◌∷◌, ◌++◌, length, Option, Some, None}
 use Rattle.gev_types.specs.Filling.{Filling}
 use Rattle.board_machine.specs.declared.events.Entry.{Entry}
 use Rattle.board_machine.specs.declared.events.Event.{Event}
+use Rattle.board_machine.specs.declared.events.Event.TheVariants.{Claim, Take}
+use Rattle.board_machine.specs.declared.events.TakeEnd.TheVariants.{Taken}
 use Rattle.board_machine.specs.Places.{times}
-use Rattle.board_machine.specs.Machine.{Board, Item, item, places}
-use Rattle.board_machine.specs.Histories.{Run, RunsFrom, after_from}
+use Rattle.board_machine.specs.Machine.{Board, Item, item, places, entry}
+use Rattle.board_machine.specs.Histories.{Run, RunsFrom, after_from, own_of}
 use Rattle.board_machine.specs.Adding.{entries_of}
 use Rattle.board_machine.specs.Owners.{IsOwned}
 use Rattle.board_machine.specs.Handout.{marks, removed}
@@ -25,14 +27,41 @@ pub record IsSplit (acquires : ℕ → Bool) (h : List Entry) : Type 0 where
 abbrev pub EachRemovedIsOne : Type 0
 EachRemovedIsOne = (acquires : ℕ → Bool) (h : List Entry) → Run h → IsSplit acquires h
 
--- The pool was empty, and the place was the output's first.
-pub record WasOldest (b : Board) (i : ℕ) : Type 0 where
-  pub no_pool : b.pool ≡ []
+-- The place was the output's first.
+pub record WaitsLongest (b : Board) (i : ℕ) : Type 0 where
   pub filling : Filling
   pub rest : List Item
   pub first : b.out ≡ item i filling ∷ rest
 
--- A place that a claim took waited longest at its step.
+-- ---- a claim on a board that others act on too
+
+-- The two steps of a claim that took a buffer, and what others did before, between and behind them. The pool was empty at the first, and what
+-- the second took waited longest then.
+pub record TookAmongOthers (b : Board) (k i : ℕ) (h : List Entry) : Type 0 where
+  pub before : List Entry
+  pub between : List Entry
+  pub behind : List Entry
+  pub are : h ≡ before ++ entry k (Claim None) ∷ (between ++ entry k (Take (Taken i)) ∷ behind)
+  pub of_others_before : own_of k before ≡ []
+  pub of_others_between : own_of k between ≡ []
+  pub of_others_behind : own_of k behind ≡ []
+  pub no_pool : (after_from b before).pool ≡ []
+  pub oldest : WaitsLongest (after_from b (before ++ entry k (Claim None) ∷ between)) i
+
+-- A place that a claim took waited longest at the step of its take, whatever others did meanwhile.
+abbrev pub ClaimsTakeOldest : Type 0
+ClaimsTakeOldest =
+    (mode : Mode) (b : Board) (k i : ℕ) (es : List Event) (h : List Entry) → ClaimsFor mode (Some (i, true)) es → RunsFrom b h
+    → own_of k h ≡ entries_of k es → TookAmongOthers b k i h
+
+-- ---- a call between whose steps nobody else acts
+
+-- The pool was empty, and the place was the output's first.
+pub record WasOldest (b : Board) (i : ℕ) : Type 0 where
+  pub no_pool : b.pool ≡ []
+  pub oldest : WaitsLongest b i
+
+-- A place that a claim took waited longest when it began.
 abbrev pub OldestIsDropped : Type 0
 OldestIsDropped =
     (mode : Mode) (b : Board) (k i : ℕ) (es : List Event) → ClaimsFor mode (Some (i, true)) es → RunsFrom b (entries_of k es) → WasOldest b i
@@ -53,11 +82,11 @@ NothingIsClaimed =
     → (answer ≡ None) ↔ HasNothing mode b
 
 -- All that waited was dropped, and the new entry waits alone.
-pub record IsAlone (b : Board) (dropped : List ℕ) (i : ℕ) (f : Filling) (new : Board) : Type 0 where
+pub record WaitsAlone (b : Board) (dropped : List ℕ) (i : ℕ) (f : Filling) (new : Board) : Type 0 where
   pub dropped_all : dropped ≡ places b.out
   pub alone : new.out ≡ item i f ∷ []
 
 abbrev pub NewestIsAlone : Type 0
 NewestIsAlone =
     (b : Board) (k i : ℕ) (f : Filling) (dropped : List ℕ) (es : List Event) → IsOwned b → FillsFor NewestOnly dropped i f true es
-    → RunsFrom b (entries_of k es) → IsAlone b dropped i f (after_from b (entries_of k es))
+    → RunsFrom b (entries_of k es) → WaitsAlone b dropped i f (after_from b (entries_of k es))

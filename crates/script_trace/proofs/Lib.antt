@@ -8,6 +8,7 @@ pub mod Counting
 pub mod Between
 pub mod Promises
 pub mod Meanings
+pub mod Reported
 pub mod Scripts
 pub mod Trees
 pub mod CallTrees

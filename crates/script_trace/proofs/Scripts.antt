@@ -22,9 +22,10 @@ use Rattle.script_trace.specs.Adding.{Leads}
 use Rattle.script_trace.specs.Opening.{opening}
 use Rattle.script_trace.specs.Wide.{Wide, nothing_wide, Meaning, itself, wider, none, meaning, said_by, DoesAs, Does, kept_behind}
 use Rattle.script_trace.specs.Standing.{Standing, first, running, config_of, later_kind, first_verdict, last_or_not, later_verdict, replay_verdict, IsBehind, RunsLater, ReplayRuns, ReplayRefuses}
-use Rattle.script_trace.specs.Laws.{StandsWell, HasSaid, RunsKeepPromises, LinesAreJudged}
+use Rattle.script_trace.specs.Laws.{StandsWell, ReportsTrace, HasSaid, RunsKeepPromises, LinesAreJudged}
 use Rattle.script_trace.proofs.BlockFills.{IsByOther}
 use Rattle.script_trace.proofs.Meanings.{said_plain, wider_version}
+use Rattle.script_trace.proofs.Reported.{Reported, report_on, none_reported}
 use Rattle.script_trace.proofs.Promises.{traces_keep_by, by_other}
 
 -- ---- one line
@@ -210,8 +211,14 @@ last (l ∷ lines) text line report ran (running c w t) new are short runs one =
     let h : Headed (l ∷ lines) (running c w t) = headed l lines text (running c w t) are runs in
     running_well h.config c w t (length (l ∷ lines) + 1) line report ran new short h.some h.led one
 
-said_by_led : (text : List ℕ) (new : Standing) (c : AcqConfig) (w : Wide) (t : Trace) → new ≡ running c w t → (w.widened ≡ false → t.text ≡ text) → (w.version ≡ 1 → w.widened ≡ false) → HasSaid text new
-said_by_led text new c w t is plain first_version = subst (HasSaid text) (sym is) (record { plain = plain; first_version = first_version })
+said_by_led : (text : List ℕ) (new : Standing) (c : AcqConfig) (w : Wide) (t : Trace) → new ≡ running c w t → (w.widened ≡ false → t.text ≡ text) → (w.version ≡ 1 → w.widened ≡ false) → Reported c text new
+    → HasSaid text new
+said_by_led text new c w t is plain first_version r =
+    let e : running c w t ≡ running c r.kept r.to = sym is ∙ r.stands in
+    let kept : r.kept ≡ w = cc in
+    let to : r.to ≡ t = cc in
+    let there : ReportsTrace c w.widened text t = subst (λ (v : Wide). ReportsTrace c v.widened text t) kept (subst (λ (u : Trace). ReportsTrace c r.kept.widened text u) to r.reports) in
+    subst (HasSaid text) (sym is) (record { plain = plain; first_version = first_version; reports = there })
 
 said : (lines : List (List ℕ)) (text : List ℕ) (new : Standing) → RunsLines ReplayRuns first 0 lines text new → HasSaid text new
 said [] text new (silent, is) = subst (HasSaid text) (sym is) silent
@@ -222,6 +229,7 @@ said (l ∷ lines) text new (mid, front, rest, runs, more, parts) =
     let led : LedTo c w opening rest new = led_on c w opening 1 lines rest new next in
     let whole : rest ≡ text = sym (parts ∙ ap (λ u. u ++ rest) runs.silent) in
     said_by_led text new c led.kept led.to led.stands (λ e. led.plain e ∙ whole) (λ e. led.first_version (sym led.same_version ∙ e) refl)
+    (subst (λ u. Reported c u new) whole (report_on c w opening 1 lines [] rest new (none_reported c) next))
 
 pub runs_keep : RunsKeepPromises
 runs_keep = record { so_far = so_far; last = last; said = said }

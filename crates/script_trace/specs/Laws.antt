@@ -1,10 +1,11 @@
 -- What holds of the trace of every replay script.
-use Rattle.std.specs.Prelude.{◌≡◌, ◌≢◌, ⊤, ℕ, false, ◌+◌, ◌≤◌, List, [], ◌++◌, length, None, Ok}
-use Rattle.std.specs.List.{AllByRecursion}
+use Rattle.std.specs.Prelude.{◌≡◌, ◌≢◌, ⊤, ℕ, Bool, true, false, if◌then◌else◌, ◌+◌, ◌≤◌, List, [], ◌∷◌, ◌++◌, length, None, Ok}
+use Rattle.std.specs.List.{AllByRecursion, flat_map}
 use Rattle.hex.specs.Hex.{decode_of}
 use Rattle.gev_script.specs.Lines as line
 use Rattle.gev_script.specs.Lines.{ScriptLine}
 use Rattle.gev_script.specs.Spelling.{IsScriptLine, IsStep}
+use Rattle.gev_report.specs.ReplayLines.{request_line}
 use Rattle.script_runs.specs.declared.ran.Ran.{Ran}
 use Rattle.script_runs.specs.Runs.{RunsLines, AreLines}
 use Rattle.script_runs.specs.Verdicts.{Judges}
@@ -13,13 +14,14 @@ use Rattle.board_machine.specs.Histories.{After, Run}
 use Rattle.board_machine.specs.Handout.{IsLegal}
 use Rattle.board_machine.specs.Owners.{IsOwned}
 use Rattle.acquisition_machine.specs.declared.config.AcqConfig.{AcqConfig}
-use Rattle.acquisition_machine.specs.Runs.{After as AcqAfter}
+use Rattle.acquisition_machine.specs.Machine.{Input, datagram, Request, request_bytes}
+use Rattle.acquisition_machine.specs.Runs.{first_state, After as AcqAfter, requests_from}
 use Rattle.mode_calls.specs.Dropped.{dropped_items, handed_out_items}
 use Rattle.script_trace.specs.Trace.{Trace, board}
 use Rattle.script_trace.specs.Modes.{acquires}
 use Rattle.script_trace.specs.Adding.{Leads}
 use Rattle.script_trace.specs.Opening.{opening}
-use Rattle.script_trace.specs.Wide.{Wide}
+use Rattle.script_trace.specs.Wide.{Wide, standard_form}
 use Rattle.script_trace.specs.Standing.{Standing, first, running, ReplayRuns, ReplayRefuses, replay_verdict, IsBehind}
 use Rattle.script_trace.specs.Fills.{tried_blocks, retired_items, IsRetired, IsHandedSo, IsEmptyElse}
 
@@ -59,19 +61,62 @@ abbrev pub StandsWell : Standing → Type 0
 StandsWell first = ⊤
 StandsWell (running c w t) = KeepsPromises c t
 
--- The trace's text is this one, where no datagram was widened; and in scripts of version 1 none was. (Else it
--- has the requests in the extended form.)
-pub record HasText (text : List ℕ) (w : Wide) (t : Trace) : Type 0 where
+-- ---- the report
+
+-- a part of a report: the requests that one moment made, or anything else
+pub data Piece : Type 0 where
+  asks : List Request → Piece
+  says : List ℕ → Piece
+
+-- the lines of requests, with extended identifiers or in the standard form
+abbrev pub requests_printed : Bool → List Request → List ℕ
+requests_printed standard rs = flat_map (λ r. request_line (if standard then standard_form (request_bytes r) else request_bytes r)) rs
+
+abbrev pub piece_printed : Bool → Piece → List ℕ
+piece_printed standard (asks rs) = requests_printed standard rs
+piece_printed standard (says text) = text
+
+abbrev pub pieces_printed : Bool → List Piece → List ℕ
+pieces_printed standard pieces = flat_map (piece_printed standard) pieces
+
+abbrev pub asked_by_piece : Piece → List Request
+asked_by_piece (asks rs) = rs
+asked_by_piece (says text) = []
+
+abbrev pub asked_by_pieces : List Piece → List Request
+asked_by_pieces pieces = flat_map asked_by_piece pieces
+
+-- Where a datagram was widened, the first part has what was asked for before one that came; else all is in the first part.
+abbrev pub SplitsAtDatagram : AcqConfig → Bool → List Input → List Piece → List Piece → Type 0
+SplitsAtDatagram c false inputs front rest = rest ≡ []
+SplitsAtDatagram c true inputs front rest =
+    (before : List Input) × (bytes : List ℕ) × (behind : List Input) × (inputs ≡ before ++ datagram bytes ∷ behind)
+    × (asked_by_pieces front ≡ requests_from c first_state before)
+
+-- The report is the trace's text, but that the requests have the standard form from the first datagram on that was widened.
+-- In it are all requests of the acquisition, in order.
+pub record ReportsTrace (c : AcqConfig) (widened : Bool) (text : List ℕ) (t : Trace) : Type 0 where
+  pub front : List Piece
+  pub rest : List Piece
+  pub trace : t.text ≡ pieces_printed false front ++ pieces_printed false rest
+  pub report : text ≡ pieces_printed false front ++ pieces_printed true rest
+  pub asked : asked_by_pieces front ++ asked_by_pieces rest ≡ requests_from c first_state t.inputs
+  pub split : SplitsAtDatagram c widened t.inputs front rest
+
+-- The report is the trace's but for the form of requests. It's the trace's text where no datagram was widened; and in scripts
+-- of version 1 none was.
+pub record HasText (c : AcqConfig) (text : List ℕ) (w : Wide) (t : Trace) : Type 0 where
   pub plain : w.widened ≡ false → t.text ≡ text
   pub first_version : w.version ≡ 1 → w.widened ≡ false
+  pub reports : ReportsTrace c w.widened text t
 
 -- this is the report so far
 abbrev pub HasSaid : List ℕ → Standing → Type 0
 HasSaid text first = text ≡ []
-HasSaid text (running c w t) = HasText text w t
+HasSaid text (running c w t) = HasText c text w t
 
--- So it is of every script, however far it was run, with the last line that was run too; and the trace's
--- text is the report of its lines, where no datagram was widened.
+-- So it is of every script, however far it was run, with the last line that was run too; and the report of its lines is the
+-- trace's.
 pub record RunsKeepPromises : Type 0 where
   pub so_far :
       (lines : List (List ℕ)) (text : List ℕ) (new : Standing) → AreLines lines

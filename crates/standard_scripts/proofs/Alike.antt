@@ -1,6 +1,6 @@
 -- A narrowed script leads to the trace of the script that was narrowed.
-use Rattle.std.proofs.Common.{◌≡◌, ℕ, ◌≤◌, ◌^◌, max, true, false, Bool, List, [], ◌∷◌, ◌++◌, length, slice_index, nat_lt, Ok, refl, sym, ap, subst, ◌∙◌, append_assoc, append-nil}
-use Rattle.std.proofs.lemmas.Bool.{cond-true, and_from, eq-eqb, le-leb, le-ltb, not_from_false}
+use Rattle.std.proofs.Common.{◌≡◌, ◌≢◌, ℕ, ◌≤◌, ◌==◌, ◌^◌, max, true, false, Bool, List, [], ◌∷◌, ◌++◌, length, slice_index, nat_lt, Ok, refl, sym, ap, subst, ◌∙◌, append_assoc, append-nil}
+use Rattle.std.proofs.lemmas.Bool.{cond-true, cond-false, and_from, and_parts, eq-eqb, eqb-true, ne_eqb, le-leb, le-ltb, not_from_false}
 use Rattle.std.specs.List.{AllByRecursion}
 use Rattle.hex.specs.Hex.{decode_of, encode_lower}
 use Rattle.stream_packets.specs.Packets.{StreamPacket, head_of}
@@ -16,12 +16,12 @@ use Rattle.acquisition_machine.specs.declared.config.AcqConfig.{AcqConfig}
 use Rattle.script_trace.specs.Trace.{Trace, Part, board, grown}
 use Rattle.acquisition_machine.specs.Machine.{tick}
 use Rattle.acquisition_machine.specs.Runs.{turn}
-use Rattle.script_trace.specs.StreamLines.{TickLine}
+use Rattle.script_trace.specs.StreamLines.{TickLine, HearsIfRunning, DatagramLine}
 use Rattle.script_trace.specs.Adding.{Spells, AddsPart, Leads}
 use Rattle.script_trace.specs.Wide.{Wide, is_standard_at, is_standard, itself, wider, meaning_widened, standard_meaning, meaning_decoded, meaning, standard_text, said_by, DoesAs, Does, kept_behind}
 use Rattle.script_notes.proofs.Feeds.{AreLines}
 use Rattle.script_notes.proofs.Said.{line_says}
-use Rattle.standard_scripts.specs.Narrowing.{LeadsWide, Narrows, stays, packet, NarrowsAll, IsNoMoment, RunAlike}
+use Rattle.standard_scripts.specs.Narrowing.{LeadsWide, Narrows, stays, packet, idle, NarrowsAll, IsNoMoment, RunAlike}
 use Rattle.standard_scripts.proofs.Requests.{Alike, alike_none, alike_same, alike_both, requests_alike, alike_others}
 
 -- ---- one datagram
@@ -47,6 +47,34 @@ packet_means w t x digits second runs few may spelled =
     ap (meaning_decoded w t) spelled
     ∙ cond-true (is_standard w t (std_plain x)) (meaning_widened (widened w.top (std_plain x))) itself (test_holds w.version (board t).run w.top (std_plain x) second runs few there.len there.standard)
     ∙ ap meaning_widened is
+
+-- ---- a datagram while the stream stands still
+
+stands_still : (version run top : ℕ) (bytes : List ℕ) → run ≢ 1 → is_standard_at version run top bytes ≡ false
+stands_still version run top bytes other = go (is_standard_at version run top bytes) refl
+  where
+    go : (b : Bool) → is_standard_at version run top bytes ≡ b → is_standard_at version run top bytes ≡ false
+    go true e = absurd (other (eqb-true run 1 (and_parts _ _ (and_parts _ _ (and_parts _ _ (and_parts _ _ e).0).0).0).1))
+    go false e = e
+
+idle_means : (w : Wide) (t : Trace) (digits bytes : List ℕ) → (board t).run ≢ 1 → decode_of digits ≡ Ok bytes → meaning w t (line.datagram digits) ≡ itself
+unfolding meaning
+idle_means w t digits bytes other is =
+    ap (meaning_decoded w t) is ∙ cond-false (is_standard w t bytes) (standard_meaning w.top bytes) itself (stands_still w.version (board t).run w.top bytes other)
+
+-- it's counted, whatever its bytes are
+idle_hears : (c : AcqConfig) (t : Trace) (bytes shorter : List ℕ) (running : Bool) (part : Part) → running ≡ false → HearsIfRunning c t bytes running part → HearsIfRunning c t shorter running part
+idle_hears c t bytes shorter true part e h = absurd cc
+idle_hears c t bytes shorter false part e h = h
+
+idle_line : (c : AcqConfig) (t : Trace) (digits other shorter : List ℕ) (part : Part) → (board t).run ≢ 1 → decode_of other ≡ Ok shorter → DatagramLine c t digits part → DatagramLine c t other part
+idle_line c t digits other shorter part stands is (bytes, reads, hears) =
+    (shorter, is, idle_hears c t bytes shorter ((board t).run == 1) part (ne_eqb (board t).run 1 stands) hears)
+
+idle_adds : (c : AcqConfig) (t : Trace) (digits other shorter : List ℕ) (part : Part) → (board t).run ≢ 1 → decode_of other ≡ Ok shorter → AddsPart c t (line.datagram digits) part
+    → AddsPart c t (line.datagram other) part
+idle_adds c t digits other shorter part stands is adds =
+    record { spells = idle_line c t digits other shorter part stands is adds.spells; runs = adds.runs; fills = adds.fills }
 
 -- ---- one line
 
@@ -87,6 +115,14 @@ does_one c w t _ _ part _ adds (packet x digits second runs few may spelled) = r
   refused = refl;
   same = λ h. refl;
   alike = alike_same part.text (line_says c t (line.datagram (encode_lower (plain x))) part adds.spells);
+}
+does_one c w t _ _ part _ adds (idle digits other bytes shorter stands reads reads_other) = record {
+  report = part.text;
+  does = subst (λ meant. DoesAs c w t (line.datagram other) meant part.text w (grown t part)) (sym (idle_means w t other shorter stands reads_other))
+      (record { part = part; adds = idle_adds c t digits other shorter part stands reads_other adds; said = refl; is = refl }, refl);
+  refused = refl;
+  same = λ h. refl;
+  alike = alike_same part.text (line_says c t (line.datagram digits) part adds.spells);
 }
 
 -- ---- all lines

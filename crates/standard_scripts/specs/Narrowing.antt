@@ -1,5 +1,5 @@
 -- Lines of a script of version 2 whose datagrams are those of other lines, with standard identifiers.
-use Rattle.std.specs.Prelude.{◌≡◌, ⊤, ℕ, ◌≤◌, ◌^◌, ◌==◌, max, not, true, Bool, List, [], ◌∷◌, ◌++◌, codes, Ok}
+use Rattle.std.specs.Prelude.{◌≡◌, ◌≢◌, ⊤, ℕ, ◌≤◌, ◌^◌, ◌==◌, max, not, true, Bool, List, [], ◌∷◌, ◌++◌, codes, Ok}
 use Rattle.std.specs.List.{AllByRecursion, filter, starts_with}
 use Rattle.hex.specs.Hex.{decode_of, encode_lower}
 use Rattle.stream_packets.specs.Packets.{StreamPacket, head_of}
@@ -27,6 +27,8 @@ pub data Narrows (w : Wide) (t : Trace) : ScriptLine → ScriptLine → Wide →
   -- the datagram of a packet whose 16 bits stand for its block, while the stream runs
   packet : (x : StreamPacket) (digits : List ℕ) → w.version ≡ 2 → (board t).run ≡ 1 → w.top ≤ 2 ^ 63 → MayNarrow w.top (x ∷ []) → decode_of digits ≡ Ok (std_plain x)
       → Narrows w t (line.datagram (encode_lower (plain x))) (line.datagram digits) (record w { top = max w.top (head_of x).block; widened = true })
+  -- a datagram that comes while the stream doesn't run, whatever the bytes of both are
+  idle : (digits other bytes shorter : List ℕ) → (board t).run ≢ 1 → decode_of digits ≡ Ok bytes → decode_of other ≡ Ok shorter → Narrows w t (line.datagram digits) (line.datagram other) w
 
 -- The lines lead to a trace, along which the others are these lines narrowed.
 abbrev pub NarrowsAll : AcqConfig → Wide → Trace → List ScriptLine → List ScriptLine → Wide → Trace → Type 0

@@ -1,4 +1,4 @@
-use Rattle.captured_scripts.proofs.Replayed.{captures_are_replayed}
+use Rattle.captured_scripts.proofs.OfCaptures.{captures_are_replayed}
 use Rattle.captured_scripts.proofs.laws.captures_are_replayed.Goals as goal
 
 pub returns : goal.returns
