@@ -2,17 +2,26 @@
 
 use crate::setting::{Setting, Shown};
 use gev_status::Status;
+use gev_types::Peer;
 use std::{io, str};
 
-/// How a call ended: what it answered and wrote, how many links came back, how many faults the ports count, whether a
-/// board was kept, and whether a worker waited in vain at the gate.
+/// A datagram that was sent: to whom, and its first bytes in hexadecimal.
+#[derive(Drop)]
+pub struct Sent {
+    pub peer: Peer,
+    pub front: String,
+}
+
+/// How a call ended: what it answered and wrote, how many links came back, how many faults the ports count, the run word
+/// of the board that was kept, what the control link sent, and whether a worker waited in vain at the gate.
 #[derive(Drop)]
 pub struct Outcome {
     pub status: Status,
     pub written: Vec<u8>,
     pub links: usize,
     pub faults: u64,
-    pub has_board: bool,
+    pub run: Option<u8>,
+    pub sent: Vec<Sent>,
     pub is_missed: bool,
 }
 
@@ -24,7 +33,7 @@ pub fn show(rt: &HostRuntime, line: &str, setting: &Setting, outcome: &Outcome) 
         faults,
         ..
     } = outcome;
-    let board = if outcome.has_board {
+    let board = if outcome.run.is_some() {
         "a board"
     } else {
         "no board"
@@ -40,6 +49,21 @@ pub fn show(rt: &HostRuntime, line: &str, setting: &Setting, outcome: &Outcome) 
         if !each.is_empty() && is_shown(setting, each) {
             show_line(rt, setting.shown, each)?;
         }
+    }
+    if setting.kept {
+        show_kept(rt, outcome)?;
+    }
+    Ok(())
+}
+
+/// Writes the run word of the board that was kept, and what the control link sent.
+fn show_kept(rt: &HostRuntime, outcome: &Outcome) -> io::Result<()> {
+    if let Some(run) = outcome.run {
+        println!(rt; "  run word {run}")?;
+    }
+    for sent in &outcome.sent {
+        let Peer { address, port } = sent.peer;
+        println!(rt; "  to {address:x}:{port} {}", sent.front)?;
     }
     Ok(())
 }

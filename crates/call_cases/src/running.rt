@@ -1,8 +1,12 @@
 //! A call of the program over a source, a sink and ports in memory.
 
-use crate::outcome::Outcome;
+ghost use Rattle.std.specs.Prelude.{◌≡◌, IfSome};
+ghost use Rattle.buffer_words.specs.Boards.{board_id};
+
+use crate::outcome::{Outcome, Sent};
 use crate::pacing::Pace;
 use crate::setting::{Fails, Setting};
+use buffer_words::{Board, Pass};
 use gev_call::gevacq_top;
 use gev_links::{MemoryLink, MemoryPorts, MemorySink, SteadySource};
 use gev_types::{NoMemory, Peer};
@@ -22,6 +26,9 @@ const HOST: Peer = Peer {
 
 /// How many datagrams the control link may send.
 const ROOM: usize = 1000;
+
+/// How many bytes are shown of a datagram that was sent: those of a command up to its first register's address.
+const FRONT: usize = 12;
 
 /// How the row's call ends, or behind it the replay of what it wrote.
 pub fn run<R: Threads + Wait + Sync>(
@@ -53,6 +60,29 @@ fn heard(alloc: Global, packets: &[Vec<u8>]) -> Result<Vec<Option<(&[u8], Peer)>
         all.push(Some((packet.as_slice(), CAMERA)))?;
     }
     Ok(all)
+}
+
+/// What the last of three links, which is that of the control channel, sent.
+fn sent_by(alloc: Global, links: &[MemoryLink<'_>]) -> Result<Vec<Sent>, NoMemory> {
+    let mut all = Vec::new(alloc);
+    if let [_, _, control] = links {
+        for (peer, bytes) in control.sent() {
+            let bytes = bytes.as_slice();
+            let front = hex::encode(alloc, &bytes[..bytes.len().min(FRONT)])?;
+            all.push(Sent { peer: *peer, front })?;
+        }
+    }
+    Ok(all)
+}
+
+/// The run word of the board that was kept, as the pass that was kept loads it.
+fn run_word(kept: &mut Option<(Board, Pass)>) -> Option<u8>
+    requires own { IfSome kept.old (λ k. k.1.table ≡ board_id k.0) }
+{
+    match kept {
+        Some((board, pass)) => Some(board.look_run(pass)),
+        None => None,
+    }
 }
 
 /// How a call of these words ends.
@@ -119,7 +149,8 @@ fn call_over<R: Threads + Wait + Sync>(
         written: sink.written().to_vec(alloc)?,
         links: ports.links().len(),
         faults: ports.faults(),
-        has_board: kept.is_some(),
+        run: run_word(&mut kept),
+        sent: sent_by(alloc, ports.links())?,
         is_missed: gate.is_missed(),
     })
 }

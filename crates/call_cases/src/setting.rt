@@ -65,6 +65,8 @@ pub struct Setting {
     pub known: Vec<Vec<u8>>,
     /// Whether a run may end done or with its turns spent.
     pub either: bool,
+    /// Whether what was kept and sent is written.
+    pub kept: bool,
 }
 
 impl Setting {
@@ -88,6 +90,7 @@ impl Setting {
             shown: Shown::All,
             known: Vec::new(alloc),
             either: false,
+            kept: false,
         };
         setting.control = datagrams(alloc, ACKS)?;
         for word in text.split_whitespace() {
@@ -115,6 +118,7 @@ impl Setting {
             "takes" => self.shown = Shown::Takes,
             "known" => self.know(alloc, value)?,
             "either" => self.either = true,
+            "kept" => self.kept = true,
             _ => return Err(Wrong::NotUnderstood),
         }
         Ok(())

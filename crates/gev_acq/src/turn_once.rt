@@ -4,7 +4,7 @@ ghost use Rattle.std.specs.Prelude.{◌≡◌, ◌≤◌, [], length, IfOk, IfSo
 ghost use Rattle.acq_core.specs.Receiver.{config_of, buffers, Stands};
 ghost use Rattle.acq_core.specs.Waiting.{waiting_fills, waiting_requests};
 ghost use Rattle.buffer_words.specs.Boards.{board_id};
-ghost use Rattle.gev_links.specs.Links.{answer_of};
+ghost use Rattle.gev_links.specs.Links.{answer_of, receive_room};
 ghost use Rattle.gev_acq.specs.Buffers.{Backs, HoldsAlone};
 ghost use Rattle.gev_control.specs.Controlled.{is_fault};
 ghost use Rattle.gev_acq.specs.Reading.{is_lost, has_come as comes, FaultsOf};
@@ -108,6 +108,7 @@ pub(crate) fn turn_once<R: Wait, L: Link, M: Link, C: Clock, G: Gate>(
     requires fills { waiting_fills acq.old ≡ [] }
     requires requests { waiting_requests acq.old ≡ [] }
     requires backs { Backs pass.old (buffers acq.old) }
+    requires room { length out.old ≡ receive_room }
     ensures takes { TakesOne mode (config_of acq.old) camera (Stands acq.old) (Stands acq.new)
         (record { received = L.received stream.old; heard = M.received control.old; sent = M.sent control.old; told = C.told clock.old; client = client.old })
         (record { received = L.received stream.new; heard = M.received control.new; sent = M.sent control.new; told = C.told clock.new; client = client.new })

@@ -3,31 +3,31 @@ use Rattle.std.proofs.Common.{◌≡◌, ℕ, ◌+◌, ◌≤◌, ◌<◌, zero,
 use Rattle.std.proofs.lemmas.List.{append-nil}
 use Rattle.std.proofs.lemmas.Bool.{cases_lt}
 use Rattle.gev_links.specs.Faults.{Rose}
-use Rattle.gev_links.specs.Given.{one_more, ComesBack, Raises}
+use Rattle.gev_links.specs.Given.{one_more, ToldOfThree, Raises}
 use Rattle.gev_links.specs.Links.{Address, Answer}
 use Rattle.gev_links.specs.PortsState.{IsNew}
-use Rattle.gev_binding.specs.Bound.{ComeBack, GivesBack, RaisesBy}
+use Rattle.gev_binding.specs.Bound.{AllToldOfThree, GivesBack, RaisesBy}
 
-pub none_back : {A : Type 0} (old : Option (List A)) → ComeBack old old []
+pub none_back : {A : Type 0} (old : Option (List A)) → AllToldOfThree old old []
 none_back None = refl
 none_back (Some old) = λ few. ap (λ l. Some l) (sym (append-nil old))
 
-pub back_then : {A : Type 0} (old mid new : Option (List A)) (x : A) (xs : List A) → ComesBack old mid x → ComeBack mid new xs → ComeBack old new (x ∷ xs)
-back_then None mid new x xs first second = subst (λ m. ComeBack m new xs) first second
+pub back_then : {A : Type 0} (old mid new : Option (List A)) (x : A) (xs : List A) → ToldOfThree old mid x → AllToldOfThree mid new xs → AllToldOfThree old new (x ∷ xs)
+back_then None mid new x xs first second = subst (λ m. AllToldOfThree m new xs) first second
 back_then (Some old) mid new x xs first second =
     λ few.
     let is : mid ≡ Some (old ++ x ∷ []) = first (omega (arith, few)) in
-    let rest : ComeBack (Some (old ++ x ∷ [])) new xs = subst (λ m. ComeBack m new xs) is second in
+    let rest : AllToldOfThree (Some (old ++ x ∷ [])) new xs = subst (λ m. AllToldOfThree m new xs) is second in
     rest (omega (arith, few, length-append old (x ∷ []))) ∙ ap (λ l. Some l) (append_assoc old (x ∷ []) xs)
 
-pub two_back : {A : Type 0} (o p q : Option (List A)) (x y : A) → ComesBack o p x → ComesBack p q y → ComeBack o q (x ∷ y ∷ [])
+pub two_back : {A : Type 0} (o p q : Option (List A)) (x y : A) → ToldOfThree o p x → ToldOfThree p q y → AllToldOfThree o q (x ∷ y ∷ [])
 two_back o p q x y first second = back_then o p q x (y ∷ []) first (back_then p q q y [] second (none_back q))
 
-pub three_back : {A : Type 0} (o p q r : Option (List A)) (x y z : A) → ComesBack o p x → ComesBack p q y → ComesBack q r z → ComeBack o r (x ∷ y ∷ z ∷ [])
+pub three_back : {A : Type 0} (o p q r : Option (List A)) (x y z : A) → ToldOfThree o p x → ToldOfThree p q y → ToldOfThree q r z → AllToldOfThree o r (x ∷ y ∷ z ∷ [])
 three_back o p q r x y z first second third = back_then o p r x (y ∷ z ∷ []) first (two_back p q r y z second third)
 
 pub unbound_first : {L : Type 0} (received : L → Option (List Answer)) (sent : L → Option (List (Address × List ℕ))) (faults : L → ℕ) (before binds : ℕ) (old new : Option (List L)) (a : L)
-    → IsNew (received a) (sent a) (faults a) → binds ≡ one_more (one_more before) → ComesBack old new a → GivesBack received sent faults before binds old new
+    → IsNew (received a) (sent a) (faults a) → binds ≡ one_more (one_more before) → ToldOfThree old new a → GivesBack received sent faults before binds old new
 unbound_first received sent faults before binds old new a unused called back = record {
   came = a ∷ [];
   few = omega arith;

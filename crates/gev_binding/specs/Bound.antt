@@ -4,10 +4,10 @@ use Rattle.gev_links.specs.Faults.{Rose}
 use Rattle.gev_links.specs.Links.{Address, Answer}
 use Rattle.gev_links.specs.PortsState.{AreNew}
 
--- These came back one after the other. Ports that tell which did tell of three at least.
-abbrev pub ComeBack : {A : Type 0} → Option (List A) → Option (List A) → List A → Type 0
-ComeBack None new members = new ≡ None
-ComeBack (Some old) new members = length old + length members ≤ 3 → new ≡ Some (old ++ members)
+-- These were told one after the other behind those. Ports that tell do so of three at least.
+abbrev pub AllToldOfThree : {A : Type 0} → Option (List A) → Option (List A) → List A → Type 0
+AllToldOfThree None new members = new ≡ None
+AllToldOfThree (Some old) new members = length old + length members ≤ 3 → new ≡ Some (old ++ members)
 
 -- After so many calls of bind, up to the counter's last value.
 abbrev pub more_binds : ℕ → ℕ → ℕ
@@ -20,7 +20,7 @@ pub record GivesBack {L : Type 0} (received : L → Option (List Answer)) (sent 
   pub few : length came ≤ 2
   pub called : binds_after ≡ more_binds (length came + 1) binds
   pub unused : AreNew received sent faults came
-  pub back : ComeBack old new came
+  pub back : AllToldOfThree old new came
 
 -- The ports' count of faults, by the counts of three links that came back: it rises exactly where one of them had
 -- a fault.

@@ -4,7 +4,7 @@ ghost use Rattle.std.specs.Prelude.{◌≡◌, ◌+◌, ◌≤◌, ℕ, [], ◌�
 ghost use Rattle.gev_links.specs.Faults.{Rose};
 ghost use Rattle.gev_links.specs.Given.{one_more};
 ghost use Rattle.gev_links.specs.PortsState.{IsNew};
-ghost use Rattle.gev_binding.specs.Bound.{ComeBack, GivesBack, more_binds};
+ghost use Rattle.gev_binding.specs.Bound.{AllToldOfThree, GivesBack, more_binds};
 
 use crate::three_links::ThreeLinks;
 use gev_links::{Failed, Ports};
@@ -22,8 +22,9 @@ fn bind_last<P: Ports>(
     ensures control { IfOk result (λ links. IsNew (P.L.received links.control) (P.L.sent links.control) (P.L.faults links.control)) }
     ensures called { P.binds ports.new ≡ one_more (P.binds ports.old) }
     ensures links { OnOk result (P.links ports.new ≡ P.links ports.old) }
-    ensures back { OnErr result (ComeBack (P.links ports.old) (P.links ports.new) (camera ∷ stream ∷ [])) }
+    ensures back { OnErr result (AllToldOfThree (P.links ports.old) (P.links ports.new) (camera ∷ stream ∷ [])) }
     ensures clocks { P.clocks ports.new ≡ P.clocks ports.old }
+    ensures bound { IfOk result (λ links. AllToldOfThree (P.bound ports.old) (P.bound ports.new) (P.L.address links.control ∷ [])) }
     ensures no_fault { OnOk result (P.faults ports.new ≡ P.faults ports.old) }
     ensures failed { OnErr result (Rose (P.faults ports.old) (P.faults ports.new)) }
 {
@@ -55,6 +56,7 @@ fn bind_two<P: Ports>(ports: &mut P, camera: P::L) -> Result<ThreeLinks<P::L>, F
     ensures back { OnErr result ((before : ℕ) → P.binds ports.old ≡ one_more before
         → GivesBack P.L.received P.L.sent P.L.faults before (P.binds ports.new) (P.links ports.old) (P.links ports.new)) }
     ensures clocks { P.clocks ports.new ≡ P.clocks ports.old }
+    ensures bound { IfOk result (λ links. AllToldOfThree (P.bound ports.old) (P.bound ports.new) (P.L.address links.stream ∷ P.L.address links.control ∷ [])) }
     ensures no_fault { OnOk result (P.faults ports.new ≡ P.faults ports.old) }
     ensures failed { OnErr result (Rose (P.faults ports.old) (P.faults ports.new)) }
 {
@@ -70,8 +72,8 @@ fn bind_two<P: Ports>(ports: &mut P, camera: P::L) -> Result<ThreeLinks<P::L>, F
     }
 }
 
-/// Binds three links: the camera's, the stream's, the control channel's. Where a bind fails the links that came go
-/// back in the order in which they came, and no further one is bound.
+/// Binds three links, in this order: the camera's, the stream's, the control channel's. Where a bind fails the links
+/// that came go back in the order in which they came, and no further one is bound.
 pub fn bind_three<P: Ports>(ports: &mut P) -> Result<ThreeLinks<P::L>, Failed>
     ensures camera { IfOk result (λ links. IsNew (P.L.received links.camera) (P.L.sent links.camera) (P.L.faults links.camera)) }
     ensures stream { IfOk result (λ links. IsNew (P.L.received links.stream) (P.L.sent links.stream) (P.L.faults links.stream)) }
@@ -81,6 +83,7 @@ pub fn bind_three<P: Ports>(ports: &mut P) -> Result<ThreeLinks<P::L>, Failed>
     ensures links { OnOk result (P.links ports.new ≡ P.links ports.old) }
     ensures back { OnErr result (GivesBack P.L.received P.L.sent P.L.faults (P.binds ports.old) (P.binds ports.new) (P.links ports.old) (P.links ports.new)) }
     ensures clocks { P.clocks ports.new ≡ P.clocks ports.old }
+    ensures bound { IfOk result (λ links. AllToldOfThree (P.bound ports.old) (P.bound ports.new) (P.L.address links.camera ∷ P.L.address links.stream ∷ P.L.address links.control ∷ [])) }
     ensures no_fault { OnOk result (P.faults ports.new ≡ P.faults ports.old) }
     ensures failed { OnErr result (Rose (P.faults ports.old) (P.faults ports.new)) }
 {

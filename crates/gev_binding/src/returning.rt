@@ -1,7 +1,7 @@
 //! What goes back to the ports after a run.
 
 ghost use Rattle.std.specs.Prelude.{◌≡◌, [], ◌∷◌};
-ghost use Rattle.gev_binding.specs.Bound.{ComeBack, RaisesBy};
+ghost use Rattle.gev_binding.specs.Bound.{AllToldOfThree, RaisesBy};
 
 use crate::three_links::ThreeLinks;
 use gev_links::Ports;
@@ -14,9 +14,10 @@ pub fn give_back<P: Ports>(
     host_clock: P::C,
     app_clock: P::C,
 )
-    ensures links { ComeBack (P.links ports.old) (P.links ports.new) (links.camera ∷ links.stream ∷ links.control ∷ []) }
-    ensures clocks { ComeBack (P.clocks ports.old) (P.clocks ports.new) (camera_clock ∷ host_clock ∷ app_clock ∷ []) }
+    ensures links { AllToldOfThree (P.links ports.old) (P.links ports.new) (links.camera ∷ links.stream ∷ links.control ∷ []) }
+    ensures clocks { AllToldOfThree (P.clocks ports.old) (P.clocks ports.new) (camera_clock ∷ host_clock ∷ app_clock ∷ []) }
     ensures binds { P.binds ports.new ≡ P.binds ports.old }
+    ensures bound { P.bound ports.new ≡ P.bound ports.old }
     ensures faults { RaisesBy (P.L.faults links.camera) (P.L.faults links.stream) (P.L.faults links.control) (P.faults ports.old) (P.faults ports.new) }
 {
     give_links(ports, links);
@@ -25,9 +26,10 @@ pub fn give_back<P: Ports>(
 
 /// Gives the links back.
 fn give_links<P: Ports>(ports: &mut P, links: ThreeLinks<P::L>)
-    ensures links { ComeBack (P.links ports.old) (P.links ports.new) (links.camera ∷ links.stream ∷ links.control ∷ []) }
+    ensures links { AllToldOfThree (P.links ports.old) (P.links ports.new) (links.camera ∷ links.stream ∷ links.control ∷ []) }
     ensures clocks { P.clocks ports.new ≡ P.clocks ports.old }
     ensures binds { P.binds ports.new ≡ P.binds ports.old }
+    ensures bound { P.bound ports.new ≡ P.bound ports.old }
     ensures faults { RaisesBy (P.L.faults links.camera) (P.L.faults links.stream) (P.L.faults links.control) (P.faults ports.old) (P.faults ports.new) }
 {
     let ThreeLinks {
@@ -42,9 +44,10 @@ fn give_links<P: Ports>(ports: &mut P, links: ThreeLinks<P::L>)
 
 /// Gives the clocks back.
 fn give_clocks<P: Ports>(ports: &mut P, first: P::C, second: P::C, third: P::C)
-    ensures clocks { ComeBack (P.clocks ports.old) (P.clocks ports.new) (first ∷ second ∷ third ∷ []) }
+    ensures clocks { AllToldOfThree (P.clocks ports.old) (P.clocks ports.new) (first ∷ second ∷ third ∷ []) }
     ensures links { P.links ports.new ≡ P.links ports.old }
     ensures binds { P.binds ports.new ≡ P.binds ports.old }
+    ensures bound { P.bound ports.new ≡ P.bound ports.old }
     ensures faults { P.faults ports.new ≡ P.faults ports.old }
 {
     ports.unclock(first);

@@ -1,6 +1,7 @@
 pub mod Counted
 pub mod Errands
 pub mod Answered
+pub mod Binding
 pub mod Replaying
 pub mod Promised
 pub mod Recorded

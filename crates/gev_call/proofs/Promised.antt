@@ -4,7 +4,7 @@ use Rattle.board_machine.specs.declared.events.Entry.{Entry}
 use Rattle.board_machine.specs.Histories.{Run}
 use Rattle.gev_links.specs.Links.{Address, Answer}
 use Rattle.gev_status.specs.declared.status.Status.{Status}
-use Rattle.gev_binding.specs.Bound.{ComeBack}
+use Rattle.gev_binding.specs.Bound.{AllToldOfThree}
 use Rattle.gev_top.specs.declared.live_numbers.LiveNumbers.{LiveNumbers}
 use Rattle.gev_live.specs.Told.{Told}
 use Rattle.live_promises.proofs.Keeping.{live_runs_keep}
@@ -12,7 +12,7 @@ use Rattle.lanes_promises.proofs.Keeping.{lane_runs_keep}
 use Rattle.gev_call.specs.Runs.{IsUntold, told_by, numbers_of, RunsSo, KeepsSo, RunsOver}
 
 -- three members that came back to an empty list are the list
-pub all_back : {A : Type 0} (old new : Option (List A)) (a b d : A) → ComeBack old new (a ∷ b ∷ d ∷ []) → old ≡ Some [] → new ≡ Some (a ∷ b ∷ d ∷ [])
+pub all_back : {A : Type 0} (old new : Option (List A)) (a b d : A) → AllToldOfThree old new (a ∷ b ∷ d ∷ []) → old ≡ Some [] → new ≡ Some (a ∷ b ∷ d ∷ [])
 all_back None new a b d back is = absurd (cc)
 all_back (Some []) new a b d back is = back (omega arith)
 all_back (Some (x ∷ xs)) new a b d back is = absurd (cc)
@@ -28,12 +28,10 @@ pub ran_over : {L C : Type 0} (received : L → Option (List Answer)) (sent : L 
     (n : LiveNumbers) (status : Status) (links links_after : Option (List L)) (clocks clocks_after : Option (List C)) (written written_after : Option (List ℕ)) (writes writes_after : ℕ) (h : List Entry)
     (camera stream : Address) (begins : Told) (camera_link stream_link control_link : L) (camera_clock host_clock app_clock : C) → IsUntold begins
     → RunsSo n camera stream status begins (told_by received sent faults told camera_link stream_link control_link camera_clock host_clock app_clock) written written_after writes writes_after h
-    → Run h → ComeBack links links_after (camera_link ∷ stream_link ∷ control_link ∷ []) → ComeBack clocks clocks_after (camera_clock ∷ host_clock ∷ app_clock ∷ [])
-    → RunsOver received sent faults told n status links links_after clocks clocks_after written written_after writes writes_after h
+    → Run h → AllToldOfThree links links_after (camera_link ∷ stream_link ∷ control_link ∷ []) → AllToldOfThree clocks clocks_after (camera_clock ∷ host_clock ∷ app_clock ∷ [])
+    → RunsOver received sent faults told n camera stream status links links_after clocks clocks_after written written_after writes writes_after h
 ran_over received sent faults told n status links links_after clocks clocks_after written written_after writes writes_after h
     camera stream begins camera_link stream_link control_link camera_clock host_clock app_clock untold runs is_run links_back clocks_back = record {
-      camera = camera;
-      stream = stream;
       begins = begins;
       untold = untold;
       ends = told_by received sent faults told camera_link stream_link control_link camera_clock host_clock app_clock;

@@ -6,7 +6,7 @@ use Rattle.gev_status.specs.declared.status.Status.{Status}
 use Rattle.gev_status.specs.declared.status.Status.TheVariants.{Done, Usage, BadScript, ReadFault, WriteFault, LinkFault, NoMemory, NoAnswer, Refused, TurnsSpent, BadCapture, NoPicture}
 use Rattle.mode_calls.specs.declared.mode.Mode.{Mode}
 use Rattle.mode_calls.specs.declared.mode.Mode.TheVariants.{OldestFirst}
-use Rattle.gev_binding.specs.Bound.{ComeBack}
+use Rattle.gev_binding.specs.Bound.{AllToldOfThree}
 use Rattle.gev_top.specs.declared.live_numbers.LiveNumbers.{LiveNumbers}
 use Rattle.gev_top.specs.Completeness.{NoneRose, EndsLive}
 use Rattle.gev_live.specs.Told.{Told}
@@ -57,12 +57,10 @@ pub recorded_over : {L C : Type 0} (received : L → Option (List Answer)) (sent
     (n : LiveNumbers) (status : Status) (links links_after : Option (List L)) (clocks clocks_after : Option (List C)) (written written_after : Option (List ℕ)) (writes writes_after : ℕ) (h : List Entry)
     (camera stream : Address) (begins : Told) (taped : List (Option (List ℕ))) (camera_link stream_link control_link : L) (camera_clock host_clock app_clock : C) → IsUntold begins → n.mode ≡ OldestFirst
     → RecordsLive (in_mode n OldestFirst) camera stream status begins (told_by received sent faults told camera_link stream_link control_link camera_clock host_clock app_clock) taped written written_after writes writes_after h
-    → ComeBack links links_after (camera_link ∷ stream_link ∷ control_link ∷ []) → ComeBack clocks clocks_after (camera_clock ∷ host_clock ∷ app_clock ∷ [])
-    → RecordsOver received sent faults told n status links links_after clocks clocks_after written written_after writes writes_after h
+    → AllToldOfThree links links_after (camera_link ∷ stream_link ∷ control_link ∷ []) → AllToldOfThree clocks clocks_after (camera_clock ∷ host_clock ∷ app_clock ∷ [])
+    → RecordsOver received sent faults told n camera stream status links links_after clocks clocks_after written written_after writes writes_after h
 recorded_over received sent faults told n status links links_after clocks clocks_after written written_after writes writes_after h
     camera stream begins taped camera_link stream_link control_link camera_clock host_clock app_clock untold oldest runs links_back clocks_back = record {
-      camera = camera;
-      stream = stream;
       begins = begins;
       untold = untold;
       ends = told_by received sent faults told camera_link stream_link control_link camera_clock host_clock app_clock;

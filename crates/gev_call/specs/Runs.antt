@@ -4,7 +4,7 @@ use mathlib.Core.Logic.{inl, inr}
 use Rattle.board_machine.specs.declared.events.Entry.{Entry}
 use Rattle.gev_links.specs.Links.{Address, Answer, IsBlank}
 use Rattle.gev_links.specs.PortsState.{IsNew}
-use Rattle.gev_binding.specs.Bound.{ComeBack, GivesBack, more_binds}
+use Rattle.gev_binding.specs.Bound.{AllToldOfThree, GivesBack, more_binds}
 use Rattle.gev_serve.specs.Wires.{Wire, wire}
 use Rattle.gev_status.specs.declared.status.Status.{Status}
 use Rattle.gev_status.specs.declared.status.Status.TheVariants.{LinkFault, NoMemory}
@@ -67,15 +67,21 @@ abbrev pub KeepsSo : {n : LiveNumbers} {camera stream : Address} {status : Statu
 KeepsSo (inl (one, runs)) = KeepsLivePromises runs
 KeepsSo (inr (more, runs)) = KeepsLanesPromises runs
 
--- A live run over new links and clocks, whose history is h. It keeps the headline, and its reader ended for a cause.
--- Where the ports told what came back, and nothing had, they tell of just the run's links and clocks, as they were at
--- its end.
-pub record RunsOver {L C : Type 0} (received : L → Option (List Answer)) (sent : L → Option (List (Address × List ℕ))) (faults : L → ℕ) (told : C → Option (List ℕ))
-    (n : LiveNumbers) (status : Status) (links links_after : Option (List L)) (clocks clocks_after : Option (List C))
-    (written written_after : Option (List ℕ)) (writes writes_after : ℕ) (h : List Entry) : Type 0 where
-  -- the addresses of the camera's link and of the stream's
+-- Three links were bound: first the camera's, then the stream's, then that of the control channel. Where the ports tell
+-- their addresses, these are they. The rest is so of the camera's address and the stream's.
+pub record IsBound (bound bound_after : Option (List Address)) (runs : Address → Address → Type 0) : Type 0 where
   pub camera : Address
   pub stream : Address
+  pub control : Address
+  pub are : AllToldOfThree bound bound_after (camera ∷ stream ∷ control ∷ [])
+  pub so : runs camera stream
+
+-- A live run over new links and clocks, whose history is h. The camera's link has the first address, the stream's the
+-- second. It keeps the headline, and its reader ended for a cause. Where the ports told what came back, and nothing had,
+-- they tell of just the run's links and clocks, as they were at its end: the links in the order in which they were bound.
+pub record RunsOver {L C : Type 0} (received : L → Option (List Answer)) (sent : L → Option (List (Address × List ℕ))) (faults : L → ℕ) (told : C → Option (List ℕ))
+    (n : LiveNumbers) (camera stream : Address) (status : Status) (links links_after : Option (List L)) (clocks clocks_after : Option (List C))
+    (written written_after : Option (List ℕ)) (writes writes_after : ℕ) (h : List Entry) : Type 0 where
   pub begins : Told
   pub untold : IsUntold begins
   pub ends : Told
@@ -86,11 +92,8 @@ pub record RunsOver {L C : Type 0} (received : L → Option (List Answer)) (sent
 -- A recorded live run over new links and clocks, whose history is h. Its stream's link was heard through a tape, and
 -- its script was written in place of its lines. The rest is as of a live run.
 pub record RecordsOver {L C : Type 0} (received : L → Option (List Answer)) (sent : L → Option (List (Address × List ℕ))) (faults : L → ℕ) (told : C → Option (List ℕ))
-    (n : LiveNumbers) (status : Status) (links links_after : Option (List L)) (clocks clocks_after : Option (List C))
+    (n : LiveNumbers) (camera stream : Address) (status : Status) (links links_after : Option (List L)) (clocks clocks_after : Option (List C))
     (written written_after : Option (List ℕ)) (writes writes_after : ℕ) (h : List Entry) : Type 0 where
-  -- the addresses of the camera's link and of the stream's
-  pub camera : Address
-  pub stream : Address
   pub begins : Told
   pub untold : IsUntold begins
   pub ends : Told
@@ -109,8 +112,8 @@ pub record GivesAllBack {L C : Type 0} (received : L → Option (List Answer)) (
   pub host_clock : C
   pub app_clock : C
   pub untold : IsUntold (told_by received sent faults told camera stream control camera_clock host_clock app_clock)
-  pub links_back : ComeBack links links_after (camera ∷ stream ∷ control ∷ [])
-  pub clocks_back : ComeBack clocks clocks_after (camera_clock ∷ host_clock ∷ app_clock ∷ [])
+  pub links_back : AllToldOfThree links links_after (camera ∷ stream ∷ control ∷ [])
+  pub clocks_back : AllToldOfThree clocks clocks_after (camera_clock ∷ host_clock ∷ app_clock ∷ [])
 
 -- No board was made: a bind failed, or memory was wanting, for the tape of a recorded run or for the board. The links
 -- that were got came back unused, where memory was wanting with three clocks, and nothing was written.

@@ -6,10 +6,11 @@ ghost use Rattle.board_machine.specs.Laws.{IsAlone};
 ghost use Rattle.gev_links.specs.Faults.{Rose};
 ghost use Rattle.gev_links.specs.Links.{IsBlank};
 ghost use Rattle.gev_links.specs.PortsState.{IsNew};
-ghost use Rattle.gev_binding.specs.Bound.{ComeBack, RaisesBy};
+ghost use Rattle.gev_binding.specs.Bound.{AllToldOfThree, RaisesBy};
 ghost use Rattle.gev_top.specs.LiveWords.{IsRecordable};
 ghost use Rattle.gev_top.specs.Completeness.{NoneRose, EndsLive};
-ghost use Rattle.gev_call.specs.Runs.{GivesAllBack, RecordsOver, RunsNothing};
+ghost use Rattle.buffer_words.specs.Boards.{board_id};
+ghost use Rattle.gev_call.specs.Runs.{GivesAllBack, IsBound, RecordsOver, RunsNothing};
 
 use crate::running::{give_ends, with_clocks};
 use buffer_words::{Board, Pass};
@@ -73,9 +74,10 @@ fn with_tape<P: Ports>(
 
 /// Gives a recorded run's links and clocks back, the stream's link without its tape.
 fn give_taped<P: Ports>(ports: &mut P, ends: Ends<P::L, Tape<P::L>, P::C>)
-    ensures links { ComeBack (P.links ports.old) (P.links ports.new) (ends.camera ∷ ends.stream.inner ∷ ends.control ∷ []) }
-    ensures clocks { ComeBack (P.clocks ports.old) (P.clocks ports.new) (ends.camera_clock ∷ ends.host_clock ∷ ends.app_clock ∷ []) }
+    ensures links { AllToldOfThree (P.links ports.old) (P.links ports.new) (ends.camera ∷ ends.stream.inner ∷ ends.control ∷ []) }
+    ensures clocks { AllToldOfThree (P.clocks ports.old) (P.clocks ports.new) (ends.camera_clock ∷ ends.host_clock ∷ ends.app_clock ∷ []) }
     ensures binds { P.binds ports.new ≡ P.binds ports.old }
+    ensures bound { P.bound ports.new ≡ P.bound ports.old }
     ensures faults { RaisesBy (P.L.faults ends.camera) (P.L.faults ends.stream.inner) (P.L.faults ends.control) (P.faults ports.old) (P.faults ports.new) }
 {
     let Ends {
@@ -116,14 +118,16 @@ fn record_on<R: Threads + Wait + Sync, K: Sink, P: Ports, G: Gate + Sync>(
     requires camera_clock { IsBlank (P.C.told ends.camera_clock) }
     requires host_clock { IsBlank (P.C.told ends.host_clock) }
     requires app_clock { IsBlank (P.C.told ends.app_clock) }
-    ensures recorded { IfSome kept.new (λ k. RecordsOver P.L.received P.L.sent P.L.faults P.C.told numbers result (P.links ports.old) (P.links ports.new)
+    ensures recorded { IfSome kept.new (λ k. RecordsOver P.L.received P.L.sent P.L.faults P.C.told numbers (P.L.address ends.camera) (P.L.address ends.stream.inner) result (P.links ports.old) (P.links ports.new)
         (P.clocks ports.old) (P.clocks ports.new) (K.written sink.old) (K.written sink.new) (K.faults sink.old) (K.faults sink.new) k.1.seen) }
     ensures alone { IfSome kept.new (λ k. IsAlone (After k.1.seen) 0) }
+    ensures own { IfSome kept.new (λ k. k.1.table ≡ board_id k.0) }
     ensures wanting { kept.new ≡ None → result ≡ Status.NoMemory }
     ensures back { kept.new ≡ None → GivesAllBack P.L.received P.L.sent P.L.faults P.C.told (P.links ports.old) (P.links ports.new) (P.clocks ports.old) (P.clocks ports.new) }
     ensures unwritten { kept.new ≡ None → K.written sink.new ≡ K.written sink.old }
     ensures no_fault { kept.new ≡ None → K.faults sink.new ≡ K.faults sink.old }
     ensures binds { P.binds ports.new ≡ P.binds ports.old }
+    ensures bound { P.bound ports.new ≡ P.bound ports.old }
     ensures link_fault { result ≡ Status.LinkFault → Rose (P.faults ports.old) (P.faults ports.new) }
     ensures links_steady { result ≢ Status.LinkFault → P.faults ports.new ≡ P.faults ports.old }
     ensures writes_steady { result ≢ Status.WriteFault → K.faults sink.new ≡ K.faults sink.old }
@@ -178,14 +182,16 @@ fn record_new<R: Threads + Wait + Sync, K: Sink, P: Ports, G: Gate + Sync>(
     requires camera_clock { IsBlank (P.C.told ends.camera_clock) }
     requires host_clock { IsBlank (P.C.told ends.host_clock) }
     requires app_clock { IsBlank (P.C.told ends.app_clock) }
-    ensures recorded { IfSome kept.new (λ k. RecordsOver P.L.received P.L.sent P.L.faults P.C.told numbers result (P.links ports.old) (P.links ports.new)
+    ensures recorded { IfSome kept.new (λ k. RecordsOver P.L.received P.L.sent P.L.faults P.C.told numbers (P.L.address ends.camera) (P.L.address ends.stream) result (P.links ports.old) (P.links ports.new)
         (P.clocks ports.old) (P.clocks ports.new) (K.written sink.old) (K.written sink.new) (K.faults sink.old) (K.faults sink.new) k.1.seen) }
     ensures alone { IfSome kept.new (λ k. IsAlone (After k.1.seen) 0) }
+    ensures own { IfSome kept.new (λ k. k.1.table ≡ board_id k.0) }
     ensures wanting { kept.new ≡ None → result ≡ Status.NoMemory }
     ensures back { kept.new ≡ None → GivesAllBack P.L.received P.L.sent P.L.faults P.C.told (P.links ports.old) (P.links ports.new) (P.clocks ports.old) (P.clocks ports.new) }
     ensures unwritten { kept.new ≡ None → K.written sink.new ≡ K.written sink.old }
     ensures no_fault { kept.new ≡ None → K.faults sink.new ≡ K.faults sink.old }
     ensures binds { P.binds ports.new ≡ P.binds ports.old }
+    ensures bound { P.bound ports.new ≡ P.bound ports.old }
     ensures link_fault { result ≡ Status.LinkFault → Rose (P.faults ports.old) (P.faults ports.new) }
     ensures links_steady { result ≢ Status.LinkFault → P.faults ports.new ≡ P.faults ports.old }
     ensures writes_steady { result ≢ Status.WriteFault → K.faults sink.new ≡ K.faults sink.old }
@@ -214,9 +220,10 @@ pub fn run_recorded<R: Threads + Wait + Sync, K: Sink, P: Ports, G: Gate + Sync>
 ) -> Status
     requires within { IsRecordable numbers }
     requires unkept { kept.old ≡ None }
-    ensures recorded { IfSome kept.new (λ k. RecordsOver P.L.received P.L.sent P.L.faults P.C.told numbers result (P.links ports.old) (P.links ports.new)
-        (P.clocks ports.old) (P.clocks ports.new) (K.written sink.old) (K.written sink.new) (K.faults sink.old) (K.faults sink.new) k.1.seen) }
+    ensures recorded { IfSome kept.new (λ k. IsBound (P.bound ports.old) (P.bound ports.new) (λ camera stream. RecordsOver P.L.received P.L.sent P.L.faults P.C.told numbers camera stream result
+        (P.links ports.old) (P.links ports.new) (P.clocks ports.old) (P.clocks ports.new) (K.written sink.old) (K.written sink.new) (K.faults sink.old) (K.faults sink.new) k.1.seen)) }
     ensures alone { IfSome kept.new (λ k. IsAlone (After k.1.seen) 0) }
+    ensures own { IfSome kept.new (λ k. k.1.table ≡ board_id k.0) }
     ensures none { kept.new ≡ None → RunsNothing P.L.received P.L.sent P.L.faults P.C.told result (P.binds ports.old) (P.binds ports.new) (P.links ports.old) (P.links ports.new)
         (P.clocks ports.old) (P.clocks ports.new) (K.written sink.old) (K.written sink.new) (K.faults sink.old) (K.faults sink.new) }
     ensures binds { P.binds ports.new ≤ P.binds ports.old + 3 }

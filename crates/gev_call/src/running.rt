@@ -6,12 +6,12 @@ ghost use Rattle.board_machine.specs.Laws.{IsAlone};
 ghost use Rattle.gev_links.specs.Faults.{Rose};
 ghost use Rattle.gev_links.specs.Links.{IsBlank};
 ghost use Rattle.gev_links.specs.PortsState.{IsNew};
-ghost use Rattle.gev_binding.specs.Bound.{ComeBack, RaisesBy};
+ghost use Rattle.gev_binding.specs.Bound.{AllToldOfThree, RaisesBy};
 ghost use Rattle.gev_top.specs.LiveWords.{IsInRange};
 ghost use Rattle.gev_top.specs.Completeness.{NoneRose, EndsLive};
 ghost use Rattle.buffer_words.specs.Boards.{board_id};
 ghost use Rattle.buffer_words.specs.Passes.{SameHands};
-ghost use Rattle.gev_call.specs.Runs.{RunsSo, GivesAllBack, RunsOver, RunsNothing, told_by};
+ghost use Rattle.gev_call.specs.Runs.{RunsSo, GivesAllBack, IsBound, RunsOver, RunsNothing, told_by};
 
 use buffer_words::{Board, Pass};
 use gev_binding::{ThreeLinks, bind_three, give_back};
@@ -26,9 +26,10 @@ use std::thread::Threads;
 
 /// Gives a run's links and clocks back.
 pub(crate) fn give_ends<P: Ports>(ports: &mut P, ends: Ends<P::L, P::L, P::C>)
-    ensures links { ComeBack (P.links ports.old) (P.links ports.new) (ends.camera ∷ ends.stream ∷ ends.control ∷ []) }
-    ensures clocks { ComeBack (P.clocks ports.old) (P.clocks ports.new) (ends.camera_clock ∷ ends.host_clock ∷ ends.app_clock ∷ []) }
+    ensures links { AllToldOfThree (P.links ports.old) (P.links ports.new) (ends.camera ∷ ends.stream ∷ ends.control ∷ []) }
+    ensures clocks { AllToldOfThree (P.clocks ports.old) (P.clocks ports.new) (ends.camera_clock ∷ ends.host_clock ∷ ends.app_clock ∷ []) }
     ensures binds { P.binds ports.new ≡ P.binds ports.old }
+    ensures bound { P.bound ports.new ≡ P.bound ports.old }
     ensures faults { RaisesBy (P.L.faults ends.camera) (P.L.faults ends.stream) (P.L.faults ends.control) (P.faults ports.old) (P.faults ports.new) }
 {
     let Ends {
@@ -59,6 +60,7 @@ pub(crate) fn with_clocks<P: Ports>(
     ensures host_clock { IsBlank (P.C.told result.host_clock) }
     ensures app_clock { IsBlank (P.C.told result.app_clock) }
     ensures binds { P.binds ports.new ≡ P.binds ports.old }
+    ensures bound { P.bound ports.new ≡ P.bound ports.old }
     ensures links { P.links ports.new ≡ P.links ports.old }
     ensures clocks { P.clocks ports.new ≡ P.clocks ports.old }
     ensures faults { P.faults ports.new ≡ P.faults ports.old }
@@ -163,14 +165,16 @@ fn run_over<R: Threads + Wait + Sync, K: Sink, P: Ports, G: Gate + Sync>(
     requires camera_clock { IsBlank (P.C.told ends.camera_clock) }
     requires host_clock { IsBlank (P.C.told ends.host_clock) }
     requires app_clock { IsBlank (P.C.told ends.app_clock) }
-    ensures live { IfSome kept.new (λ k. RunsOver P.L.received P.L.sent P.L.faults P.C.told numbers result (P.links ports.old) (P.links ports.new)
+    ensures live { IfSome kept.new (λ k. RunsOver P.L.received P.L.sent P.L.faults P.C.told numbers (P.L.address ends.camera) (P.L.address ends.stream) result (P.links ports.old) (P.links ports.new)
         (P.clocks ports.old) (P.clocks ports.new) (K.written sink.old) (K.written sink.new) (K.faults sink.old) (K.faults sink.new) k.1.seen) }
     ensures alone { IfSome kept.new (λ k. IsAlone (After k.1.seen) 0) }
+    ensures own { IfSome kept.new (λ k. k.1.table ≡ board_id k.0) }
     ensures wanting { kept.new ≡ None → result ≡ Status.NoMemory }
     ensures back { kept.new ≡ None → GivesAllBack P.L.received P.L.sent P.L.faults P.C.told (P.links ports.old) (P.links ports.new) (P.clocks ports.old) (P.clocks ports.new) }
     ensures unwritten { kept.new ≡ None → K.written sink.new ≡ K.written sink.old }
     ensures no_fault { kept.new ≡ None → K.faults sink.new ≡ K.faults sink.old }
     ensures binds { P.binds ports.new ≡ P.binds ports.old }
+    ensures bound { P.bound ports.new ≡ P.bound ports.old }
     ensures link_fault { result ≡ Status.LinkFault → Rose (P.faults ports.old) (P.faults ports.new) }
     ensures links_steady { result ≢ Status.LinkFault → P.faults ports.new ≡ P.faults ports.old }
     ensures writes_steady { result ≢ Status.WriteFault → K.faults sink.new ≡ K.faults sink.old }
@@ -195,8 +199,8 @@ fn run_over<R: Threads + Wait + Sync, K: Sink, P: Ports, G: Gate + Sync>(
 }
 
 /// A live run with these numbers: binds three links, takes three clocks, makes the board and runs over them, and
-/// gives links and clocks back in the order in which they came. The board and the pass of the run are kept in
-/// `kept`, where a board was made.
+/// gives links and clocks back in the order in which they came. The run's board and the run's pass, which is over
+/// that board, are kept in `kept`, where a board was made.
 pub fn run_live<R: Threads + Wait + Sync, K: Sink, P: Ports, G: Gate + Sync>(
     rt: &R,
     alloc: Global,
@@ -208,9 +212,10 @@ pub fn run_live<R: Threads + Wait + Sync, K: Sink, P: Ports, G: Gate + Sync>(
 ) -> Status
     requires within { IsInRange numbers }
     requires unkept { kept.old ≡ None }
-    ensures live { IfSome kept.new (λ k. RunsOver P.L.received P.L.sent P.L.faults P.C.told numbers result (P.links ports.old) (P.links ports.new)
-        (P.clocks ports.old) (P.clocks ports.new) (K.written sink.old) (K.written sink.new) (K.faults sink.old) (K.faults sink.new) k.1.seen) }
+    ensures live { IfSome kept.new (λ k. IsBound (P.bound ports.old) (P.bound ports.new) (λ camera stream. RunsOver P.L.received P.L.sent P.L.faults P.C.told numbers camera stream result
+        (P.links ports.old) (P.links ports.new) (P.clocks ports.old) (P.clocks ports.new) (K.written sink.old) (K.written sink.new) (K.faults sink.old) (K.faults sink.new) k.1.seen)) }
     ensures alone { IfSome kept.new (λ k. IsAlone (After k.1.seen) 0) }
+    ensures own { IfSome kept.new (λ k. k.1.table ≡ board_id k.0) }
     ensures none { kept.new ≡ None → RunsNothing P.L.received P.L.sent P.L.faults P.C.told result (P.binds ports.old) (P.binds ports.new) (P.links ports.old) (P.links ports.new)
         (P.clocks ports.old) (P.clocks ports.new) (K.written sink.old) (K.written sink.new) (K.faults sink.old) (K.faults sink.new) }
     ensures binds { P.binds ports.new ≤ P.binds ports.old + 3 }

@@ -4,6 +4,7 @@ ghost use Rattle.std.specs.Prelude.{◌≡◌, ◌≢◌, ◌↔◌, ◌+◌, �
 ghost use Rattle.std.specs.String.{string_bytes};
 ghost use Rattle.board_machine.specs.Histories.{After};
 ghost use Rattle.board_machine.specs.Laws.{IsAlone};
+ghost use Rattle.buffer_words.specs.Boards.{board_id};
 ghost use Rattle.gev_links.specs.Faults.{Rose};
 ghost use Rattle.script_runs.specs.Verdicts.{IfTold};
 ghost use Rattle.gev_top.specs.declared.command.Command.{Command};
@@ -14,7 +15,7 @@ ghost use Rattle.gev_top.specs.declared.live_numbers.LiveNumbers.{LiveNumbers};
 ghost use Rattle.gev_top.specs.Answers.{Answers, IsDecided, ReadsSteady};
 ghost use Rattle.gev_top.specs.LiveWords.{IsErrand, IfPorts, errand_of, errand_fault};
 ghost use Rattle.gev_top.specs.Completeness.{NoneRose, CompletesErrand};
-ghost use Rattle.gev_call.specs.Runs.{RunsOver, RecordsOver, RunsNothing};
+ghost use Rattle.gev_call.specs.Runs.{IsBound, RunsOver, RecordsOver, RunsNothing};
 ghost use Rattle.gev_call.specs.Replayed.{ReplaysByHeadline};
 ghost use Rattle.gev_call.specs.Explained.{ExplainsByHeadline};
 
@@ -35,7 +36,7 @@ use std::thread::Threads;
 ///
 /// `live` with a seed, a number of frames, of buffers, of lanes and of turns runs a camera, a receiver and an
 /// application as threads over three links of the ports, and writes a line for each frame that was handed out. The
-/// board and the pass of the run are kept, where a board was made.
+/// run's board and the run's pass, which is over that board, are kept, where a board was made.
 ///
 /// `record` with a seed, a number of frames, of buffers and of turns does the same with one lane, and writes in place of
 /// the lines a replay script of what the receiver heard.
@@ -57,7 +58,7 @@ pub fn gevacq_top<R: Threads + Wait + Sync, S: Source, K: Sink, P: Ports, G: Gat
         → (S.left source.new ≡ S.left source.old) × (K.written sink.new ≡ K.written sink.old)
         × (S.faults source.new ≡ S.faults source.old) × (K.faults sink.new ≡ K.faults sink.old) }
     ensures unbound { (place : ℕ) → errand_fault (map (λ word. string_bytes word) words.now) ≡ Some place
-        → (P.binds ports.new ≡ P.binds ports.old) × (P.links ports.new ≡ P.links ports.old) × (P.clocks ports.new ≡ P.clocks ports.old)
+        → (P.binds ports.new ≡ P.binds ports.old) × (P.bound ports.new ≡ P.bound ports.old) × (P.links ports.new ≡ P.links ports.old) × (P.clocks ports.new ≡ P.clocks ports.old)
         × (P.faults ports.new ≡ P.faults ports.old) × (kept.new ≡ None) }
 
     // A command is answered as `plain_top` answers it, and makes no use of the ports.
@@ -74,23 +75,25 @@ pub fn gevacq_top<R: Threads + Wait + Sync, S: Source, K: Sink, P: Ports, G: Gat
         → ExplainsByHeadline result (S.left source.old) (S.left source.new) (S.faults source.old) (S.faults source.new)
         (K.written sink.old) (K.written sink.new) (K.faults sink.old) (K.faults sink.new) }
     ensures plain_ports { (command : Command) → errand_of (map (λ word. string_bytes word) words.now) ≡ Ok (errands.Plain command)
-        → (P.binds ports.new ≡ P.binds ports.old) × (P.links ports.new ≡ P.links ports.old) × (P.clocks ports.new ≡ P.clocks ports.old)
+        → (P.binds ports.new ≡ P.binds ports.old) × (P.bound ports.new ≡ P.bound ports.old) × (P.links ports.new ≡ P.links ports.old) × (P.clocks ports.new ≡ P.clocks ports.old)
         × (P.faults ports.new ≡ P.faults ports.old) × (kept.new ≡ None) }
 
     // A live run reads nothing. Where a board was made its pass is kept, which is alone and has seen the run's whole
-    // history: what the run promises is said of it, the headline first, and of the links and clocks that came back.
+    // history: what the run promises is said of it, the headline first, of the addresses of the links that were bound,
+    // and of the links and clocks that came back.
     // Else a bind failed or memory was wanting: the links that were got came back unused, where memory was wanting with
     // three clocks, and nothing was written.
     ensures unread { (errand : Errand) → errand_of (map (λ word. string_bytes word) words.now) ≡ Ok errand
         → IfPorts errand (λ n. (S.left source.new ≡ S.left source.old) × (S.faults source.new ≡ S.faults source.old)) }
     ensures live { (n : LiveNumbers) → errand_of (map (λ word. string_bytes word) words.now) ≡ Ok (errands.Live n)
-        → IfSome kept.new (λ k. RunsOver P.L.received P.L.sent P.L.faults P.C.told n result (P.links ports.old) (P.links ports.new)
-        (P.clocks ports.old) (P.clocks ports.new) (K.written sink.old) (K.written sink.new) (K.faults sink.old) (K.faults sink.new) k.1.seen) }
+        → IfSome kept.new (λ k. IsBound (P.bound ports.old) (P.bound ports.new) (λ camera stream. RunsOver P.L.received P.L.sent P.L.faults P.C.told n camera stream result
+        (P.links ports.old) (P.links ports.new) (P.clocks ports.old) (P.clocks ports.new) (K.written sink.old) (K.written sink.new) (K.faults sink.old) (K.faults sink.new) k.1.seen)) }
     // So it is of a recorded run, whose script was written in place of its lines.
     ensures recorded { (n : LiveNumbers) → errand_of (map (λ word. string_bytes word) words.now) ≡ Ok (errands.Record n)
-        → IfSome kept.new (λ k. RecordsOver P.L.received P.L.sent P.L.faults P.C.told n result (P.links ports.old) (P.links ports.new)
-        (P.clocks ports.old) (P.clocks ports.new) (K.written sink.old) (K.written sink.new) (K.faults sink.old) (K.faults sink.new) k.1.seen) }
+        → IfSome kept.new (λ k. IsBound (P.bound ports.old) (P.bound ports.new) (λ camera stream. RecordsOver P.L.received P.L.sent P.L.faults P.C.told n camera stream result
+        (P.links ports.old) (P.links ports.new) (P.clocks ports.old) (P.clocks ports.new) (K.written sink.old) (K.written sink.new) (K.faults sink.old) (K.faults sink.new) k.1.seen)) }
     ensures alone { IfSome kept.new (λ k. IsAlone (After k.1.seen) 0) }
+    ensures own { IfSome kept.new (λ k. k.1.table ≡ board_id k.0) }
     ensures none { (errand : Errand) → errand_of (map (λ word. string_bytes word) words.now) ≡ Ok errand → kept.new ≡ None
         → IfPorts errand (λ n. RunsNothing P.L.received P.L.sent P.L.faults P.C.told result (P.binds ports.old) (P.binds ports.new) (P.links ports.old) (P.links ports.new)
         (P.clocks ports.old) (P.clocks ports.new) (K.written sink.old) (K.written sink.new) (K.faults sink.old) (K.faults sink.new)) }
@@ -143,23 +146,25 @@ fn run_errand<R: Threads + Wait + Sync, S: Source, K: Sink, P: Ports, G: Gate + 
         → ExplainsByHeadline result (S.left source.old) (S.left source.new) (S.faults source.old) (S.faults source.new)
         (K.written sink.old) (K.written sink.new) (K.faults sink.old) (K.faults sink.new) }
     ensures plain_ports { (command : Command) → errand ≡ (errands.Plain command)
-        → (P.binds ports.new ≡ P.binds ports.old) × (P.links ports.new ≡ P.links ports.old) × (P.clocks ports.new ≡ P.clocks ports.old)
+        → (P.binds ports.new ≡ P.binds ports.old) × (P.bound ports.new ≡ P.bound ports.old) × (P.links ports.new ≡ P.links ports.old) × (P.clocks ports.new ≡ P.clocks ports.old)
         × (P.faults ports.new ≡ P.faults ports.old) × (kept.new ≡ None) }
 
     // A live run reads nothing. Where a board was made its pass is kept, which is alone and has seen the run's whole
-    // history: what the run promises is said of it, the headline first, and of the links and clocks that came back.
+    // history: what the run promises is said of it, the headline first, of the addresses of the links that were bound,
+    // and of the links and clocks that came back.
     // Else a bind failed or memory was wanting: the links that were got came back unused, where memory was wanting with
     // three clocks, and nothing was written.
     ensures unread { (asked : Errand) → errand ≡ asked
         → IfPorts asked (λ n. (S.left source.new ≡ S.left source.old) × (S.faults source.new ≡ S.faults source.old)) }
     ensures live { (n : LiveNumbers) → errand ≡ (errands.Live n)
-        → IfSome kept.new (λ k. RunsOver P.L.received P.L.sent P.L.faults P.C.told n result (P.links ports.old) (P.links ports.new)
-        (P.clocks ports.old) (P.clocks ports.new) (K.written sink.old) (K.written sink.new) (K.faults sink.old) (K.faults sink.new) k.1.seen) }
+        → IfSome kept.new (λ k. IsBound (P.bound ports.old) (P.bound ports.new) (λ camera stream. RunsOver P.L.received P.L.sent P.L.faults P.C.told n camera stream result
+        (P.links ports.old) (P.links ports.new) (P.clocks ports.old) (P.clocks ports.new) (K.written sink.old) (K.written sink.new) (K.faults sink.old) (K.faults sink.new) k.1.seen)) }
     // So it is of a recorded run, whose script was written in place of its lines.
     ensures recorded { (n : LiveNumbers) → errand ≡ (errands.Record n)
-        → IfSome kept.new (λ k. RecordsOver P.L.received P.L.sent P.L.faults P.C.told n result (P.links ports.old) (P.links ports.new)
-        (P.clocks ports.old) (P.clocks ports.new) (K.written sink.old) (K.written sink.new) (K.faults sink.old) (K.faults sink.new) k.1.seen) }
+        → IfSome kept.new (λ k. IsBound (P.bound ports.old) (P.bound ports.new) (λ camera stream. RecordsOver P.L.received P.L.sent P.L.faults P.C.told n camera stream result
+        (P.links ports.old) (P.links ports.new) (P.clocks ports.old) (P.clocks ports.new) (K.written sink.old) (K.written sink.new) (K.faults sink.old) (K.faults sink.new) k.1.seen)) }
     ensures alone { IfSome kept.new (λ k. IsAlone (After k.1.seen) 0) }
+    ensures own { IfSome kept.new (λ k. k.1.table ≡ board_id k.0) }
     ensures none { (asked : Errand) → errand ≡ asked → kept.new ≡ None
         → IfPorts asked (λ n. RunsNothing P.L.received P.L.sent P.L.faults P.C.told result (P.binds ports.old) (P.binds ports.new) (P.links ports.old) (P.links ports.new)
         (P.clocks ports.old) (P.clocks ports.new) (K.written sink.old) (K.written sink.new) (K.faults sink.old) (K.faults sink.new)) }

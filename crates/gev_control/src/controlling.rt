@@ -1,6 +1,7 @@
 //! The control part of a turn.
 
-ghost use Rattle.std.specs.Prelude.{◌≡◌, [], false};
+ghost use Rattle.std.specs.Prelude.{◌≡◌, [], length, false};
+ghost use Rattle.gev_links.specs.Links.{receive_room};
 ghost use Rattle.gev_control.specs.Sends.{Fails};
 ghost use Rattle.gev_control.specs.Controlled.{is_fault, ticks_turn, hears_turn, Does, HadToSend, ClientTurn};
 
@@ -52,8 +53,8 @@ fn hear_client<M: Link>(
     }
 }
 
-/// The control part of a turn: one receive on the control link, and what the client makes of it; nothing
-/// where something failed before.
+/// The control part of a turn: one receive on the control link into `out`, which has 9,000 bytes, and what the
+/// client makes of it; nothing where something failed before.
 pub fn client_turn<M: Link>(
     client: &mut Client,
     control: &mut M,
@@ -62,6 +63,7 @@ pub fn client_turn<M: Link>(
     failed: bool,
     out: &mut [u8],
 ) -> TurnEnd
+    requires room { length out.old ≡ receive_room }
     ensures turn { ClientTurn camera client.old moment failed result client.new (M.received control.old) (M.received control.new)
         (M.sent control.old) (M.sent control.new) }
     ensures fails { Fails failed (is_fault result) (M.faults control.old) (M.faults control.new) }

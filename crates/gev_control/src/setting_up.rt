@@ -1,8 +1,9 @@
 //! The setup of a camera.
 
-ghost use Rattle.std.specs.Prelude.{◌≡◌, ◌≤◌, false};
+ghost use Rattle.std.specs.Prelude.{◌≡◌, ◌≤◌, length, false};
 ghost use Rattle.client_machine.specs.Machine.{HasSubmittedNone};
 ghost use Rattle.client_machine.specs.Setup.{SETUP_SIZE as COMMANDS};
+ghost use Rattle.gev_links.specs.Links.{receive_room};
 ghost use Rattle.gev_control.specs.Ends.{is_fault_end, ends_in_fault};
 ghost use Rattle.gev_control.specs.Sends.{Fails};
 ghost use Rattle.gev_control.specs.SetupTurns.{set_up, begins, ends_by};
@@ -61,6 +62,7 @@ fn hear_next<L: Link>(
     moment: u64,
     out: &mut [u8],
 ) -> Option<AcqEnd>
+    requires room { length out.old ≡ receive_room }
     ensures hears { HearsSetup client.old begun moment (L.received control.old) (L.received control.new) client.new result }
     ensures sent { L.sent control.new ≡ L.sent control.old }
     ensures fails { Fails false (ends_in_fault result) (L.faults control.old) (L.faults control.new) }
@@ -84,7 +86,8 @@ fn setup_once<L: Link>(
     moment: u64,
     out: &mut [u8],
 ) -> Option<AcqEnd>
-    requires { begun.old ≤ COMMANDS }
+    requires few { begun.old ≤ COMMANDS }
+    requires room { length out.old ≡ receive_room }
     ensures turn { TakesSetupTurn camera stream (set_up client.old begun.old) (set_up client.new begun.new) moment
         (L.received control.old) (L.received control.new) (L.sent control.old) (L.sent control.new) result }
     ensures few { begun.new ≤ COMMANDS }

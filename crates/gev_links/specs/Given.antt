@@ -1,4 +1,4 @@
--- Links and clocks that ports gave and that came back.
+-- Links and clocks that ports gave and that came back, and the addresses that they gave.
 use Rattle.std.specs.Prelude.{◌≡◌, ℕ, zero, suc, ◌+◌, ◌-◌, ◌<◌, ◌^◌, min, List, [], ◌∷◌, ◌++◌, length, Option, Some, None}
 use Rattle.gev_links.specs.Faults.{Rose}
 
@@ -6,10 +6,10 @@ use Rattle.gev_links.specs.Faults.{Rose}
 abbrev pub one_more : ℕ → ℕ
 one_more n = min (n + 1) (2 ^ 64 - 1)
 
--- This came back. Ports that tell which did tell of three at least.
-abbrev pub ComesBack : {A : Type 0} → Option (List A) → Option (List A) → A → Type 0
-ComesBack None new member = new ≡ None
-ComesBack (Some old) new member = length old < 3 → new ≡ Some (old ++ member ∷ [])
+-- This was told behind those. Ports that tell do so of three at least.
+abbrev pub ToldOfThree : {A : Type 0} → Option (List A) → Option (List A) → A → Type 0
+ToldOfThree None new member = new ≡ None
+ToldOfThree (Some old) new member = length old < 3 → new ≡ Some (old ++ member ∷ [])
 
 -- The ports' count of faults, by the count of the link that came back: it rises exactly where the link had one.
 abbrev pub Raises : ℕ → ℕ → ℕ → Type 0

@@ -3,6 +3,13 @@ use Rattle.std.specs.Prelude.{◌≡◌, ⊤, ℕ, List, [], ◌++◌, take, Opt
 use Rattle.gev_types.specs.declared.peer.Peer.{Peer}
 use Rattle.gev_links.specs.declared.failed.Failed.{Failed}
 
+-- the bytes of each receive's slice, and of that of a receive for a tape
+abbrev pub receive_room : ℕ
+receive_room = 9000
+
+abbrev pub tape_room : ℕ
+tape_room = 1600
+
 -- an address and a port, of who sent a datagram or is sent one
 abbrev pub Address : Type 0
 Address = Peer

@@ -6,6 +6,8 @@ use Rattle.gev_links.specs.Moments.{ClockState}
 pub record PortsState (L : Type 0) : Type 0 where
   -- how many binds were made
   pub binds : ℕ
+  -- the addresses of the links that were bound; None: one of them isn't kept
+  pub bound : Option (List Address)
   -- the links that came back; None: one of them isn't kept
   pub links : Option (List L)
   pub clocks : Option (List ClockState)
@@ -27,10 +29,11 @@ abbrev pub AreUntold : List ClockState → Type 0
 AreUntold [] = ⊤
 AreUntold (c ∷ cs) = (c.count ≡ Some 0) × AreUntold cs
 
--- Ports in memory give new links and clocks only, and have room for three of each that come back.
+-- Ports in memory give new links and clocks only, and have room for three of each that come back and for three addresses.
 pub record IsHolding {L : Type 0} (received : L → Option (List Answer)) (sent : L → Option (List (Address × List ℕ))) (faults : L → ℕ)
-    (links : List L) (clocks : List ClockState) (links_room clocks_room : ℕ) : Type 0 where
+    (links : List L) (clocks : List ClockState) (links_room clocks_room bound_room : ℕ) : Type 0 where
   pub new_links : AreNew received sent faults links
   pub new_clocks : AreUntold clocks
   pub room_for_links : 3 ≤ links_room
   pub room_for_clocks : 3 ≤ clocks_room
+  pub room_for_bound : 3 ≤ bound_room

@@ -4,6 +4,7 @@ use crate::failed::Failed;
 use crate::fault_count::CountsFaults;
 use crate::link::Link;
 use crate::receptions::Receptions;
+use crate::short_link::ShortLink;
 use gev_types::{NoMemory, Peer};
 use std::alloc::Global;
 use std::marker::Model;
@@ -58,6 +59,12 @@ impl<'a> Link for DiscardingLink<'a> {
 
     fn peer(&self) -> Peer {
         self.peer
+    }
+}
+
+impl<'a> ShortLink for DiscardingLink<'a> {
+    fn recv_front(&mut self, out: &mut [u8]) -> Result<Option<(usize, Peer)>, Failed> {
+        Ok(self.receptions.answer_into(out))
     }
 }
 

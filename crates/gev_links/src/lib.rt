@@ -21,6 +21,7 @@ mod memory_source; // a source in memory
 mod ports; // `Ports`
 mod reception; // what a receive gave
 mod receptions; // the list of them
+mod short_link; // `ShortLink`
 mod sink; // `Sink`
 mod source; // `Source`
 mod steady_source; // a source that never fails
@@ -39,6 +40,7 @@ pub use memory_ports::MemoryPorts;
 pub use memory_sink::MemorySink;
 pub use memory_source::MemorySource;
 pub use ports::Ports;
+pub use short_link::ShortLink;
 pub use sink::Sink;
 pub use source::Source;
 pub use steady_source::SteadySource;

@@ -1,6 +1,6 @@
 ghost use Rattle.std.specs.Prelude.{◌≡◌, ◌≤◌, ℕ, List, [], ◌∷◌, length, Option, IfOk, IfSome, OnOk, OnErr};
 ghost use Rattle.gev_links.specs.Faults.{Rose};
-ghost use Rattle.gev_links.specs.Links.{Address, Answer, answer_of, Adds};
+ghost use Rattle.gev_links.specs.Links.{Address, Answer, answer_of, receive_room, Adds};
 ghost use Rattle.gev_links.specs.Moments.{Tells};
 
 use crate::failed::Failed;
@@ -32,9 +32,10 @@ pub trait Link {
         ensures never_falls { faults self.old ≤ faults self.new }
         ensures address { address self.new ≡ address self.old };
 
-    /// Puts one datagram into the front of `out`, and answers how many bytes it has and who sent it; None
-    /// where none came in this call. A longer datagram is cut to the length of `out`.
+    /// Puts one datagram into the front of `out`, which has 9,000 bytes, and answers how many bytes it has and
+    /// who sent it; None where none came in this call. A longer datagram is cut to the length of `out`.
     fn recv(&mut self, out: &mut [u8]) -> Result<Option<(usize, Peer)>, Failed>
+        requires room { length out.old ≡ receive_room }
         ensures count { IfOk result (λ came. IfSome came (λ datagram. datagram.0 ≤ length out.old)) }
         ensures received { Tells (received self.old) (received self.new) (answer_of result out.new) }
         ensures sent { sent self.new ≡ sent self.old }

@@ -1,10 +1,13 @@
-ghost use Rattle.std.specs.Prelude.{◌≡◌, ◌≤◌, [], ◌∷◌, ◌++◌, Some, IfOk, OnOk, OnErr};
+ghost use Rattle.std.specs.Prelude.{◌≡◌, ◌≤◌, [], ◌∷◌, ◌++◌, length, Some, IfOk, IfSome, OnOk, OnErr};
 ghost use Rattle.gev_links.specs.Faults.{Rose};
+ghost use Rattle.gev_links.specs.Links.{answer_of};
+ghost use Rattle.gev_links.specs.Moments.{Tells};
 
 use crate::failed::Failed;
 use crate::fault_count::CountsFaults;
 use crate::link::Link;
 use crate::receptions::Receptions;
+use crate::short_link::ShortLink;
 use gev_types::{Bytes, NoMemory, Peer};
 use std::alloc::Global;
 use std::marker::Model;
@@ -97,6 +100,24 @@ impl<'a> MemoryLink<'a> {
         self.faults = self.faults.saturating_add(1);
         Failed
     }
+
+    /// Receives into a slice of any length.
+    fn receive(&mut self, out: &mut [u8]) -> Result<Option<(usize, Peer)>, Failed>
+        ensures count { IfOk result (λ came. IfSome came (λ datagram. datagram.0 ≤ length out.old)) }
+        ensures received { Tells self.old.received self.new.received (answer_of result out.new) }
+        ensures sent { self.new.sent ≡ self.old.sent }
+        ensures no_fault { IfOk result (λ _. self.new.faults ≡ self.old.faults) }
+        ensures failed { OnErr result (Rose self.old.faults self.new.faults) }
+        ensures never_falls { self.old.faults ≤ self.new.faults }
+        ensures address { self.new.address ≡ self.old.address }
+    {
+        self.receives = self.receives.saturating_add(1);
+        if self.failing_receives.contains(&self.receives) && self.receptions.lose() {
+            self.faults = self.faults.saturating_add(1);
+            return Err(Failed);
+        }
+        Ok(self.receptions.answer_into(out))
+    }
 }
 
 impl<'a> Link for MemoryLink<'a> {
@@ -120,16 +141,17 @@ impl<'a> Link for MemoryLink<'a> {
     }
 
     fn recv(&mut self, out: &mut [u8]) -> Result<Option<(usize, Peer)>, Failed> {
-        self.receives = self.receives.saturating_add(1);
-        if self.failing_receives.contains(&self.receives) && self.receptions.lose() {
-            self.faults = self.faults.saturating_add(1);
-            return Err(Failed);
-        }
-        Ok(self.receptions.answer_into(out))
+        self.receive(out)
     }
 
     fn peer(&self) -> Peer {
         self.peer
+    }
+}
+
+impl<'a> ShortLink for MemoryLink<'a> {
+    fn recv_front(&mut self, out: &mut [u8]) -> Result<Option<(usize, Peer)>, Failed> {
+        self.receive(out)
     }
 }
 

@@ -1,4 +1,5 @@
-ghost use Rattle.std.specs.Prelude.{◌≡◌, [], Some, IfOk, IfSome};
+ghost use Rattle.std.specs.Prelude.{◌≡◌, ◌≤◌, [], Some, None, vec_capacity, if◌then◌else◌, IfOk, IfSome};
+ghost use Rattle.gev_links.specs.Given.{ToldOfThree};
 ghost use Rattle.gev_links.specs.PortsState.{IsNew};
 
 use crate::failed::Failed;
@@ -9,10 +10,11 @@ use gev_types::{NoMemory, Peer};
 use std::alloc::Global;
 use std::marker::Model;
 
-/// How many links, and how many clocks, come back at most and are told.
+/// How many links, and how many clocks, come back at most and are told, and how many addresses are.
 const ROOM: usize = 3;
 
-/// Ports in memory: three links and three clocks, and room for three of each that come back.
+/// Ports in memory: three links and three clocks, room for three of each that come back, and for the addresses of
+/// three links.
 #[derive(Drop)]
 pub struct MemoryPorts<'a, L: CountsFaults + Send + Drop> {
     // the last one is given first
@@ -20,6 +22,8 @@ pub struct MemoryPorts<'a, L: CountsFaults + Send + Drop> {
     clocks: Vec<MemoryClock<'a>>,
     failing: &'a [u64],
     binds: u64,
+    bound: Vec<Peer>,
+    bound_lost: bool,
     links_back: Vec<L>,
     links_lost: bool,
     clocks_back: Vec<MemoryClock<'a>>,
@@ -35,12 +39,26 @@ impl<'a, L: CountsFaults + Send + Drop> Model for MemoryPorts<'a, L> {
 
     ghost view = { λ p. record {
       binds = p.binds;
+      bound = if p.bound_lost then None else Some p.bound.items;
       links = if p.links_lost then None else Some p.links_back.items;
       clocks = if p.clocks_lost then None else Some p.clocks_back.items;
       faults = p.faults;
     } };
 
-    ghost invariant = { λ p. IsHolding L.received L.sent L.faults p.links.items p.clocks.items (vec_capacity p.links_back) (vec_capacity p.clocks_back) };
+    ghost invariant = { λ p. IsHolding L.received L.sent L.faults p.links.items p.clocks.items (vec_capacity p.links_back) (vec_capacity p.clocks_back) (vec_capacity p.bound) };
+}
+
+/// Keeps the address of a link that is bound, where it's one of the first three.
+fn keep_address(bound: &mut Vec<Peer>, lost: &mut bool, peer: Peer)
+    requires room { 3 ≤ vec_capacity bound.old }
+    ensures told { ToldOfThree (if lost.old then None else Some bound.old.items) (if lost.new then None else Some bound.new.items) peer }
+    ensures room { 3 ≤ vec_capacity bound.new }
+{
+    if bound.len() < ROOM {
+        bound.push_reserved(peer);
+    } else {
+        *lost = true;
+    }
 }
 
 impl<'a, L: CountsFaults + Send + Drop> MemoryPorts<'a, L> {
@@ -58,12 +76,14 @@ impl<'a, L: CountsFaults + Send + Drop> MemoryPorts<'a, L> {
         requires second { IsNew (L.received second) (L.sent second) (L.faults second) }
         requires third { IsNew (L.received third) (L.sent third) (L.faults third) }
         ensures binds { IfOk result (λ ports. ports.binds ≡ 0) }
+        ensures bound { IfOk result (λ ports. ports.bound ≡ Some []) }
         ensures links { IfOk result (λ ports. ports.links ≡ Some []) }
         ensures clocks { IfOk result (λ ports. ports.clocks ≡ Some []) }
         ensures faults { IfOk result (λ ports. ports.faults ≡ 0) }
     {
         let mut links = Vec::with_capacity(alloc, ROOM)?;
         let mut clocks = Vec::with_capacity(alloc, ROOM)?;
+        let bound = Vec::with_capacity(alloc, ROOM)?;
         let links_back = Vec::with_capacity(alloc, ROOM)?;
         let clocks_back = Vec::with_capacity(alloc, ROOM)?;
         links.push_reserved(third);
@@ -78,6 +98,8 @@ impl<'a, L: CountsFaults + Send + Drop> MemoryPorts<'a, L> {
             clocks,
             failing,
             binds: 0,
+            bound,
+            bound_lost: false,
             links_back,
             links_lost: false,
             clocks_back,
@@ -108,6 +130,8 @@ impl<'a, L: CountsFaults + Send + Drop> Ports for MemoryPorts<'a, L> {
 
     ghost binds = { λ p. p.binds };
 
+    ghost bound = { λ p. p.bound };
+
     ghost links = { λ p. p.links };
 
     ghost clocks = { λ p. p.clocks };
@@ -121,6 +145,7 @@ impl<'a, L: CountsFaults + Send + Drop> Ports for MemoryPorts<'a, L> {
             Some(link) => {
                 if !fails {
                     let peer = link.peer();
+                    keep_address(&mut self.bound, &mut self.bound_lost, peer);
                     return Ok((link, peer));
                 }
             }

@@ -1,22 +1,26 @@
 ghost use Rattle.std.specs.Prelude.{◌≡◌, ◌≤◌, ℕ, List, Option, IfOk, OnErr};
 ghost use Rattle.gev_links.specs.Faults.{Rose};
-ghost use Rattle.gev_links.specs.Given.{one_more, ComesBack, Raises};
-ghost use Rattle.gev_links.specs.Links.{IsBlank};
+ghost use Rattle.gev_links.specs.Given.{one_more, ToldOfThree, Raises};
+ghost use Rattle.gev_links.specs.Links.{Address, IsBlank};
 
 use crate::clock::Clock;
 use crate::failed::Failed;
-use crate::link::Link;
+use crate::short_link::ShortLink;
 use gev_types::Peer;
 
 /// Where links and clocks come from and go back to. What came back is told of three links and of three
-/// clocks at least; only an `unbind` or `unclock` beyond the third may end the telling.
+/// clocks at least, and so is the address of each of the first three links that are bound; only a `bind`,
+/// `unbind` or `unclock` beyond the third may end the telling.
 pub trait Ports {
-    type L: Link + Send + Drop;
+    type L: ShortLink + Send + Drop;
 
     type C: Clock + Send + Drop;
 
     /// How many calls of `bind` were made. It stands still at the counter's end.
     ghost binds: { Self → ℕ };
+
+    /// The addresses of the links that were bound, in order, where the ports tell them.
+    ghost bound: { Self → Option (List Address) };
 
     /// The links that came back, in order, each as it was then, where the ports tell them.
     ghost links: { Self → Option (List Self.L) };
@@ -34,6 +38,8 @@ pub trait Ports {
         ensures unsent { IfOk result (λ bound. IsBlank (Self.L.sent bound.0)) }
         ensures no_fault_of_it { IfOk result (λ bound. Self.L.faults bound.0 ≡ 0) }
         ensures address { IfOk result (λ bound. Self.L.address bound.0 ≡ bound.1) }
+        ensures bound { IfOk result (λ new. ToldOfThree (bound self.old) (bound self.new) new.1) }
+        ensures unbound { OnErr result (bound self.new ≡ bound self.old) }
         ensures binds { binds self.new ≡ one_more (binds self.old) }
         ensures links { links self.new ≡ links self.old }
         ensures clocks { clocks self.new ≡ clocks self.old }
@@ -45,6 +51,7 @@ pub trait Ports {
     fn clock(&mut self) -> Self::C
         ensures untold { IsBlank (Self.C.told result) }
         ensures binds { binds self.new ≡ binds self.old }
+        ensures bound { bound self.new ≡ bound self.old }
         ensures links { links self.new ≡ links self.old }
         ensures clocks { clocks self.new ≡ clocks self.old }
         ensures faults { faults self.new ≡ faults self.old };
@@ -52,7 +59,8 @@ pub trait Ports {
     /// Takes a link back. The count of faults rises exactly where the link's own is above 0.
     fn unbind(&mut self, link: Self::L)
         ensures binds { binds self.new ≡ binds self.old }
-        ensures links { ComesBack (links self.old) (links self.new) link }
+        ensures bound { bound self.new ≡ bound self.old }
+        ensures links { ToldOfThree (links self.old) (links self.new) link }
         ensures clocks { clocks self.new ≡ clocks self.old }
         ensures faults { Raises (Self.L.faults link) (faults self.old) (faults self.new) }
         ensures never_falls { faults self.old ≤ faults self.new };
@@ -60,7 +68,8 @@ pub trait Ports {
     /// Takes a clock back.
     fn unclock(&mut self, clock: Self::C)
         ensures binds { binds self.new ≡ binds self.old }
+        ensures bound { bound self.new ≡ bound self.old }
         ensures links { links self.new ≡ links self.old }
-        ensures clocks { ComesBack (clocks self.old) (clocks self.new) clock }
+        ensures clocks { ToldOfThree (clocks self.old) (clocks self.new) clock }
         ensures faults { faults self.new ≡ faults self.old };
 }

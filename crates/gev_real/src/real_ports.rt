@@ -42,6 +42,8 @@ impl<'a, R: Net + Time + Sync> Ports for RealPorts<'a, R> {
 
     ghost binds = { λ p. p.binds };
 
+    ghost bound = { λ _. None };
+
     ghost links = { λ _. None };
 
     ghost clocks = { λ _. None };

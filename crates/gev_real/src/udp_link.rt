@@ -1,6 +1,7 @@
-ghost use Rattle.std.specs.Prelude.{◌≡◌, ◌≤◌, None, length, IfOk, IfSome};
+ghost use Rattle.std.specs.Prelude.{◌≡◌, ◌≤◌, None, length, IfOk, IfSome, OnErr};
+ghost use Rattle.gev_links.specs.Faults.{Rose};
 
-use gev_links::{Failed, Link};
+use gev_links::{Failed, Link, ShortLink};
 use gev_types::Peer;
 use libc::types::pollfd;
 use std::io;
@@ -124,6 +125,28 @@ impl UdpLink {
     {
         self.faults
     }
+
+    /// Receives into a slice of any length.
+    fn receive(&mut self, out: &mut [u8]) -> Result<Option<(usize, Peer)>, Failed>
+        ensures count { IfOk result (λ came. IfSome came (λ datagram. datagram.0 ≤ length out.old)) }
+        ensures no_fault { IfOk result (λ _. self.new.faults ≡ self.old.faults) }
+        ensures failed { OnErr result (Rose self.old.faults self.new.faults) }
+        ensures never_falls { self.old.faults ≤ self.new.faults }
+        ensures address { self.new.peer ≡ self.old.peer }
+    {
+        let mut looked = receive_waiting(&self.socket, out);
+        if self.waits && is_none(&looked) {
+            wait(&self.socket);
+            looked = receive_waiting(&self.socket, out);
+        }
+        match looked {
+            Ok(came) => Ok(came),
+            Err(_) => {
+                self.faults = self.faults.saturating_add(1);
+                Err(Failed)
+            }
+        }
+    }
 }
 
 impl Link for UdpLink {
@@ -152,21 +175,16 @@ impl Link for UdpLink {
     }
 
     fn recv(&mut self, out: &mut [u8]) -> Result<Option<(usize, Peer)>, Failed> {
-        let mut looked = receive_waiting(&self.socket, out);
-        if self.waits && is_none(&looked) {
-            wait(&self.socket);
-            looked = receive_waiting(&self.socket, out);
-        }
-        match looked {
-            Ok(came) => Ok(came),
-            Err(_) => {
-                self.faults = self.faults.saturating_add(1);
-                Err(Failed)
-            }
-        }
+        self.receive(out)
     }
 
     fn peer(&self) -> Peer {
         self.peer
+    }
+}
+
+impl ShortLink for UdpLink {
+    fn recv_front(&mut self, out: &mut [u8]) -> Result<Option<(usize, Peer)>, Failed> {
+        self.receive(out)
     }
 }

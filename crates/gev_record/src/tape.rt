@@ -6,7 +6,7 @@ ghost use Rattle.recorded_runs.specs.Marks.{IsReceived};
 ghost use Rattle.gev_record.specs.Taped.{KeepsFront, kept_on, shown, Fits};
 
 use crate::kept::{Kept, ROOM};
-use gev_links::{Failed, Link};
+use gev_links::{Failed, Link, ShortLink};
 use gev_types::{NoMemory, Peer};
 use std::alloc::Global;
 use std::marker::Model;
@@ -116,7 +116,7 @@ fn keep(kept: &mut Vec<Kept>, turns: u32, one: Kept)
     }
 }
 
-impl<L: Link> Link for Tape<L> {
+impl<L: ShortLink> Link for Tape<L> {
     ghost received = { λ t. L.received t.inner };
 
     ghost sent = { λ t. L.sent t.inner };
@@ -131,7 +131,7 @@ impl<L: Link> Link for Tape<L> {
 
     fn recv(&mut self, out: &mut [u8]) -> Result<Option<(usize, Peer)>, Failed> {
         let room = out.len().min(ROOM);
-        match self.inner.recv(&mut out[..room]) {
+        match self.inner.recv_front(&mut out[..room]) {
             Ok(Some((len, peer))) => {
                 keep(&mut self.kept, self.turns, came(&out[..len]));
                 Ok(Some((len, peer)))

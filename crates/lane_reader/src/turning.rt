@@ -1,6 +1,7 @@
 //! One turn of the reader, after its look at the run word.
 
-ghost use Rattle.std.specs.Prelude.{◌≡◌, ◌<◌, ◌≤◌, length};
+ghost use Rattle.std.specs.Prelude.{◌≡◌, ◌<◌, length};
+ghost use Rattle.gev_links.specs.Links.{receive_room};
 ghost use Rattle.gev_control.specs.Controlled.{is_fault};
 ghost use Rattle.gev_acq.specs.Reading.{is_lost, FaultsOf};
 ghost use Rattle.gev_lanes.specs.Sides.{AreReadersOf};
@@ -38,7 +39,7 @@ pub(crate) fn read_turn<R: Wait, L: Link, M: Link, C: Clock>(
 ) -> TurnEnd
     requires reader { AreReadersOf lanes.now reader.old }
     requires some { 0 < length lanes.now }
-    requires size { length out.old ≤ 9000 }
+    requires room { length out.old ≡ receive_room }
     ensures reader { AreReadersOf lanes.now reader.new }
     ensures takes { TakesOne (length lanes.now) camera
         (record { received = L.received stream.old; heard = M.received control.old; sent = M.sent control.old; told = C.told clock.old; client = client.old })

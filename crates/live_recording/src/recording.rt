@@ -17,7 +17,7 @@ use crate::marks::marks_of;
 use crate::nowhere::Nowhere;
 use buffer_words::{Board, Pass};
 use gev_acq::Turn;
-use gev_links::{Clock, Gate, Link, Sink};
+use gev_links::{Clock, Gate, Link, ShortLink, Sink};
 use gev_live::{Ends, live_with_journal};
 use gev_record::{RecordEnd, Tape, write_script};
 use gev_status::Status;
@@ -108,7 +108,7 @@ fn finish<L: Link, K: Sink>(
 /// with `LinkFault` nothing.
 pub fn record_over<
     R: Threads + Wait + Sync,
-    L: Link + Send + Drop,
+    L: ShortLink + Send + Drop,
     C: Clock + Send + Drop,
     K: Sink,
     G: Gate + Sync,

@@ -1,7 +1,7 @@
 //! Links in memory: which receives and sends fail, and what the others give and keep.
 
 use crate::numbers::{FAILED, digits};
-use gev_links::{CountsFaults, DiscardingLink, Link, MemoryLink};
+use gev_links::{CountsFaults, DiscardingLink, Failed, Link, MemoryLink, ShortLink};
 use gev_types::Peer;
 use std::test::*;
 
@@ -18,40 +18,43 @@ pub const THERE: Peer = Peer {
     port: 3956,
 };
 
-/// One receive into at most 8 bytes: the sender's port, and the bytes in three digits behind it.
-fn receive<L: Link>(link: &mut L, length: usize) -> u64 {
-    let mut out = [0; 8];
-    match link.recv(&mut out[..length.min(8)]) {
-        Ok(Some((count, peer))) => u64::from(peer.port) * 1000 + digits(&out[..count]) % 1000,
+/// What a receive gave: the sender's port, four digits of how many bytes came, and three of the last one.
+fn number_of(came: Result<Option<(usize, Peer)>, Failed>, out: &[u8]) -> u64 {
+    match came {
+        Ok(Some((count, peer))) => {
+            let last = out.get(count.saturating_sub(1)).copied().unwrap_or(0);
+            u64::from(peer.port) * 10_000_000 + count as u64 % 10_000 * 1000 + u64::from(last)
+        }
         Ok(None) => NOTHING,
         Err(_) => FAILED,
     }
 }
 
-/// A receive into so many bytes, and then three into 8 bytes each.
-fn receives<L: Link>(link: &mut L, first: usize) -> [u64; 4] {
-    [
-        receive(link, first),
-        receive(link, 8),
-        receive(link, 8),
-        receive(link, 8),
-    ]
+/// One receive.
+fn receive<L: Link>(link: &mut L) -> u64 {
+    let mut out = [0; 9000];
+    number_of(link.recv(&mut out), &out)
 }
 
-// The second and the fourth receive of the first link fail: the second uses up a datagram, and the fourth is
-// behind the end of the list.
+/// A receive into a short slice, and then three others.
+fn receives<L: ShortLink>(link: &mut L) -> [u64; 4] {
+    let mut out = [0; 1600];
+    let first = number_of(link.recv_front(&mut out), &out);
+    [first, receive(link), receive(link), receive(link)]
+}
+
+// The first datagram is longer than a short slice, which ends with its byte 2. The second and the fourth receive of the
+// first link fail: the second uses up a datagram, and the fourth is behind the end of the list.
 #[test]
 fn receives_in_memory(rt: HostRuntime) -> Result<(), Fail> {
-    let answers: [Option<(&[u8], Peer)>; 3] = [
-        Some((&[1, 2, 3], THERE)),
-        Some((&[4], THERE)),
-        None,
-    ];
+    let mut long = [1u8; 1601];
+    long[1599] = 2;
+    let answers: [Option<(&[u8], Peer)>; 3] = [Some((&long, THERE)), Some((&[4], THERE)), None];
     let mut link = MemoryLink::new(rt.alloc(), HERE, &answers, &[2, 4], &[], 0)?;
-    assert!(rt; receives(&mut link, 2) == [3_956_012, FAILED, NOTHING, NOTHING]);
+    assert!(rt; receives(&mut link) == [39_561_600_002, FAILED, NOTHING, NOTHING]);
     assert!(rt; link.fault_count() == 1);
     let mut silent = DiscardingLink::new(rt.alloc(), HERE, &answers)?;
-    assert!(rt; receives(&mut silent, 0) == [3_956_000, 3_956_004, NOTHING, NOTHING]);
+    assert!(rt; receives(&mut silent) == [39_561_600_002, 39_560_001_004, NOTHING, NOTHING]);
     assert!(rt; silent.send(THERE, &[1]).is_ok());
     assert!(rt; silent.fault_count() == 0);
     assert!(rt; silent.peer() == link.peer());

@@ -1,6 +1,6 @@
 -- Without memory for the tape links and clocks go back as they came.
 use Rattle.std.proofs.Common.{[], ◌∷◌, subst}
-use Rattle.gev_binding.specs.Bound.{ComeBack}
+use Rattle.gev_binding.specs.Bound.{AllToldOfThree}
 use Rattle.gev_call.proofs.recording.record_new.Goals as goal
 
 pub returns-in-Err-clause-back : goal.returns-in-Err-clause-back
@@ -21,8 +21,12 @@ returns-in-Err-clause-back g c =
         host_clock = c.requires.host_clock;
         app_clock = c.requires.app_clock;
       };
-      links_back = subst (λ same. ComeBack (g.P.Ports.links c.args.ports.now) (g.P.Ports.links c.give_ends.new.ports) (same.camera ∷ same.stream ∷ same.control ∷ []))
+      links_back = subst (λ same. AllToldOfThree (g.P.Ports.links c.args.ports.now) (g.P.Ports.links c.give_ends.new.ports) (same.camera ∷ same.stream ∷ same.control ∷ []))
           c.in-Err.ensures.back c.give_ends.ensures.links;
-      clocks_back = subst (λ same. ComeBack (g.P.Ports.clocks c.args.ports.now) (g.P.Ports.clocks c.give_ends.new.ports) (same.camera_clock ∷ same.host_clock ∷ same.app_clock ∷ []))
+      clocks_back = subst (λ same. AllToldOfThree (g.P.Ports.clocks c.args.ports.now) (g.P.Ports.clocks c.give_ends.new.ports) (same.camera_clock ∷ same.host_clock ∷ same.app_clock ∷ []))
           c.in-Err.ensures.back c.give_ends.ensures.clocks;
     }
+
+-- The tape's link is the stream's.
+pub returns-in-Ok-clause-recorded : goal.returns-in-Ok-clause-recorded
+returns-in-Ok-clause-recorded g c = rw (c.in-Ok.ensures.camera, c.in-Ok.ensures.stream) at c.record_on.ensures.recorded
