@@ -1,5 +1,5 @@
 -- What an object of the outside tells of its bytes. None means that it tells nothing, then or later.
-use Rattle.std.specs.Prelude.{◌≡◌, ◌≢◌, ⊤, ℕ, List, [], ◌++◌, Option, Some, None}
+use Rattle.std.specs.Prelude.{◌≡◌, ◌≢◌, ⊤, ℕ, ◌<◌, List, [], ◌++◌, length, Option, Some, None}
 
 -- These bytes came from the front of what was left.
 abbrev pub Gives : Option (List ℕ) → Option (List ℕ) → List ℕ → Type 0
@@ -11,6 +11,16 @@ Gives (Some old) (Some new) bytes = old ≡ bytes ++ new
 abbrev pub IsSpent : Option (List ℕ) → Type 0
 IsSpent None = ⊤
 IsSpent (Some left) = left ≡ []
+
+-- A front of what was left was dropped, or nothing of it.
+abbrev pub Drops : Option (List ℕ) → Option (List ℕ) → Type 0
+Drops left left_after = (front : List ℕ) × Gives left left_after front
+
+-- less is left than was
+abbrev pub IsShorter : Option (List ℕ) → Option (List ℕ) → Type 0
+IsShorter None new = ⊤
+IsShorter (Some old) None = ⊥
+IsShorter (Some old) (Some new) = length new < length old
 
 -- These bytes were written after what stood there.
 abbrev pub Appends : Option (List ℕ) → Option (List ℕ) → List ℕ → Type 0

@@ -78,6 +78,22 @@ impl<'a> MemoryLink<'a> {
         self.sent.as_slice()
     }
 
+    /// Puts what the next receive is to give into the front of `out`, and leaves it for that receive. Where
+    /// that one is to fail, this fails too.
+    pub fn peek(&mut self, out: &mut [u8]) -> Result<Option<(usize, Peer)>, Failed>
+        ensures count { IfOk result (λ came. IfSome came (λ datagram. datagram.0 ≤ length out.old)) }
+        ensures rest { self.new ≡ record self.old { faults = self.new.faults } }
+        ensures no_fault { IfOk result (λ _. self.new.faults ≡ self.old.faults) }
+        ensures failed { OnErr result (Rose self.old.faults self.new.faults) }
+        ensures never_falls { self.old.faults ≤ self.new.faults }
+    {
+        let next = self.receives.saturating_add(1);
+        if self.failing_receives.contains(&next) && !self.receptions.are_spent() {
+            return Err(self.fail());
+        }
+        Ok(self.receptions.show_into(out))
+    }
+
     /// Keeps a datagram that is sent.
     fn keep(&mut self, peer: Peer, bytes: &[u8]) -> Result<(), NoMemory>
         ensures kept { OnOk result (self.new ≡ record self.old { sent = self.old.sent ++ (peer, bytes.now) ∷ [] }) }

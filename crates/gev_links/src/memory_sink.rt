@@ -9,6 +9,7 @@ use std::marker::Model;
 #[derive(Drop)]
 pub struct MemorySink<'a> {
     written: Vec<u8>,
+    told: Vec<u8>,
     piece: usize,
     failing: &'a [u64],
     calls: u64,
@@ -32,6 +33,7 @@ impl<'a> MemorySink<'a> {
     {
         MemorySink {
             written: Vec::new(alloc),
+            told: Vec::new(alloc),
             piece,
             failing,
             calls: 0,
@@ -44,6 +46,11 @@ impl<'a> MemorySink<'a> {
         ensures { result.now ≡ self.now.written }
     {
         self.written.as_slice()
+    }
+
+    /// The lines for standard error that were taken, those aside for which there was no memory.
+    pub fn told(&self) -> &[u8] {
+        self.told.as_slice()
     }
 
     /// How many calls failed.
@@ -72,5 +79,9 @@ impl<'a> Sink for MemorySink<'a> {
             return Err(Failed);
         }
         Ok(count)
+    }
+
+    fn tell(&mut self, text: &[u8]) {
+        let _ = self.told.extend_from_slice(text);
     }
 }

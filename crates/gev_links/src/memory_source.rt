@@ -63,4 +63,11 @@ impl<'a> Source for MemorySource<'a> {
         self.left = rest;
         Ok(count)
     }
+
+    fn has_ended(&mut self) -> bool {
+        let count = self.piece.max(1).min(self.left.len());
+        let (_, rest) = self.left.split_at(count);
+        self.left = rest;
+        count == 0
+    }
 }

@@ -75,6 +75,30 @@ impl<'a> Receptions<'a> {
         }
     }
 
+    /// Whether each member of the list was used up.
+    pub(crate) fn are_spent(&self) -> bool {
+        self.given.len() >= self.answers.len()
+    }
+
+    /// Shows the next member of the list, cut to the slice, and uses up nothing.
+    pub(crate) fn show_into(&self, out: &mut [u8]) -> Option<(usize, Peer)>
+        ensures { IfSome result (λ datagram. datagram.0 ≤ length out.old) }
+    {
+        let place = self.given.len();
+        if place >= self.answers.len() {
+            return None;
+        }
+        match self.answers[place] {
+            None => None,
+            Some((bytes, peer)) => {
+                let size = bytes.len().min(out.len());
+                let (front, _) = bytes.split_at(size);
+                out[..size].copy_from_slice(front);
+                Some((size, peer))
+            }
+        }
+    }
+
     /// Uses up the next member of the list by a receive that fails; false, and nothing more, where the
     /// list is at its end.
     pub(crate) fn lose(&mut self) -> bool

@@ -23,4 +23,9 @@ pub trait Sink {
         ensures failed { OnErr result (Rose (faults self.old) (faults self.new)) }
         ensures unwritten { OnErr result (written self.new ≡ written self.old) }
         ensures never_falls { faults self.old ≤ faults self.new };
+
+    /// Takes lines for standard error. Nothing is promised of them: one that is lost is no fault.
+    fn tell(&mut self, text: &[u8])
+        ensures written { written self.new ≡ written self.old }
+        ensures faults { faults self.new ≡ faults self.old };
 }

@@ -1,6 +1,7 @@
 ghost use Rattle.std.specs.Prelude.{◌≡◌, ◌≤◌, ◌<◌, ℕ, List, length, take, Option, IfOk, OnErr};
+ghost use Rattle.std.specs.Bool.{OnTrue, OnFalse};
 ghost use Rattle.gev_links.specs.Faults.{Rose};
-ghost use Rattle.gev_links.specs.Told.{Gives, IsSpent};
+ghost use Rattle.gev_links.specs.Told.{Gives, IsSpent, Drops, IsShorter};
 
 use crate::failed::Failed;
 
@@ -23,4 +24,12 @@ pub trait Source {
         ensures failed { OnErr result (Rose (faults self.old) (faults self.new)) }
         ensures untaken { OnErr result (left self.new ≡ left self.old) }
         ensures never_falls { faults self.old ≤ faults self.new };
+
+    /// Whether no bytes are left, without waiting for any. Bytes that are there are dropped, not all of
+    /// them in one look.
+    fn has_ended(&mut self) -> bool
+        ensures ended { OnTrue result (IsSpent (left self.old)) }
+        ensures going { OnFalse result (IsShorter (left self.old) (left self.new)) }
+        ensures dropped { Drops (left self.old) (left self.new) }
+        ensures faults { faults self.new ≡ faults self.old };
 }

@@ -1,4 +1,4 @@
-//! The real outside: standard input and output, UDP sockets on 127.0.0.1, and the system's clock.
+//! The real outside: standard input, output and error, UDP sockets, and the system's clock.
 //!
 //! Each adapter meets its trait of `gev_links` and tells nothing of what it reads, writes or tells.
 #![tactic(auto)]

@@ -1,19 +1,23 @@
-ghost use Rattle.std.specs.Prelude.{◌≡◌, None};
+ghost use Rattle.std.specs.Prelude.{◌≡◌, ◌≤◌, None, IfOk, OnErr};
+ghost use Rattle.gev_links.specs.Faults.{Rose};
+ghost use Rattle.gev_links.specs.Given.{one_more};
 
 use crate::monotonic_clock::MonotonicClock;
-use crate::udp_link::UdpLink;
+use crate::udp_link::{LOCALHOST, UdpLink, own_towards};
+use gev_far::FarPorts;
 use gev_links::{Failed, Link, Ports};
 use gev_types::Peer;
+use std::io;
 use std::net::Net;
 use std::time::Clock as Time;
 
 /// How many of the links that are bound first wait for a datagram.
 const WAITING_LINKS: u64 = 2;
 
-/// UDP sockets on 127.0.0.1 and the system's clock. What comes back is closed.
+/// UDP sockets and the system's clock. What comes back is closed.
 ///
-/// The third link and each later one doesn't wait in its receives: it's that of the reader's commands, on
-/// which the reader looks once for each datagram of the stream.
+/// `bind` gives a socket on 127.0.0.1. The third link and each later one of them doesn't wait in its receives: it's
+/// that of the reader's commands, on which the reader looks once for each datagram of the stream.
 #[derive(Drop)]
 pub struct RealPorts<'a, R: Net + Time + Sync> {
     rt: &'a R,
@@ -35,6 +39,41 @@ impl<'a, R: Net + Time + Sync> RealPorts<'a, R> {
     }
 }
 
+/// Counts a bind, and its fault where it failed.
+fn count_bind(
+    binds: &mut u64,
+    faults: &mut u64,
+    opened: io::Result<UdpLink>,
+) -> Result<(UdpLink, Peer), Failed>
+    requires { IfOk opened (λ link. link.faults ≡ 0) }
+    ensures no_fault_of_it { IfOk result (λ bound. bound.0.faults ≡ 0) }
+    ensures address { IfOk result (λ bound. bound.0.peer ≡ bound.1) }
+    ensures binds { binds.new ≡ one_more binds.old }
+    ensures no_fault { IfOk result (λ _. faults.new ≡ faults.old) }
+    ensures failed { OnErr result (Rose faults.old faults.new) }
+    ensures never_falls { faults.old ≤ faults.new }
+{
+    *binds = binds.saturating_add(1);
+    match opened {
+        Ok(link) => {
+            let peer = link.peer();
+            Ok((link, peer))
+        }
+        Err(_) => {
+            *faults = faults.saturating_add(1);
+            Err(Failed)
+        }
+    }
+}
+
+/// A new link at that address of this machine from which datagrams go to a peer.
+fn open_towards<N: Net>(net: &N, peer: Peer) -> io::Result<UdpLink>
+    ensures { IfOk result (λ link. link.faults ≡ 0) }
+{
+    let own = own_towards(net, peer)?;
+    UdpLink::open(net, own, true)
+}
+
 impl<'a, R: Net + Time + Sync> Ports for RealPorts<'a, R> {
     type L = UdpLink;
 
@@ -52,17 +91,8 @@ impl<'a, R: Net + Time + Sync> Ports for RealPorts<'a, R> {
 
     fn bind(&mut self) -> Result<(UdpLink, Peer), Failed> {
         let waits = self.binds < WAITING_LINKS;
-        self.binds = self.binds.saturating_add(1);
-        match UdpLink::open(self.rt, waits) {
-            Ok(link) => {
-                let peer = link.peer();
-                Ok((link, peer))
-            }
-            Err(_) => {
-                self.faults = self.faults.saturating_add(1);
-                Err(Failed)
-            }
-        }
+        let opened = UdpLink::open(self.rt, LOCALHOST, waits);
+        count_bind(&mut self.binds, &mut self.faults, opened)
     }
 
     fn clock(&mut self) -> MonotonicClock<'a, R> {
@@ -76,4 +106,21 @@ impl<'a, R: Net + Time + Sync> Ports for RealPorts<'a, R> {
     }
 
     fn unclock(&mut self, _clock: MonotonicClock<'a, R>) {}
+}
+
+impl<'a, R: Net + Time + Sync> FarPorts for RealPorts<'a, R> {
+    fn bind_towards(&mut self, peer: Peer) -> Result<(UdpLink, Peer), Failed> {
+        let opened = open_towards(self.rt, peer);
+        count_bind(&mut self.binds, &mut self.faults, opened)
+    }
+
+    fn bind_at(&mut self, own: Peer) -> Result<(UdpLink, Peer), Failed> {
+        let opened = UdpLink::open(self.rt, own, true);
+        count_bind(&mut self.binds, &mut self.faults, opened)
+    }
+
+    fn bind_broadcasting(&mut self) -> Result<(UdpLink, Peer), Failed> {
+        let opened = UdpLink::open_broadcasting(self.rt);
+        count_bind(&mut self.binds, &mut self.faults, opened)
+    }
 }

@@ -1,7 +1,14 @@
 ghost use Rattle.std.specs.Prelude.{◌≡◌, None};
 
 use gev_links::{Failed, Source};
+use libc::types::pollfd;
 use std::io::Read;
+
+/// How many bytes are dropped at a time.
+const PIECE: usize = 4096;
+
+/// How often that is done in one look.
+const PIECES: u32 = 16;
 
 /// Standard input as a source. It tells nothing of its bytes.
 #[derive(Drop)]
@@ -19,6 +26,16 @@ impl<R: Read + Drop> StandardInput<R> {
     }
 }
 
+/// Whether a read of standard input gives something at once: bytes, the end or a fault.
+fn is_readable() -> bool {
+    let mut asked = [pollfd {
+        fd: libc::STDIN_FILENO,
+        events: libc::net::POLLIN,
+        revents: 0,
+    }];
+    libc::net::poll(&mut asked, 0) > 0
+}
+
 impl<R: Read + Drop> Source for StandardInput<R> {
     ghost left = { λ _. None };
 
@@ -32,5 +49,19 @@ impl<R: Read + Drop> Source for StandardInput<R> {
                 Err(Failed)
             }
         }
+    }
+
+    /// A look takes at most so many bytes as a pipe holds. An input that can't be read has ended.
+    fn has_ended(&mut self) -> bool {
+        let mut dropped = [0; PIECE];
+        for _ in 0..PIECES {
+            if !is_readable() {
+                return false;
+            }
+            if libc::read(libc::STDIN_FILENO, &mut dropped) <= 0 {
+                return true;
+            }
+        }
+        false
     }
 }

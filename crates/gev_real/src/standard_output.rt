@@ -19,6 +19,18 @@ impl<W: Write + Drop> StandardOutput<W> {
     }
 }
 
+/// Writes a text to standard error. Where it takes nothing any more the rest is lost.
+fn write_error(text: &[u8]) {
+    let mut rest = text;
+    while !rest.is_empty() {
+        let taken = libc::write(libc::STDERR_FILENO, rest);
+        if taken <= 0 {
+            return;
+        }
+        rest = &rest[taken as usize..];
+    }
+}
+
 impl<W: Write + Drop> Sink for StandardOutput<W> {
     ghost written = { λ _. None };
 
@@ -33,5 +45,10 @@ impl<W: Write + Drop> Sink for StandardOutput<W> {
         }
         self.faults = self.faults.saturating_add(1);
         Err(Failed)
+    }
+
+    /// The lines go to standard error.
+    fn tell(&mut self, text: &[u8]) {
+        write_error(text);
     }
 }

@@ -1,6 +1,7 @@
 ghost use Rattle.std.specs.Prelude.{◌≡◌, ◌≤◌, None, length, IfOk, IfSome, OnErr};
 ghost use Rattle.gev_links.specs.Faults.{Rose};
 
+use gev_far::PeekLink;
 use gev_links::{Failed, Link, ShortLink};
 use gev_types::Peer;
 use libc::types::pollfd;
@@ -15,8 +16,7 @@ const RECEIVE_LIMIT: i32 = 1;
 /// much of it as it allows.
 const ROOM: i32 = 0x0200_0000;
 
-/// A UDP socket on 127.0.0.1, with a port that the system gave. It tells nothing of what it sends and
-/// receives.
+/// A UDP socket of IPv4, which is connected to nobody. It tells nothing of what it sends and receives.
 #[derive(Drop)]
 pub struct UdpLink {
     socket: UdpSocket,
@@ -24,6 +24,18 @@ pub struct UdpLink {
     waits: bool,
     faults: u64,
 }
+
+/// This machine alone, with a port that the system gives.
+pub(crate) const LOCALHOST: Peer = Peer {
+    address: 0x7f00_0001,
+    port: 0,
+};
+
+/// Each address of this machine, with a port that the system gives.
+const ANYWHERE: Peer = Peer {
+    address: 0,
+    port: 0,
+};
 
 /// The address of a peer.
 fn address_of(peer: Peer) -> SocketAddr {
@@ -40,6 +52,18 @@ fn peer_at(address: SocketAddr) -> Peer {
         address: number,
         port: address.port(),
     }
+}
+
+/// The address of this machine from which datagrams go to a peer, with a port that the system gives. A socket
+/// that is connected to the peer tells it; nothing is sent.
+pub(crate) fn own_towards<N: Net>(net: &N, peer: Peer) -> io::Result<Peer> {
+    let socket = UdpSocket::bind(net, address_of(ANYWHERE))?;
+    socket.connect(address_of(peer))?;
+    let own = peer_at(socket.local_addr()?);
+    Ok(Peer {
+        address: own.address,
+        port: 0,
+    })
 }
 
 /// Asks the system for more room for datagrams that wait: by default it holds fewer than half of a frame's
@@ -77,11 +101,29 @@ fn is_nothing(kind: io::ErrorKind) -> bool {
     )
 }
 
-/// Receives a datagram that waits, if there is one.
-fn receive_waiting(socket: &UdpSocket, out: &mut [u8]) -> Result<Option<(usize, Peer)>, Failed>
+/// Receives a datagram, or looks at it, where it `stays` for a later receive.
+fn receive_or_look(
+    socket: &UdpSocket,
+    out: &mut [u8],
+    stays: bool,
+) -> io::Result<(usize, SocketAddr)>
+    ensures { IfOk result (λ came. came.0 ≤ length out.old) }
+{
+    if stays {
+        return socket.peek_from(out);
+    }
+    socket.recv_from(out)
+}
+
+/// Receives a datagram that waits, or looks at it, if there is one.
+fn receive_waiting(
+    socket: &UdpSocket,
+    out: &mut [u8],
+    stays: bool,
+) -> Result<Option<(usize, Peer)>, Failed>
     ensures { IfOk result (λ came. IfSome came (λ datagram. datagram.0 ≤ length out.old)) }
 {
-    match socket.recv_from(out) {
+    match receive_or_look(socket, out, stays) {
         Ok(came) => Ok(Some((came.0, peer_at(came.1)))),
         Err(error) => {
             if is_nothing(error.kind()) {
@@ -102,12 +144,13 @@ fn is_none(looked: &Result<Option<(usize, Peer)>, Failed>) -> bool {
 }
 
 impl UdpLink {
-    /// A new socket on 127.0.0.1. A receive of it that finds nothing waits for at most a millisecond and
-    /// looks once more, where `waits` says so; else it looks once.
-    pub(crate) fn open<N: Net>(net: &N, waits: bool) -> io::Result<UdpLink>
+    /// A new socket at this address and port of this machine; port 0 is one that the system gives. A receive of
+    /// it that finds nothing waits for at most a millisecond and looks once more, where `waits` says so; else it
+    /// looks once.
+    pub(crate) fn open<N: Net>(net: &N, own: Peer, waits: bool) -> io::Result<UdpLink>
         ensures { IfOk result (λ link. link.faults ≡ 0) }
     {
-        let socket = UdpSocket::bind(net, SocketAddr::new(IpAddr::V4(Ipv4Addr::LOCALHOST), 0))?;
+        let socket = UdpSocket::bind(net, address_of(own))?;
         socket.set_nonblocking(true)?;
         ask_room(&socket);
         let peer = peer_at(socket.local_addr()?);
@@ -119,25 +162,27 @@ impl UdpLink {
         })
     }
 
-    /// How many calls failed.
-    pub fn faults(&self) -> u64
-        ensures { result ≡ self.now.faults }
+    /// A new socket at each address of this machine, which may send to broadcast addresses.
+    pub(crate) fn open_broadcasting<N: Net>(net: &N) -> io::Result<UdpLink>
+        ensures { IfOk result (λ link. link.faults ≡ 0) }
     {
-        self.faults
+        let link = UdpLink::open(net, ANYWHERE, true)?;
+        link.socket.set_broadcast(true)?;
+        Ok(link)
     }
 
-    /// Receives into a slice of any length.
-    fn receive(&mut self, out: &mut [u8]) -> Result<Option<(usize, Peer)>, Failed>
+    /// Receives into a slice of any length, or looks; where nothing is there, waits and does so once more.
+    fn receive(&mut self, out: &mut [u8], stays: bool) -> Result<Option<(usize, Peer)>, Failed>
         ensures count { IfOk result (λ came. IfSome came (λ datagram. datagram.0 ≤ length out.old)) }
         ensures no_fault { IfOk result (λ _. self.new.faults ≡ self.old.faults) }
         ensures failed { OnErr result (Rose self.old.faults self.new.faults) }
         ensures never_falls { self.old.faults ≤ self.new.faults }
         ensures address { self.new.peer ≡ self.old.peer }
     {
-        let mut looked = receive_waiting(&self.socket, out);
+        let mut looked = receive_waiting(&self.socket, out, stays);
         if self.waits && is_none(&looked) {
             wait(&self.socket);
-            looked = receive_waiting(&self.socket, out);
+            looked = receive_waiting(&self.socket, out, stays);
         }
         match looked {
             Ok(came) => Ok(came),
@@ -146,6 +191,13 @@ impl UdpLink {
                 Err(Failed)
             }
         }
+    }
+
+    /// How many calls failed.
+    pub fn faults(&self) -> u64
+        ensures { result ≡ self.now.faults }
+    {
+        self.faults
     }
 }
 
@@ -175,7 +227,7 @@ impl Link for UdpLink {
     }
 
     fn recv(&mut self, out: &mut [u8]) -> Result<Option<(usize, Peer)>, Failed> {
-        self.receive(out)
+        self.receive(out, false)
     }
 
     fn peer(&self) -> Peer {
@@ -185,6 +237,16 @@ impl Link for UdpLink {
 
 impl ShortLink for UdpLink {
     fn recv_front(&mut self, out: &mut [u8]) -> Result<Option<(usize, Peer)>, Failed> {
-        self.receive(out)
+        self.receive(out, false)
+    }
+}
+
+impl PeekLink for UdpLink {
+    fn peek(&mut self, out: &mut [u8]) -> Result<Option<(usize, Peer)>, Failed> {
+        self.receive(out, true)
+    }
+
+    fn set_waiting(&mut self, waits: bool) {
+        self.waits = waits;
     }
 }

@@ -4,6 +4,8 @@
 #[cfg(test)]
 mod clocks;
 #[cfg(test)]
+mod far;
+#[cfg(test)]
 mod laws;
 #[cfg(test)]
 mod links;

@@ -22,7 +22,7 @@ fn quiet_link<'a>(
 }
 
 /// Ports whose second bind fails. The first link's first send fails.
-fn some_ports<'a>(alloc: Global) -> Result<MemoryPorts<'a, MemoryLink<'a>>, NoMemory> {
+pub fn some_ports<'a>(alloc: Global) -> Result<MemoryPorts<'a, MemoryLink<'a>>, NoMemory> {
     let first = quiet_link(alloc, HERE, &[1])?;
     let second = quiet_link(alloc, HERE, &[])?;
     let third = quiet_link(alloc, THERE, &[])?;
@@ -30,7 +30,7 @@ fn some_ports<'a>(alloc: Global) -> Result<MemoryPorts<'a, MemoryLink<'a>>, NoMe
 }
 
 /// The faults of each link, one digit a link behind a 1.
-fn faults(links: &[MemoryLink<'_>]) -> u64 {
+pub fn faults(links: &[MemoryLink<'_>]) -> u64 {
     let mut number = 1u64;
     for link in links {
         number = number.wrapping_mul(10).wrapping_add(link.fault_count());

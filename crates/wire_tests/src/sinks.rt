@@ -55,3 +55,14 @@ fn whole_texts(rt: HostRuntime) {
     assert!(rt; written(rt.alloc(), &[3]) == 12341 + FAILED);
     assert!(rt; written(rt.alloc(), &[4]) == 123450);
 }
+
+// Lines for standard error are kept apart from what is written, and none of them fails.
+#[test]
+fn lines_for_standard_error(rt: HostRuntime) {
+    let mut sink = MemorySink::new(rt.alloc(), 2, &[1]);
+    sink.tell(&[7, 8]);
+    sink.tell(&[9]);
+    assert!(rt; writes(&mut sink, [1, 1, 0, 0, 0, 0]) == [FAILED, 1, 0, 0, 0, 0]);
+    assert!(rt; digits(sink.told()) == 789 && digits(sink.written()) == 1);
+    assert!(rt; sink.faults() == 1);
+}

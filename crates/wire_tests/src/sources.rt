@@ -49,3 +49,25 @@ fn steady_sources(rt: HostRuntime) {
     assert!(rt; reads(&mut SteadySource::new(&[1, 2], 1), lengths) == in_ones);
     assert!(rt; reads(&mut SteadySource::new(&[1, 2, 3, 4, 5, 6], 4), lengths) == in_fours);
 }
+
+/// In which look a source has ended, of at most eight; 0 where it hasn't.
+fn look_that_ends<S: Source>(source: &mut S) -> u64 {
+    for look in 1..9u64 {
+        if source.has_ended() {
+            return look;
+        }
+    }
+    0
+}
+
+// A look drops a piece of what is left, and none fails.
+#[test]
+fn sources_that_end(rt: HostRuntime) {
+    let mut source = MemorySource::new(&[7, 8, 9], 2, &[1]);
+    assert!(rt; !source.has_ended());
+    assert!(rt; read(&mut source, 4) == FAILED && read(&mut source, 4) == 9);
+    assert!(rt; source.has_ended() && source.faults() == 1);
+    assert!(rt; look_that_ends(&mut MemorySource::new(&[7, 8, 9], 2, &[])) == 3);
+    assert!(rt; look_that_ends(&mut SteadySource::new(&[1, 2], 0)) == 3);
+    assert!(rt; look_that_ends(&mut SteadySource::new(&[], 4)) == 1);
+}

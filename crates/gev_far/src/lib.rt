@@ -1,0 +1,12 @@
+//! Links and ports towards a device on the network: a link whose next datagram can be looked at, and ports that
+//! bind at addresses of this machine.
+//!
+//! Both stand beside `Link` and `Ports` of `gev_links`. `MemoryLink` and `MemoryPorts` are their forms in memory.
+#![tactic(auto)]
+
+mod far_ports; // `FarPorts`
+mod memory; // the forms in memory
+mod peek_link; // `PeekLink`
+
+pub use far_ports::FarPorts;
+pub use peek_link::PeekLink;

@@ -1,0 +1,3 @@
+pub mod Strangers
+pub mod Wide
+pub mod States

@@ -1,0 +1,85 @@
+//! What links and ports in memory do beside `Link` and `Ports`: looks at what comes next, and binds that reach the
+//! network.
+
+use crate::links::{HERE, THERE};
+use crate::numbers::{FAILED, digits};
+use crate::ports::{faults, some_ports};
+use gev_far::{FarPorts, PeekLink};
+use gev_links::{CountsFaults, Link, MemoryLink, Ports};
+use gev_types::Peer;
+use std::test::*;
+
+/// What stands for a look that finds nothing.
+const NOTHING: u64 = 8_888_888;
+
+/// One look into at most 8 bytes: the sender's port, and the bytes in three digits behind it.
+fn look<L: PeekLink>(link: &mut L, length: usize) -> u64 {
+    let mut out = [0; 8];
+    match link.peek(&mut out[..length.min(8)]) {
+        Ok(Some((count, peer))) => u64::from(peer.port) * 1000 + digits(&out[..count]) % 1000,
+        Ok(None) => NOTHING,
+        Err(_) => FAILED,
+    }
+}
+
+/// How many bytes a receive gives, `NOTHING` or `FAILED`.
+fn receive<L: Link>(link: &mut L) -> u64 {
+    let mut out = [0; 9000];
+    match link.recv(&mut out) {
+        Ok(Some((count, _))) => count as u64,
+        Ok(None) => NOTHING,
+        Err(_) => FAILED,
+    }
+}
+
+// A look shows what the next receive gives, and fails where that one does. It is no receive.
+#[test]
+fn looks_in_memory(rt: HostRuntime) -> Result<(), Fail> {
+    let answers: [Option<(&[u8], Peer)>; 3] = [
+        Some((&[1, 2, 3], THERE)),
+        Some((&[4], THERE)),
+        None,
+    ];
+    let mut link = MemoryLink::new(rt.alloc(), HERE, &answers, &[2], &[], 0)?;
+    link.set_waiting(false);
+    assert!(rt; look(&mut link, 2) == 3_956_012 && look(&mut link, 8) == 3_956_123);
+    assert!(rt; receive(&mut link) == 3);
+    assert!(rt; look(&mut link, 8) == FAILED && receive(&mut link) == FAILED);
+    assert!(rt; look(&mut link, 8) == NOTHING && receive(&mut link) == NOTHING);
+    assert!(rt; look(&mut link, 8) == NOTHING);
+    assert!(rt; link.fault_count() == 2);
+    Ok(())
+}
+
+/// A look at a new link towards this peer, which goes back.
+fn look_towards<P: FarPorts>(ports: &mut P, peer: Peer) -> u64
+where
+    P::L: PeekLink,
+{
+    match ports.bind_towards(peer) {
+        Ok((mut link, _)) => {
+            let seen = look(&mut link, 8);
+            ports.unbind(link);
+            seen
+        }
+        Err(_) => FAILED,
+    }
+}
+
+// Each bind gives the next link, wherever it is to be. The second one fails.
+#[test]
+fn far_links_of_ports(rt: HostRuntime) -> Result<(), Fail> {
+    let mut ports = some_ports(rt.alloc())?;
+    assert!(rt; look_towards(&mut ports, THERE) == NOTHING);
+    assert!(rt; look_towards(&mut ports, THERE) == FAILED);
+    let mut ports = some_ports(rt.alloc())?;
+    let (first, here) = ports.bind_towards(THERE)?;
+    assert!(rt; ports.bind_at(THERE).is_err());
+    let (last, there) = ports.bind_broadcasting()?;
+    assert!(rt; ports.bind_at(THERE).is_err());
+    assert!(rt; here == HERE && there == THERE && ports.faults() == 2);
+    ports.unbind(first);
+    ports.unbind(last);
+    assert!(rt; faults(ports.links()) == 100);
+    Ok(())
+}
