@@ -18,6 +18,10 @@ pub fn answer(alloc: Global, client: &mut Client, row: &str) -> Result<String, F
             *client = Client::new();
             told(alloc, client.is_idle())
         }
+        "limit" => {
+            *client = Client::with_limit(number(row, 2)?);
+            told(alloc, client.is_idle())
+        }
         "read" => read(alloc, client, short_number(row, 2)?, number(row, 3)?),
         "setup" => setup(
             alloc,
@@ -32,6 +36,7 @@ pub fn answer(alloc: Global, client: &mut Client, row: &str) -> Result<String, F
             told(alloc, client.receive(&came, number(row, 2)?))
         }
         "send" => send(alloc, client),
+        "value" => told(alloc, client.value()),
         "body" => Ok(hex::encode(alloc, client.body())?),
         _ => Err(Fault::NotUnderstood),
     }

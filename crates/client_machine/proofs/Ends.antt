@@ -47,10 +47,10 @@ TickTells x = TellsState x ⊎ ((req : ℕ) × (x ≡ NoAnswer req))
 
 tick_tells_late : (s : Client) (moment : ℕ) (asked : Asked) (more late : Bool)
     → TickTells (if late then
-    (if more then goes_on (record s { asked = Some (sent_again asked moment) })
+    (if more then goes_on (record s { asked = Some (sent_again s.limit asked moment) })
     else record { client = record s { asked = None }; outcome = NoAnswer asked.req })
     else goes_on s).outcome
-tick_tells_late s moment asked true true = inl (record { asked = Some (sent_again asked moment); told = refl })
+tick_tells_late s moment asked true true = inl (record { asked = Some (sent_again s.limit asked moment); told = refl })
 tick_tells_late s moment asked false true = inr (asked.req, refl)
 tick_tells_late s moment asked more false = inl (record { asked = s.asked; told = refl })
 

@@ -1,5 +1,5 @@
 -- A client is as new exactly as long as nothing was submitted to it.
-use Rattle.std.proofs.Common.{◌≡◌, ◌⊎◌, ℕ, ◌+◌, ◌≤◌, Bool, true, false, List, [], ◌∷◌, Option, Some, None, Result, Ok, Err, refl, ap, ◌∙◌, inl, inr, arith}
+use Rattle.std.proofs.Common.{◌≡◌, ◌⊎◌, ℕ, ◌+◌, ◌≤◌, Bool, true, false, List, [], ◌∷◌, Option, Some, None, Result, Ok, Err, refl, ap, sym, ◌∙◌, inl, inr, arith}
 use Rattle.std.specs.Prelude.{◌==◌, if◌then◌else◌, nat_lt}
 use Rattle.gvcp_wire.specs.declared.message.ControlError.{ControlError}
 use Rattle.gvcp_wire.specs.Messages.{PlainCommand, PlainAck}
@@ -29,7 +29,7 @@ idle_used s moment false h = h
 
 late_used : (s : Client) (moment : ℕ) (asked : Asked) (late more : Bool) → 1 ≤ s.last_req
     → 1 ≤ (if late then
-    (if more then goes_on (record s { asked = Some (sent_again asked moment) })
+    (if more then goes_on (record s { asked = Some (sent_again s.limit asked moment) })
     else record { client = record s { asked = None }; outcome = NoAnswer asked.req })
     else goes_on s).client.last_req
 late_used s moment asked true true h = h
@@ -66,32 +66,36 @@ used s (ticks moment) h = ticked_used s moment s.asked h
 used s takes h = h
 used s (receives bytes moment) h = received_used s moment (ack_reading bytes) h
 
-received_new : (moment : ℕ) (reading : Result PlainAck ControlError) → (received_as reading new_client moment).client ≡ new_client
-received_new moment (Ok ack) = refl
-received_new moment (Err x) = refl
+received_new : (limit moment : ℕ) (reading : Result PlainAck ControlError) → (received_as reading (new_client limit) moment).client ≡ new_client limit
+received_new limit moment (Ok ack) = refl
+received_new limit moment (Err x) = refl
 
-is_new : (es : List Event) → NoneSubmit es → after es ≡ new_client
-is_new [] n = refl
-is_new (submits c moment ∷ es) n = absurd n
-is_new (ticks moment ∷ es) n = ap (λ (s : Client). step s (ticks moment)) (is_new es n)
-is_new (takes ∷ es) n = ap (λ (s : Client). step s takes) (is_new es n)
-is_new (receives bytes moment ∷ es) n =
-    ap (λ (s : Client). step s (receives bytes moment)) (is_new es n) ∙ received_new moment (ack_reading bytes)
+is_new : (limit : ℕ) (es : List Event) → NoneSubmit es → after limit es ≡ new_client limit
+is_new limit [] n = refl
+is_new limit (submits c moment ∷ es) n = absurd n
+is_new limit (ticks moment ∷ es) n = ap (λ (s : Client). step s (ticks moment)) (is_new limit es n)
+is_new limit (takes ∷ es) n = ap (λ (s : Client). step s takes) (is_new limit es n)
+is_new limit (receives bytes moment ∷ es) n =
+    ap (λ (s : Client). step s (receives bytes moment)) (is_new limit es n) ∙ received_new limit moment (ack_reading bytes)
 
-new_or_used : (es : List Event) → NoneSubmit es ⊎ (1 ≤ (after es).last_req)
-new_or_used [] = inl tt
-new_or_used (e ∷ es) = go e (new_or_used es)
+new_or_used : (limit : ℕ) (es : List Event) → NoneSubmit es ⊎ (1 ≤ (after limit es).last_req)
+new_or_used limit [] = inl tt
+new_or_used limit (e ∷ es) = go e (new_or_used limit es)
   where
-    go : (e : Event) → NoneSubmit es ⊎ (1 ≤ (after es).last_req) → NoneSubmit (e ∷ es) ⊎ (1 ≤ (step (after es) e).last_req)
-    go (submits c moment) (inl n) = inr (rw (is_new es n) (omega arith))
+    go : (e : Event) → NoneSubmit es ⊎ (1 ≤ (after limit es).last_req) → NoneSubmit (e ∷ es) ⊎ (1 ≤ (step (after limit es) e).last_req)
+    go (submits c moment) (inl n) = inr (rw (is_new limit es n) (omega arith))
     go (ticks moment) (inl n) = inl n
     go takes (inl n) = inl n
     go (receives bytes moment) (inl n) = inl n
-    go e (inr h) = inr (used (after es) e h)
+    go e (inr h) = inr (used (after limit es) e h)
 
-unused : (es : List Event) → after es ≡ new_client → NoneSubmit es ⊎ (1 ≤ (after es).last_req) → NoneSubmit es
-unused es e (inl n) = n
-unused es e (inr h) = let zero_is : (after es).last_req ≡ 0 = ap (λ (s : Client). s.last_req) e in absurd (omega arith)
+unused : (limit : ℕ) (es : List Event) → after limit es ≡ new_client (after limit es).limit → NoneSubmit es ⊎ (1 ≤ (after limit es).last_req) → NoneSubmit es
+unused limit es e (inl n) = n
+unused limit es e (inr h) = let zero_is : (after limit es).last_req ≡ 0 = ap (λ (s : Client). s.last_req) e in absurd (omega arith)
 
-pub new_until_submitted : (es : List Event) → IsNewUntilSubmitted es
-new_until_submitted es = (λ e. unused es e (new_or_used es), is_new es)
+-- as a client that was made with some limit, it's as one with its own
+with_its_own : (limit : ℕ) (s : Client) → s ≡ new_client limit → s ≡ new_client s.limit
+with_its_own limit s is = is ∙ ap new_client (sym (ap (λ (k : Client). k.limit) is))
+
+pub new_until_submitted : (limit : ℕ) (es : List Event) → IsNewUntilSubmitted limit es
+new_until_submitted limit es = (λ e. unused limit es e (new_or_used limit es), λ n. with_its_own limit (after limit es) (is_new limit es n))

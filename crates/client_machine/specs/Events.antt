@@ -24,10 +24,10 @@ step s (ticks moment) = (ticked s moment).client
 step s takes = taken s
 step s (receives bytes moment) = (received s bytes moment).client
 
--- the client after these events, the latest of which comes first
-abbrev pub after : List Event → Client
-after [] = new_client
-after (e ∷ es) = step (after es) e
+-- the client with this limit of a send after these events, the latest of which comes first
+abbrev pub after : ℕ → List Event → Client
+after limit [] = new_client limit
+after limit (e ∷ es) = step (after limit es) e
 
 -- no event is a submission
 abbrev pub NoneSubmit : List Event → Type 0

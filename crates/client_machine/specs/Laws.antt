@@ -10,7 +10,7 @@ use Rattle.client_machine.specs.Times.{SENDS, SEND_LIMIT, HEARTBEAT_TIME}
 use Rattle.client_machine.specs.Setup.{CONTROL_ACCESS, SETUP_PACKET_SIZE, SETUP_SIZE}
 use Rattle.client_machine.specs.Commands.{is_match}
 use Rattle.client_machine.specs.Machine.{Asked, Client, HasSubmittedNone, ticked, received}
-use Rattle.client_machine.specs.Events.{Event, after, NoneSubmit, Request, sends_of, answers}
+use Rattle.client_machine.specs.Events.{Event, step, after, NoneSubmit, Request, sends_of, answers}
 
 -- The constants of `src/numbers.rt` are the numbers of `Times` and `Setup`.
 pub record NumbersAreDefined : Type 0 where
@@ -22,25 +22,29 @@ pub record NumbersAreDefined : Type 0 where
   pub setup_size : code.SETUP_SIZE ≡ SETUP_SIZE
 
 -- A client is as new exactly as long as nothing was submitted to it.
-abbrev pub IsNewUntilSubmitted : List Event → Type 0
-IsNewUntilSubmitted es = HasSubmittedNone (after es) ↔ NoneSubmit es
+abbrev pub IsNewUntilSubmitted : ℕ → List Event → Type 0
+IsNewUntilSubmitted limit es = HasSubmittedNone (after limit es) ↔ NoneSubmit es
+
+-- No event changes the limit of a send.
+abbrev pub KeepsLimit : Client → Event → Type 0
+KeepsLimit s e = (step s e).limit ≡ s.limit
 
 -- So many events made the bytes of the command wait, and since the first of them no matching acknowledge
 -- arrived.
-pub data HasWaited (r : Request) : ℕ → List Event → Type 0 where
-  first : (e : Event) (es : List Event) → sends_of (after es) e ≡ Some r → HasWaited r 1 (e ∷ es)
-  again : (n : ℕ) (e : Event) (es : List Event) → HasWaited r n es → sends_of (after es) e ≡ Some r → HasWaited r (n + 1) (e ∷ es)
-  meanwhile : (n : ℕ) (e : Event) (es : List Event) → HasWaited r n es → sends_of (after es) e ≡ None → answers r e ≡ false → HasWaited r n (e ∷ es)
+pub data HasWaited (limit : ℕ) (r : Request) : ℕ → List Event → Type 0 where
+  first : (e : Event) (es : List Event) → sends_of (after limit es) e ≡ Some r → HasWaited limit r 1 (e ∷ es)
+  again : (n : ℕ) (e : Event) (es : List Event) → HasWaited limit r n es → sends_of (after limit es) e ≡ Some r → HasWaited limit r (n + 1) (e ∷ es)
+  meanwhile : (n : ℕ) (e : Event) (es : List Event) → HasWaited limit r n es → sends_of (after limit es) e ≡ None → answers r e ≡ false → HasWaited limit r n (e ∷ es)
 
 -- A command with this request number waited for three sends of the same bytes, without an acknowledge.
-pub record HadNoAnswer (es : List Event) (req : ℕ) : Type 0 where
+pub record HadNoAnswer (limit : ℕ) (es : List Event) (req : ℕ) : Type 0 where
   pub request : Request
   pub req_is : request.req ≡ req
-  pub waited : HasWaited request SENDS es
+  pub waited : HasWaited limit request SENDS es
 
 -- what a tick that tells that a command had no answer comes after
-abbrev pub NoAnswerComesLast : List Event → ℕ → ℕ → Type 0
-NoAnswerComesLast es moment req = (ticked (after es) moment).outcome ≡ NoAnswer req → HadNoAnswer es req
+abbrev pub NoAnswerComesLast : ℕ → List Event → ℕ → ℕ → Type 0
+NoAnswerComesLast limit es moment req = (ticked (after limit es) moment).outcome ≡ NoAnswer req → HadNoAnswer limit es req
 
 -- The bytes are a matching acknowledge of the outstanding command, with this status.
 pub record IsAnswered (s : Client) (bytes : List ℕ) (status : ℕ) : Type 0 where

@@ -10,7 +10,7 @@ use Rattle.gvcp_wire.specs.Reading.{ack_reading}
 use Rattle.gvcp_aux.specs.Reading.{pending_reading}
 use Rattle.client_machine.specs.declared.outcome.Outcome.{Outcome}
 use Rattle.client_machine.specs.declared.outcome.Outcome.TheVariants.{Waiting, Idle, Acked, Refused, NoAnswer}
-use Rattle.client_machine.specs.Times.{SENDS, SEND_LIMIT, HEARTBEAT_TIME}
+use Rattle.client_machine.specs.Times.{SENDS, HEARTBEAT_TIME}
 use Rattle.client_machine.specs.Commands.{code_of, head_for, next_req, heartbeat, is_match}
 
 -- the outstanding command
@@ -35,9 +35,12 @@ pub record Client : Type 0 where
   pub ended : Option ℕ
   -- its body
   pub body : List ℕ
+  -- how many milliseconds after a send the next one comes, or the end of the command: no event changes it
+  pub limit : ℕ
 
-abbrev pub new_client : Client
-new_client = record { last_req = 0; asked = None; ended = None; body = [] }
+-- a client with this limit of a send, to which nothing was submitted
+abbrev pub new_client : ℕ → Client
+new_client limit = record { last_req = 0; asked = None; ended = None; body = []; limit = limit }
 
 -- no command is outstanding
 abbrev pub IsIdle : Client → Type 0
@@ -45,7 +48,7 @@ IsIdle s = s.asked ≡ None
 
 -- nothing was submitted yet: until then nothing that happens changes a client
 abbrev pub HasSubmittedNone : Client → Type 0
-HasSubmittedNone s = s ≡ new_client
+HasSubmittedNone s = s ≡ new_client s.limit
 
 abbrev pub outcome_after : Option Asked → Outcome
 outcome_after None = Idle
@@ -71,7 +74,7 @@ with_command s c moment = record s {
     bytes = plain (head_for (next_req s.last_req) c) c;
     sends = 1;
     sent = moment;
-    limit = SEND_LIMIT;
+    limit = s.limit;
     waits = true;
   });
 }
@@ -98,14 +101,15 @@ is_heartbeat_due (Some ended) moment = nat_le (ended + HEARTBEAT_TIME) moment
 abbrev pub is_late : Asked → ℕ → Bool
 is_late asked moment = nat_le (asked.sent + asked.limit) moment
 
-abbrev pub sent_again : Asked → ℕ → Asked
-sent_again asked moment = record asked { sends = asked.sends + 1; sent = moment; limit = SEND_LIMIT; waits = true }
+-- the command with a further send, which has the client's limit
+abbrev pub sent_again : ℕ → Asked → ℕ → Asked
+sent_again limit asked moment = record asked { sends = asked.sends + 1; sent = moment; limit = limit; waits = true }
 
 abbrev pub ticked_with : Option Asked → Client → ℕ → Told
 ticked_with None s moment = goes_on (if is_heartbeat_due s.ended moment then with_command s heartbeat moment else s)
 ticked_with (Some asked) s moment =
     if is_late asked moment then
-    (if nat_lt asked.sends SENDS then goes_on (record s { asked = Some (sent_again asked moment) })
+    (if nat_lt asked.sends SENDS then goes_on (record s { asked = Some (sent_again s.limit asked moment) })
     else record { client = record s { asked = None }; outcome = NoAnswer asked.req })
     else goes_on s
 

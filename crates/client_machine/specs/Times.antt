@@ -6,7 +6,7 @@ use Rattle.std.specs.Prelude.{ℕ}
 abbrev pub SENDS : ℕ
 SENDS = 3
 
--- how many milliseconds after a send the next one comes, or the end of the command
+-- how many milliseconds after a send the next one comes, or the end of the command, where no other limit is given
 abbrev pub SEND_LIMIT : ℕ
 SEND_LIMIT = 40
 

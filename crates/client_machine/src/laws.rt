@@ -5,7 +5,7 @@ ghost use Rattle.std.specs.Prelude.{ℕ, List};
 ghost use Rattle.client_machine.specs.Machine.{Client};
 ghost use Rattle.client_machine.specs.Events.{Event};
 ghost use Rattle.gev_types.specs.declared.peer.Peer.{Peer};
-ghost use Rattle.client_machine.specs.Laws.{NumbersAreDefined, IsNewUntilSubmitted, NoAnswerComesLast, EndsAreExact};
+ghost use Rattle.client_machine.specs.Laws.{NumbersAreDefined, IsNewUntilSubmitted, KeepsLimit, NoAnswerComesLast, EndsAreExact};
 ghost use Rattle.client_machine.specs.Setup.{SetupIsSubmitted};
 
 /// The constants of `numbers` are the defined numbers.
@@ -20,13 +20,18 @@ pub fn the_setup_may_be_submitted()
 
 /// A client is as new exactly as long as nothing was submitted to it.
 pub fn a_client_is_new_until_a_submission()
-    ensures { (es : List Event) → IsNewUntilSubmitted es }
+    ensures { (limit : ℕ) (es : List Event) → IsNewUntilSubmitted limit es }
+{}
+
+/// A client keeps the limit of a send with which it was made: no event changes it.
+pub fn a_client_keeps_its_limit()
+    ensures { (s : Client) (e : Event) → KeepsLimit s e }
 {}
 
 /// That a command had no answer is told only after three events made its bytes wait, and after no
 /// matching acknowledge since the first of them.
 pub fn no_answer_comes_after_three_sends()
-    ensures { (es : List Event) (moment req : ℕ) → NoAnswerComesLast es moment req }
+    ensures { (limit : ℕ) (es : List Event) (moment req : ℕ) → NoAnswerComesLast limit es moment req }
 {}
 
 /// Acked and Refused come exactly at a matching acknowledge, Refused with its status, and NoAnswer at

@@ -3,7 +3,8 @@
 /// How often a command is sent.
 pub const SENDS: u8 = 3;
 
-/// How many milliseconds after a send the next one comes, or the end of the command.
+/// How many milliseconds after a send the next one comes, or the end of the command, where no other
+/// limit is given.
 pub const SEND_LIMIT: u64 = 40;
 
 /// How many milliseconds after the last acknowledge an idle client sends a heartbeat.

@@ -2,6 +2,7 @@ use crate::sending::Sending;
 use crate::steps;
 use bitflags::Flags;
 use bootstrap_regs::addresses::CCP;
+use byteorder::{BigEndian, ByteOrder};
 use client_machine::Outcome;
 use client_machine::numbers::{SEND_LIMIT, SENDS};
 use gvcp_aux::read_pending;
@@ -23,6 +24,7 @@ pub struct Client {
     ended: Option<u64>,
     body: [u8; MAX_BODY_SIZE],
     body_len: usize,
+    limit: u64,
 }
 
 impl Model for Client {
@@ -32,7 +34,7 @@ impl Model for Client {
 
     ghost Value = { Machine };
 
-    ghost view = { λ c. record { last_req = c.last_req; asked = asked_of c.asked c.message; ended = c.ended; body = take c.body_len c.body } };
+    ghost view = { λ c. record { last_req = c.last_req; asked = asked_of c.asked c.message; ended = c.ended; body = take c.body_len c.body; limit = c.limit } };
 
     ghost invariant = { λ c. IsClient c.asked c.message c.body c.body_len };
 }
@@ -42,14 +44,26 @@ impl Client {
     ghost use Rattle.std.specs.Option.{option_copied};
     ghost use Rattle.std.specs.Borrow.{sem};
     ghost use Rattle.gvcp_wire.specs.Messages.{view, ack_view};
+    ghost use Rattle.client_machine.specs.Times.{SEND_LIMIT as LIMIT};
     ghost use Rattle.client_machine.specs.Commands.{MaySubmit, next_req};
-    ghost use Rattle.client_machine.specs.Machine.{new_client, IsIdle, outcome_after, with_command, submit_answer, to_send, ticked, received, ended_by};
+    ghost use Rattle.client_machine.specs.Machine.{new_client, HasSubmittedNone, IsIdle, outcome_after, with_command, submit_answer, to_send, ticked, received, ended_by};
     ghost use Rattle.client_machine.specs.Events.{step, submits, ticks, receives};
     ghost use Rattle.control_client.specs.Lending.{EndsTaken};
+    ghost use Rattle.control_client.specs.Values.{value_of};
 
-    /// A client that submitted nothing yet.
+    /// A client that submitted nothing yet, with a limit of 40 milliseconds for each send.
     pub fn new() -> Client
-        ensures { result ≡ new_client }
+        ensures new { result ≡ new_client LIMIT }
+        ensures unsubmitted { HasSubmittedNone result }
+    {
+        Client::with_limit(SEND_LIMIT)
+    }
+
+    /// A client that submitted nothing yet. So many milliseconds after each send of a command, and after
+    /// what PENDING adds to it, comes the next one, or the end of the command after the third.
+    pub fn with_limit(limit: u64) -> Client
+        ensures new { result ≡ new_client limit }
+        ensures unsubmitted { HasSubmittedNone result }
     {
         Client {
             last_req: 0,
@@ -58,6 +72,7 @@ impl Client {
             ended: None,
             body: [0; MAX_BODY_SIZE],
             body_len: 0,
+            limit,
         }
     }
 
@@ -96,7 +111,7 @@ impl Client {
             len,
             sends: 1,
             sent: moment,
-            limit: u128::from(SEND_LIMIT),
+            limit: u128::from(self.limit),
             waits: true,
         });
         req
@@ -142,7 +157,7 @@ impl Client {
             return Outcome::Waiting(asked.req);
         }
         if asked.sends < SENDS {
-            self.asked = Some(steps::sent_again(asked, moment));
+            self.asked = Some(steps::sent_again(self.limit, asked, moment));
             return Outcome::Waiting(asked.req);
         }
         self.asked = None;
@@ -209,5 +224,17 @@ impl Client {
         ensures { result.now ≡ self.now.body }
     {
         &self.body[..self.body_len]
+    }
+
+    /// The value that the last acknowledge which ended a command told, if its body has the 4 bytes of a
+    /// register: that of a READREG of one register, as a heartbeat is.
+    pub fn value(&self) -> Option<u32>
+        ensures { result ≡ value_of self.now.body }
+    {
+        let body = self.body();
+        if body.len() == 4 {
+            return Some(BigEndian::read_u32(body));
+        }
+        None
     }
 }

@@ -8,7 +8,7 @@ ghost use Rattle.control_client.specs.Seen.{IsSending};
 
 use crate::sending::Sending;
 use client_machine::Outcome;
-use client_machine::numbers::{HEARTBEAT_TIME, SEND_LIMIT};
+use client_machine::numbers::HEARTBEAT_TIME;
 use gvcp_wire::codes::{MAX_BODY_SIZE, READMEM_CMD, READREG_CMD, WRITEMEM_CMD, WRITEREG_CMD};
 use gvcp_wire::{Ack, Command, Status};
 
@@ -51,15 +51,15 @@ pub(crate) fn is_late(asked: &Sending, moment: u64) -> bool
     u128::from(asked.sent) + asked.limit <= u128::from(moment)
 }
 
-// The command with a further send, which waits.
-pub(crate) fn sent_again(asked: Sending, moment: u64) -> Sending
+// The command with a further send, which waits and has this limit.
+pub(crate) fn sent_again(limit: u64, asked: Sending, moment: u64) -> Sending
     requires { asked.sends < 255 }
-    ensures { result ≡ record asked { sends = asked.sends + 1; sent = moment; limit = SEND_LIMIT; waits = true } }
+    ensures { result ≡ record asked { sends = asked.sends + 1; sent = moment; limit = limit; waits = true } }
 {
     Sending {
         sends: asked.sends + 1,
         sent: moment,
-        limit: u128::from(SEND_LIMIT),
+        limit: u128::from(limit),
         waits: true,
         ..asked
     }

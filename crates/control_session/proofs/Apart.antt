@@ -3,6 +3,7 @@ use Rattle.std.proofs.Common.{◌≡◌, ℕ, List, [], ◌∷◌, Option, Some,
 use Rattle.gev_types.specs.declared.frame.Shape.{Shape}
 use Rattle.bootstrap_regs.specs.Changes as changes
 use Rattle.client_machine.specs.Machine.{Client}
+use Rattle.client_machine.specs.Times.{SEND_LIMIT}
 use Rattle.client_machine.specs.Events as clients
 use Rattle.camera_machine.specs.Camera.{Camera, new_camera}
 use Rattle.camera_machine.specs.Commands.{Execution, commanded}
@@ -14,7 +15,7 @@ use Rattle.control_session.specs.Laws.{executions_in, AreApart}
 
 -- ---- each by itself
 
-client_apart : (seed : ℕ) (shape : Shape) (room : ℕ) (acts : List Act) → (after (new_line seed shape room) acts).client ≡ clients.after (client_events acts)
+client_apart : (seed : ℕ) (shape : Shape) (room : ℕ) (acts : List Act) → (after (new_line seed shape room) acts).client ≡ clients.after SEND_LIMIT (client_events acts)
 client_apart seed shape room [] = refl
 client_apart seed shape room (at_client e ∷ rest) = ap (λ (s : Client). clients.step s e) (client_apart seed shape room rest)
 client_apart seed shape room (at_camera e ∷ rest) = client_apart seed shape room rest

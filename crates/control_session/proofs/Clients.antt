@@ -149,11 +149,11 @@ fits_idle subs sent s moment false few f = f
 
 fits_late : (subs sent : List (List ℕ)) (s : Client) (moment : ℕ) (asked : Asked) (late more : Bool) → IsAsked subs asked → ClientFits subs sent s
     → ClientFits subs sent (if late then
-    (if more then goes_on (record s { asked = Some (sent_again asked moment) })
+    (if more then goes_on (record s { asked = Some (sent_again s.limit asked moment) })
     else record { client = record s { asked = None }; outcome = NoAnswer asked.req })
     else goes_on s).client
 fits_late subs sent s moment asked true true a f =
-    with_asked subs sent s (record s { asked = Some (sent_again asked moment) }) refl (record { place = a.place; req_is = a.req_is; at = a.at; code = a.code }) f
+    with_asked subs sent s (record s { asked = Some (sent_again s.limit asked moment) }) refl (record { place = a.place; req_is = a.req_is; at = a.at; code = a.code }) f
 fits_late subs sent s moment asked true false a f = with_asked subs sent s (record s { asked = None }) refl tt f
 fits_late subs sent s moment asked false more a f = f
 

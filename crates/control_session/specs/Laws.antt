@@ -6,6 +6,7 @@ use Rattle.gev_types.specs.declared.peer.Peer.{Peer}
 use Rattle.gvcp_wire.specs.declared.status.Status.TheVariants.{Success}
 use Rattle.client_machine.specs.declared.outcome.Outcome.TheVariants.{Acked}
 use Rattle.client_machine.specs.Machine.{Asked, received}
+use Rattle.client_machine.specs.Times.{SEND_LIMIT}
 use Rattle.client_machine.specs.Events as clients
 use Rattle.camera_machine.specs.Camera.{new_camera}
 use Rattle.camera_machine.specs.Commands.{Execution}
@@ -69,6 +70,6 @@ executions_in (made sent ∷ ds) = executions_in ds
 -- The client and the camera of a schedule are what their own events made them, and what was executed is
 -- what the camera's past says.
 pub record AreApart (seed : ℕ) (shape : Shape) (room : ℕ) (acts : List Act) : Type 0 where
-  pub client : (after (new_line seed shape room) acts).client ≡ clients.after (client_events acts)
+  pub client : (after (new_line seed shape room) acts).client ≡ clients.after SEND_LIMIT (client_events acts)
   pub camera : (after (new_line seed shape room) acts).camera ≡ cameras.after (new_camera seed shape room) (camera_events acts)
   pub executions : (after (new_line seed shape room) acts).executed ≡ executions_in (past (new_camera seed shape room) (camera_events acts))

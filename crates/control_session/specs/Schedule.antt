@@ -9,6 +9,7 @@ use Rattle.gvcp_wire.specs.Messages.{PlainCommand}
 use Rattle.gvcp_wire.specs.Control.{HasWidths}
 use Rattle.gvcp_wire.specs.Reading.{command_reading}
 use Rattle.client_machine.specs.Commands.{IsAccess, MaySubmit}
+use Rattle.client_machine.specs.Times.{SEND_LIMIT}
 use Rattle.client_machine.specs.Machine.{Asked, Client, new_client, to_send}
 use Rattle.client_machine.specs.Events.{Request, submitted_at, due_at}
 use Rattle.client_machine.specs.Events as clients
@@ -40,7 +41,7 @@ pub record Line : Type 0 where
 -- a new client and a new camera that holds at most so many frames
 abbrev pub new_line : ℕ → Shape → ℕ → Line
 new_line seed shape room = record {
-  client = new_client;
+  client = new_client SEND_LIMIT;
   camera = new_camera seed shape room;
   submitted = [];
   sent = [];

@@ -107,46 +107,46 @@ then_both : (es xs ys : List ClientEvent) → and_then es (xs ++ ys) ≡ and_the
 then_both es [] ys = refl
 then_both es (x ∷ xs) ys = then_both (x ∷ es) xs ys
 
-takes_then : (es xs : List ClientEvent) (s : Client) → s ≡ after_events (and_then es xs) → taken s ≡ after_events (and_then es (xs ++ takes ∷ []))
-takes_then es xs s is = ap taken is ∙ sym (ap after_events (then_one es xs takes))
+takes_then : (limit : ℕ) (es xs : List ClientEvent) (s : Client) → s ≡ after_events limit (and_then es xs) → taken s ≡ after_events limit (and_then es (xs ++ takes ∷ []))
+takes_then limit es xs s is = ap taken is ∙ sym (ap (after_events limit) (then_one es xs takes))
 
-tick_goes : (es xs : List ClientEvent) (s : Client) (outcome : Outcome) → s ≡ after_events (and_then es xs)
-    → (after_tick xs s outcome).state ≡ after_events (and_then es (after_tick xs s outcome).events)
-tick_goes es xs s (Waiting req) is = takes_then es xs s is
-tick_goes es xs s Idle is = takes_then es xs s is
-tick_goes es xs s Acked is = takes_then es xs s is
-tick_goes es xs s (Refused status) is = takes_then es xs s is
-tick_goes es xs s (NoAnswer req) is = is
+tick_goes : (limit : ℕ) (es xs : List ClientEvent) (s : Client) (outcome : Outcome) → s ≡ after_events limit (and_then es xs)
+    → (after_tick xs s outcome).state ≡ after_events limit (and_then es (after_tick xs s outcome).events)
+tick_goes limit es xs s (Waiting req) is = takes_then limit es xs s is
+tick_goes limit es xs s Idle is = takes_then limit es xs s is
+tick_goes limit es xs s Acked is = takes_then limit es xs s is
+tick_goes limit es xs s (Refused status) is = takes_then limit es xs s is
+tick_goes limit es xs s (NoAnswer req) is = is
 
-ticks_go : (es xs : List ClientEvent) (s : Client) (moment : ℕ) → s ≡ after_events (and_then es xs)
-    → (ticks_turn xs s moment).state ≡ after_events (and_then es (ticks_turn xs s moment).events)
-ticks_go es xs s moment is =
-    tick_goes es (xs ++ ticks moment ∷ []) (ticked s moment).client (ticked s moment).outcome
-    (ap (λ (x : Client). (ticked x moment).client) is ∙ sym (ap after_events (then_one es xs (ticks moment))))
+ticks_go : (limit : ℕ) (es xs : List ClientEvent) (s : Client) (moment : ℕ) → s ≡ after_events limit (and_then es xs)
+    → (ticks_turn xs s moment).state ≡ after_events limit (and_then es (ticks_turn xs s moment).events)
+ticks_go limit es xs s moment is =
+    tick_goes limit es (xs ++ ticks moment ∷ []) (ticked s moment).client (ticked s moment).outcome
+    (ap (λ (x : Client). (ticked x moment).client) is ∙ sym (ap (after_events limit) (then_one es xs (ticks moment))))
 
-receive_goes : (es xs : List ClientEvent) (s : Client) (outcome : Outcome) (moment : ℕ) → s ≡ after_events (and_then es xs)
-    → (after_receive xs s outcome moment).state ≡ after_events (and_then es (after_receive xs s outcome moment).events)
-receive_goes es xs s (Waiting req) moment is = ticks_go es xs s moment is
-receive_goes es xs s Idle moment is = ticks_go es xs s moment is
-receive_goes es xs s Acked moment is = ticks_go es xs s moment is
-receive_goes es xs s (Refused status) moment is = is
-receive_goes es xs s (NoAnswer req) moment is = ticks_go es xs s moment is
+receive_goes : (limit : ℕ) (es xs : List ClientEvent) (s : Client) (outcome : Outcome) (moment : ℕ) → s ≡ after_events limit (and_then es xs)
+    → (after_receive xs s outcome moment).state ≡ after_events limit (and_then es (after_receive xs s outcome moment).events)
+receive_goes limit es xs s (Waiting req) moment is = ticks_go limit es xs s moment is
+receive_goes limit es xs s Idle moment is = ticks_go limit es xs s moment is
+receive_goes limit es xs s Acked moment is = ticks_go limit es xs s moment is
+receive_goes limit es xs s (Refused status) moment is = is
+receive_goes limit es xs s (NoAnswer req) moment is = ticks_go limit es xs s moment is
 
 -- the client's part of a turn
-turn_goes : (es : List ClientEvent) (s : Client) (heard : Option Answer) (moment : ℕ) → s ≡ after_events es
-    → (control_of s heard moment).state ≡ after_events (and_then es (control_of s heard moment).events)
-turn_goes es s None moment is = is
-turn_goes es s (Some failed) moment is = is
-turn_goes es s (Some nothing) moment is = ticks_go es [] s moment is
-turn_goes es s (Some (came bytes peer)) moment is =
-    receive_goes es (receives bytes moment ∷ []) (received s bytes moment).client (received s bytes moment).outcome moment
+turn_goes : (limit : ℕ) (es : List ClientEvent) (s : Client) (heard : Option Answer) (moment : ℕ) → s ≡ after_events limit es
+    → (control_of s heard moment).state ≡ after_events limit (and_then es (control_of s heard moment).events)
+turn_goes limit es s None moment is = is
+turn_goes limit es s (Some failed) moment is = is
+turn_goes limit es s (Some nothing) moment is = ticks_go limit es [] s moment is
+turn_goes limit es s (Some (came bytes peer)) moment is =
+    receive_goes limit es (receives bytes moment ∷ []) (received s bytes moment).client (received s bytes moment).outcome moment
     (ap (λ (x : Client). (received x bytes moment).client) is)
 
-pub client_goes : (c : AcqConfig) (q : List Input) (s u : Client) (made : List Turned) (es : List ClientEvent) → ControlEach c q s made u → s ≡ after_events es
-    → u ≡ after_events (and_then es (client_events s made))
-client_goes c q s u [] es same is = same ∙ is
-client_goes c q s u (t ∷ ts) es each is =
-    client_goes c (q ++ inputs_of t) (control_of s t.heard t.moment).state u ts (and_then es (control_of s t.heard t.moment).events) each.1
-    (turn_goes es s t.heard t.moment is)
-    ∙ sym (ap after_events
+pub client_goes : (limit : ℕ) (c : AcqConfig) (q : List Input) (s u : Client) (made : List Turned) (es : List ClientEvent) → ControlEach c q s made u → s ≡ after_events limit es
+    → u ≡ after_events limit (and_then es (client_events s made))
+client_goes limit c q s u [] es same is = same ∙ is
+client_goes limit c q s u (t ∷ ts) es each is =
+    client_goes limit c (q ++ inputs_of t) (control_of s t.heard t.moment).state u ts (and_then es (control_of s t.heard t.moment).events) each.1
+    (turn_goes limit es s t.heard t.moment is)
+    ∙ sym (ap (after_events limit)
     (then_both es (control_of s t.heard t.moment).events (client_events (control_of s t.heard t.moment).state ts)))

@@ -48,5 +48,5 @@ and_then es (x ∷ xs) = and_then (x ∷ es) xs
 -- A client that is as some events left it is after the turns as these events left it and then the turns'.
 abbrev pub ClientGoesThroughTurns : Type 0
 ClientGoesThroughTurns =
-    (c : AcqConfig) (q : List Input) (s u : Client) (made : List Turned) (es : List ClientEvent) → ControlEach c q s made u
-    → s ≡ after_events es → u ≡ after_events (and_then es (client_events s made))
+    (limit : ℕ) (c : AcqConfig) (q : List Input) (s u : Client) (made : List Turned) (es : List ClientEvent) → ControlEach c q s made u
+    → s ≡ after_events limit es → u ≡ after_events limit (and_then es (client_events s made))

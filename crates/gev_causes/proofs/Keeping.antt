@@ -8,7 +8,7 @@ use Rattle.gvcp_wire.specs.Control.{plain}
 use Rattle.gvcp_wire.specs.Reading.{ack_reading}
 use Rattle.gvcp_aux.specs.Reading.{pending_reading}
 use Rattle.client_machine.specs.declared.outcome.Outcome.TheVariants.{NoAnswer}
-use Rattle.client_machine.specs.Times.{SENDS, SEND_LIMIT}
+use Rattle.client_machine.specs.Times.{SENDS}
 use Rattle.client_machine.specs.Commands.{code_of, head_for, next_req, is_match, heartbeat}
 use Rattle.client_machine.specs.Machine.{Asked, Client, Told, goes_on, outcome_after, with_command, submitted_with, is_heartbeat_due, is_late, sent_again, ticked_with, ticked, to_send, not_waiting, pended, ended_by, received_ack, received_as, received}
 use Rattle.client_machine.specs.Events.{Request, request_of, new_request, is_answer}
@@ -77,7 +77,7 @@ tick_idle s moment ms false idle = inl (subst (λ o. Due o ms) (sym idle) tt, re
 tick_late : (s : Client) (moment : ℕ) (ms : List Move) (asked : Asked) (more late : Bool) → nat_lt asked.sends 3 ≡ more → s.asked ≡ Some asked
     → Kept (Some asked) ms
     → TickCame (if late then
-    (if more then goes_on (record s { asked = Some (sent_again asked moment) })
+    (if more then goes_on (record s { asked = Some (sent_again s.limit asked moment) })
     else record { client = record s { asked = None }; outcome = NoAnswer asked.req })
     else goes_on s) ms
 tick_late s moment ms asked true true few is kept = inl ((below asked.sends (ltb-true asked.sends 3 few), inr (asked.sends, (refl, kept.2)), kept.3), refl)
@@ -110,22 +110,22 @@ tick_kept s moment ms (Some asked) is kept = tick_late s moment ms asked (nat_lt
 -- a command that was submitted at the same moment isn't late
 tick_new : (k : Client) (asked : Asked) (moment : ℕ) (ms : List Move) (more late : Bool) → late ≡ false → Due k.asked ms
     → TickCame (if late then
-    (if more then goes_on (record k { asked = Some (sent_again asked moment) })
+    (if more then goes_on (record k { asked = Some (sent_again k.limit asked moment) })
     else record { client = record k { asked = None }; outcome = NoAnswer asked.req })
     else goes_on k) ms
 tick_new k asked moment ms more true early due = let no_way : ⊥ = cc in absurd no_way
 tick_new k asked moment ms more false early due = inl (due, refl)
 
-not_late : (moment : ℕ) (b : Bool) → nat_le (moment + 40) moment ≡ b → b ≡ false
-not_late moment true is = absurd (later moment (leb-true (moment + 40) moment is))
+not_late : (limit moment : ℕ) (b : Bool) → 0 < limit → nat_le (moment + limit) moment ≡ b → b ≡ false
+not_late limit moment true some is = absurd (later moment (leb-true (moment + limit) moment is))
   where
-    later : (n : ℕ) → n + 40 ≤ n → ⊥
-    later n le = omega (arith, le)
-not_late moment false is = refl
+    later : (n : ℕ) → n + limit ≤ n → ⊥
+    later n le = omega (arith, some, le)
+not_late limit moment false some is = refl
 
-pub new_tick : (s : Client) (c : PlainCommand) (moment : ℕ) (ms : List Move) (o : Option Asked) → o ≡ None
+pub new_tick : (s : Client) (c : PlainCommand) (moment : ℕ) (ms : List Move) (o : Option Asked) → 0 < s.limit → o ≡ None
     → TickCame (ticked (submitted_with o s c moment) moment) ms
-new_tick s c moment ms None idle =
+new_tick s c moment ms None some idle =
     tick_new (with_command s c moment)
     (record {
       code = code_of c;
@@ -133,11 +133,11 @@ new_tick s c moment ms None idle =
       bytes = plain (head_for (next_req s.last_req) c) c;
       sends = 1;
       sent = moment;
-      limit = SEND_LIMIT;
+      limit = s.limit;
       waits = true;
     })
-    moment ms (nat_lt 1 SENDS) (nat_le (moment + 40) moment) (not_late moment (nat_le (moment + 40) moment) refl) (omega arith, inl refl, (c, refl))
-new_tick s c moment ms (Some asked) idle = let no_way : ⊥ = cc in absurd no_way
+    moment ms (nat_lt 1 SENDS) (nat_le (moment + s.limit) moment) (not_late s.limit moment (nat_le (moment + s.limit) moment) some refl) (omega arith, inl refl, (c, refl))
+new_tick s c moment ms (Some asked) some idle = let no_way : ⊥ = cc in absurd no_way
 
 -- ---- the receive
 

@@ -1,5 +1,5 @@
 -- The same through the turns of the setup and of the reader.
-use Rattle.std.proofs.Common.{◌≡◌, ℕ, List, [], ◌∷◌, ◌++◌, Option, Some, None, refl, ap, sym, ◌∙◌, inl, inr, subst}
+use Rattle.std.proofs.Common.{◌≡◌, ℕ, ◌<◌, List, [], ◌∷◌, ◌++◌, Option, Some, None, refl, ap, sym, ◌∙◌, inl, inr, subst}
 use Rattle.std.specs.Prelude.{⊤, slice_get}
 use Rattle.gvcp_wire.specs.Messages.{PlainCommand}
 use Rattle.client_machine.specs.declared.outcome.Outcome.{Outcome}
@@ -16,7 +16,8 @@ use Rattle.gev_control.specs.declared.acq_end.AcqEnd.{AcqEnd}
 use Rattle.gev_control.specs.declared.acq_end.AcqEnd.TheVariants as how
 use Rattle.gev_control.specs.Controlled.{ControlTurn, EndsAs, after_tick, ticks_turn, after_receive, control_of, listed, sent_by}
 use Rattle.gev_control.specs.SetupTurns.{SetUp, SetupTurned, begins_with, begins, submits_next, hears_setup, setup_ticked, after_ticks, setup_turn, sent_if_heard, MayHear, IsHeard}
-use Rattle.gev_control.proofs.SetupEnds.{ends_as_client}
+use Rattle.gev_control.proofs.OrderEnds.{ends_as_client}
+use Rattle.gev_control.proofs.ClientSteps.{turn_keeps}
 use Rattle.gev_acq.specs.Turns.{Turned, asks_of, IsControlled}
 use Rattle.gev_causes.specs.Moves.{Move, hears, sends_all, hears_of, turn_moves, later_moves}
 use Rattle.gev_causes.specs.Causes.{IsUnanswered}
@@ -112,20 +113,24 @@ turn_gives_up c q s t req ms is controlled kept =
 
 -- ---- the setup's turns
 
-next_tick : (s : SetUp) (moment : ℕ) (ms : List Move) (c : Option PlainCommand) → s.client.asked ≡ None
+next_tick : (s : SetUp) (moment : ℕ) (ms : List Move) (c : Option PlainCommand) → 0 < s.client.limit → s.client.asked ≡ None
     → TickCame (ticked (submits_next c s moment).state.client moment) ms
-next_tick s moment ms None idle = tick_kept s.client moment ms s.client.asked refl (subst (λ o. Kept o ms) (sym idle) tt)
-next_tick s moment ms (Some c) idle = new_tick s.client c moment ms s.client.asked idle
+next_tick s moment ms None some idle = tick_kept s.client moment ms s.client.asked refl (subst (λ o. Kept o ms) (sym idle) tt)
+next_tick s moment ms (Some c) some idle = new_tick s.client c moment ms s.client.asked some idle
 
-begun_tick : (stream : Address) (s : SetUp) (moment : ℕ) (ms : List Move) (o : Option Asked) → s.client.asked ≡ o → Kept o ms
+begun_tick : (stream : Address) (s : SetUp) (moment : ℕ) (ms : List Move) (o : Option Asked) → 0 < s.client.limit → s.client.asked ≡ o → Kept o ms
     → TickCame (ticked (begins_with o stream s moment).state.client moment) ms
-begun_tick stream s moment ms None idle kept = next_tick s moment ms (slice_get (setup_commands stream) s.begun) idle
-begun_tick stream s moment ms (Some asked) is kept = tick_kept s.client moment ms s.client.asked refl (subst (λ o. Kept o ms) (sym is) kept)
+begun_tick stream s moment ms None some idle kept = next_tick s moment ms (slice_get (setup_commands stream) s.begun) some idle
+begun_tick stream s moment ms (Some asked) some is kept = tick_kept s.client moment ms s.client.asked refl (subst (λ o. Kept o ms) (sym is) kept)
 
-setup_came : (stream : Address) (s : SetUp) (moment : ℕ) (ms : List Move) → Kept s.client.asked ms
+-- The same of a client whose sends have a limit.
+abbrev pub KeptOf : Client → List Move → Type 0
+KeptOf s ms = (0 < s.limit) × Kept s.asked ms
+
+setup_came : (stream : Address) (s : SetUp) (moment : ℕ) (ms : List Move) → KeptOf s.client ms
     → CameTo (setup_ticked stream s moment).end (setup_ticked stream s moment).state (setup_ticked stream s moment).send ms
 setup_came stream s moment ms kept =
-    tick_came (ticks moment ∷ []) (ticked (begins stream s moment).state.client moment) ms (begun_tick stream s moment ms s.client.asked refl kept)
+    tick_came (ticks moment ∷ []) (ticked (begins stream s moment).state.client moment) ms (begun_tick stream s moment ms s.client.asked kept.0 refl kept.1)
 
 -- the setup goes on, or is done
 abbrev pub GoesOnOrStops : Option AcqEnd → Type 0
@@ -154,19 +159,21 @@ after_kept ends.Fault k begun turned ms came_to on = absurd on
 after_kept (ends.NoAnswer req) k begun turned ms came_to on = absurd on
 after_kept (ends.Refused status) k begun turned ms came_to on = absurd on
 
-pub setup_goes_on : (stream : Address) (s : SetUp) (t : SetupTurned) (ms : List Move) → GoesOnOrStops (setup_turn stream s t).end → Kept s.client.asked ms
-    → Kept (setup_turn stream s t).state.client.asked
+pub setup_goes_on : (stream : Address) (s : SetUp) (t : SetupTurned) (ms : List Move) → GoesOnOrStops (setup_turn stream s t).end → KeptOf s.client ms
+    → KeptOf (setup_turn stream s t).state.client
     (later_moves ms (sends_all (sent_if_heard t.heard (setup_turn stream s t).send) ++ hears_of t.heard))
-setup_goes_on stream s t ms on kept =
-    after_kept (setup_ticked stream s t.moment).end (setup_ticked stream s t.moment) (begins stream s t.moment).state.begun t ms
-    (setup_came stream s t.moment ms kept) on
+setup_goes_on stream s t ms on kept = (
+  subst (λ n. 0 < n) (sym (turn_keeps (setup_commands stream) s t)) kept.0,
+  after_kept (setup_ticked stream s t.moment).end (setup_ticked stream s t.moment) (begins stream s t.moment).state.begun t ms
+      (setup_came stream s t.moment ms kept) on,
+)
 
 quiet_end : (heard : Option Answer) (send : Option (List ℕ)) (ms : List Move) → heard ≡ None
     → later_moves ms (sends_all (sent_if_heard heard send) ++ hears_of heard) ≡ ms
 quiet_end heard send ms is = ap (λ h. later_moves ms (sends_all (sent_if_heard h send) ++ hears_of h)) is
 
 pub setup_gives_up : (stream : Address) (s : SetUp) (t : SetupTurned) (req : ℕ) (ms : List Move) → (setup_turn stream s t).end ≡ Some (how.NoAnswer req)
-    → IsHeard stream s t → Kept s.client.asked ms
+    → IsHeard stream s t → KeptOf s.client ms
     → IsUnanswered req (later_moves ms (sends_all (sent_if_heard t.heard (setup_turn stream s t).send) ++ hears_of t.heard))
 setup_gives_up stream s t req ms is may kept =
     let told : (ticked (begins stream s t.moment).state.client t.moment).outcome ≡ NoAnswer req = ((ends_as_client stream s t).no_answer req).0 is in

@@ -17,7 +17,7 @@ use Rattle.gev_reader.specs.Reads.{IsSetUp, EndsAfter}
 use Rattle.gev_causes.specs.Moves.{Move, sends_all, hears_of, setup_moves, turn_moves, reader_moves, moves_sent, moves_heard, datagrams, later_moves}
 use Rattle.gev_causes.specs.Causes.{IsUnanswered, NoAnswerIsUnanswered}
 use Rattle.gev_causes.proofs.Keeping.{later-append, Kept}
-use Rattle.gev_causes.proofs.Turns.{turn_goes_on, turn_gives_up, GoesOnOrStops, setup_goes_on, setup_gives_up}
+use Rattle.gev_causes.proofs.Turns.{KeptOf, turn_goes_on, turn_gives_up, GoesOnOrStops, setup_goes_on, setup_gives_up}
 use Rattle.gev_causes.proofs.Links.{sent-append, heard-append, datagrams-append, setup_sent_is, setup_heard_is, NoneFails, reader_sent_is, reader_heard_is}
 
 -- ---- the setup
@@ -43,35 +43,35 @@ after_last : (stream : Address) (s : SetUp) (before : List SetupTurned) (last : 
 after_last stream s [] last = refl
 after_last stream s (t ∷ ts) last = after_last stream (setup_turn stream s t).state ts last
 
-setup_kept : (stream : Address) (s : SetUp) (ts : List SetupTurned) (ms : List Move) → SetupGoesOn stream s ts → Kept s.client.asked ms
-    → Kept (setup_after stream s ts).client.asked (later_moves ms (setup_moves stream s ts))
+setup_kept : (stream : Address) (s : SetUp) (ts : List SetupTurned) (ms : List Move) → SetupGoesOn stream s ts → KeptOf s.client ms
+    → KeptOf (setup_after stream s ts).client (later_moves ms (setup_moves stream s ts))
 setup_kept stream s [] ms on kept = kept
 setup_kept stream s (t ∷ ts) ms on kept =
     let here : List Move = sends_all (sent_if_heard t.heard (setup_turn stream s t).send) ++ hears_of t.heard in
-    subst (Kept (setup_after stream (setup_turn stream s t).state ts).client.asked)
+    subst (KeptOf (setup_after stream (setup_turn stream s t).state ts).client)
     (sym (later-append ms here (setup_moves stream (setup_turn stream s t).state ts)))
     (setup_kept stream (setup_turn stream s t).state ts (later_moves ms here) on.1
     (setup_goes_on stream s t ms (subst GoesOnOrStops (sym on.0) tt) kept))
 
 -- the client after a setup that stopped
-stopped_kept : (stream : Address) (s u : Client) (made : List SetupTurned) → Kept s.asked [] → IsSetUp stream s made how.Stopped u
+stopped_kept : (stream : Address) (s u : Client) (made : List SetupTurned) → KeptOf s [] → IsSetUp stream s made how.Stopped u
     → Kept u.asked (later_moves [] (setup_moves stream (set_up s 0) made))
 stopped_kept stream s u made kept set =
     let there : SetUp = setup_after stream (set_up s 0) set.before in
-    let last : Kept (setup_turn stream there set.last).state.client.asked (later_moves (later_moves [] (setup_moves stream (set_up s 0) set.before))
+    let last : KeptOf (setup_turn stream there set.last).state.client (later_moves (later_moves [] (setup_moves stream (set_up s 0) set.before))
     (sends_all (sent_if_heard set.last.heard (setup_turn stream there set.last).send) ++ hears_of set.last.heard)) =
     setup_goes_on stream there set.last (later_moves [] (setup_moves stream (set_up s 0) set.before)) (subst GoesOnOrStops (sym set.ended) tt)
     (setup_kept stream (set_up s 0) set.before [] set.on kept)
     in
-    let whole : Kept (setup_turn stream there set.last).state.client.asked (later_moves [] (setup_moves stream (set_up s 0) made)) =
-    subst (Kept (setup_turn stream there set.last).state.client.asked)
+    let whole : KeptOf (setup_turn stream there set.last).state.client (later_moves [] (setup_moves stream (set_up s 0) made)) =
+    subst (KeptOf (setup_turn stream there set.last).state.client)
     (sym (ap (λ l. later_moves [] (setup_moves stream (set_up s 0) l)) set.is ∙ last_moves stream (set_up s 0) set.before set.last [])) last
     in
     subst (λ (k : Client). Kept k.asked (later_moves [] (setup_moves stream (set_up s 0) made)))
-    (sym (set.client ∙ ap (λ x. x.client) (ap (setup_after stream (set_up s 0)) set.is ∙ after_last stream (set_up s 0) set.before set.last))) whole
+    (sym (set.client ∙ ap (λ x. x.client) (ap (setup_after stream (set_up s 0)) set.is ∙ after_last stream (set_up s 0) set.before set.last))) whole.1
 
 -- a setup without an answer
-setup_unanswered : (stream : Address) (s u : Client) (made : List SetupTurned) (req : ℕ) → Kept s.asked [] → IsSetUp stream s made (how.NoAnswer req) u
+setup_unanswered : (stream : Address) (s u : Client) (made : List SetupTurned) (req : ℕ) → KeptOf s [] → IsSetUp stream s made (how.NoAnswer req) u
     → IsUnanswered req (later_moves [] (setup_moves stream (set_up s 0) made))
 setup_unanswered stream s u made req kept set =
     subst (IsUnanswered req)
@@ -103,7 +103,7 @@ record Shown (c : AcqConfig) (stream : Address) (s u v : Client) (setup : List S
   unanswered : IsUnanswered req (later_moves [] (setup_moves stream (set_up s 0) setup ++ reader_moves c [] u made))
   fine : NoneFails made
 
-from_turns : (c : AcqConfig) (stream : Address) (s u v : Client) (setup : List SetupTurned) (made : List Turned) (req : ℕ) → Kept s.asked []
+from_turns : (c : AcqConfig) (stream : Address) (s u v : Client) (setup : List SetupTurned) (made : List Turned) (req : ℕ) → KeptOf s []
     → IsSetUp stream s setup how.Stopped u → EndsIn (ends.NoAnswer req) made → ControlEach c [] u made v → Shown c stream s u v setup made req
 from_turns c stream s u v setup made req kept set ended each = record {
   unanswered =
@@ -114,7 +114,7 @@ from_turns c stream s u v setup made req kept set ended each = record {
   fine = subst NoneFails (sym ended.is) (none_fails ended.before ended.last req ended.on ended.ended);
 }
 
-from_setup : (c : AcqConfig) (stream : Address) (s u v : Client) (setup : List SetupTurned) (made : List Turned) (req : ℕ) → Kept s.asked []
+from_setup : (c : AcqConfig) (stream : Address) (s u v : Client) (setup : List SetupTurned) (made : List Turned) (req : ℕ) → KeptOf s []
     → IsSetUp stream s setup (how.NoAnswer req) u → made ≡ [] → Shown c stream s u v setup made req
 from_setup c stream s u v setup made req kept set none_made = record {
   unanswered =
@@ -125,7 +125,7 @@ from_setup c stream s u v setup made req kept set none_made = record {
 }
 
 by_setup_end : (c : AcqConfig) (stream : Address) (s u v : Client) (setup : List SetupTurned) (made : List Turned) (turns req : ℕ) (setup_end : AcqEnd)
-    → Kept s.asked [] → IsSetUp stream s setup setup_end u → EndsAfter setup_end (how.NoAnswer req) turns made → ControlEach c [] u made v
+    → KeptOf s [] → IsSetUp stream s setup setup_end u → EndsAfter setup_end (how.NoAnswer req) turns made → ControlEach c [] u made v
     → Shown c stream s u v setup made req
 by_setup_end c stream s u v setup made turns req how.Stopped kept set after each = from_turns c stream s u v setup made req kept set after.1 each
 by_setup_end c stream s u v setup made turns req how.Spent kept set after each = let bad : ⊥ = cc in absurd bad
@@ -139,9 +139,9 @@ by_setup_end c stream s u v setup made turns req (how.NoAnswer found) kept set a
 by_setup_end c stream s u v setup made turns req (how.Refused status) kept set after each = let bad : ⊥ = cc in absurd bad
 
 pub no_answer : NoAnswerIsUnanswered
-no_answer mode c camera stream o n journal journal_after turns req made turned last on new =
+no_answer mode c camera stream o n journal journal_after turns req made turned last on new some =
     let shown : Shown c stream o.client on.client n.client on.setup made req =
-    by_setup_end c stream o.client on.client n.client on.setup made turns req on.setup_end (subst (λ (k : Client). Kept k.asked []) (sym new) tt)
+    by_setup_end c stream o.client on.client n.client on.setup made turns req on.setup_end (some, subst (λ (k : Client). Kept k.asked []) (sym new) tt)
     on.set_up_by on.ends on.controlled
     in
     record {

@@ -1,5 +1,5 @@
 -- Why a live run's reader ended as its client did.
-use Rattle.std.specs.Prelude.{◌≡◌, ℕ, ◌+◌, false, List, [], ◌∷◌, ◌++◌}
+use Rattle.std.specs.Prelude.{◌≡◌, ℕ, ◌+◌, ◌<◌, false, List, [], ◌∷◌, ◌++◌}
 use Rattle.board_machine.specs.declared.events.Event.{Event}
 use Rattle.gvcp_wire.specs.Messages.{PlainCommand}
 use Rattle.client_machine.specs.Times.{SENDS}
@@ -40,7 +40,7 @@ abbrev pub run_moves : (mode : Mode) (c : AcqConfig) (camera stream : Address) (
 run_moves mode c camera stream o n journal journal_after turns end made turned last on =
     setup_moves stream (set_up o.client 0) on.setup ++ reader_moves c [] on.client made
 
--- Where the reader of a new client ends with NoAnswer, a command was sent three times with that number over the
+-- Where the reader of a new client, whose sends have a limit, ends with NoAnswer, a command was sent three times with that number over the
 -- control link, and no matching acknowledge came after the first of these. The moves are what that link sent and
 -- heard.
 pub record GivesUpUnanswered (mode : Mode) (c : AcqConfig) (camera stream : Address) (o n : Outside) (journal journal_after : List Turn) (turns req : ℕ)
@@ -54,7 +54,7 @@ pub record GivesUpUnanswered (mode : Mode) (c : AcqConfig) (camera stream : Addr
 abbrev pub NoAnswerIsUnanswered : Type 0
 NoAnswerIsUnanswered =
     (mode : Mode) (c : AcqConfig) (camera stream : Address) (o n : Outside) (journal journal_after : List Turn) (turns req : ℕ) (made : List Turned) (turned last : List Event)
-    (on : ReadsOn mode c camera stream o n journal journal_after turns (how.NoAnswer req) made turned last) → HasSubmittedNone o.client
+    (on : ReadsOn mode c camera stream o n journal journal_after turns (how.NoAnswer req) made turned last) → HasSubmittedNone o.client → 0 < o.client.limit
     → GivesUpUnanswered mode c camera stream o n journal journal_after turns req made turned last on
 
 -- ---- refusals

@@ -3,17 +3,19 @@ use Rattle.std.proofs.Common.{◌≡◌, ℕ, List, [], ◌∷◌, ◌++◌, Opt
 use Rattle.client_machine.specs.declared.outcome.Outcome.{Outcome}
 use Rattle.client_machine.specs.declared.outcome.Outcome.TheVariants.{Waiting, Idle, Acked, Refused, NoAnswer}
 use Rattle.gvcp_wire.specs.Messages.{PlainCommand}
-use Rattle.std.specs.Prelude.{slice_get}
+use Rattle.std.specs.Prelude.{slice_get, length}
 use Rattle.client_machine.specs.Machine.{Asked, Client, ticked, received}
 use Rattle.client_machine.specs.Events.{Event, step, ticks, takes, receives}
 use Rattle.client_machine.specs.Setup.{setup_commands}
-use Rattle.gev_links.specs.Links.{Address, Answer, nothing, failed, came}
+use Rattle.client_machine.proofs.Limits.{step_keeps}
+use Rattle.gev_links.specs.Links.{Answer, nothing, failed, came}
 use Rattle.gev_control.specs.declared.turn_end.TurnEnd.{TurnEnd}
 use Rattle.gev_control.specs.declared.turn_end.TurnEnd.TheVariants as ends
 use Rattle.gev_control.specs.Controlled.{ControlTurn, after_tick, ticks_turn, after_receive, control_of}
-use Rattle.gev_control.specs.SetupTurns.{SetUp, SetupTurned, SetupPart, submits_next, begins_with, begins, hears_setup, setup_ticked, after_ticks, setup_turn}
-use Rattle.gev_control.specs.SetsUp.{setup_after, setup_events}
-use Rattle.gev_control.specs.SetupLaws.{steps, IsTheClients}
+use Rattle.gev_control.specs.OrderTurns.{Progress, OrderTurned, OrderPart, submits_next, next_with, next_part, hears_order, ticked_order, after_send, order_turn}
+use Rattle.gev_control.specs.CarriesOut.{orders_after, orders_events}
+use Rattle.gev_control.specs.OrderLaws.{steps, AreTheClients}
+use Rattle.gev_control.specs.SetupLaws.{IsTheClients}
 
 steps-append : (s : Client) (xs ys : List Event) → steps s (xs ++ ys) ≡ steps (steps s xs) ys
 steps-append s [] ys = refl
@@ -48,30 +50,30 @@ control_steps s (Some nothing) moment = ticks_steps s s [] moment refl
 control_steps s (Some (came bytes peer)) moment =
     receive_steps s (received s bytes moment).client (receives bytes moment ∷ []) (received s bytes moment).outcome moment refl
 
--- ---- a turn of the setup
+-- ---- a turn in which a list is carried out
 
-next_steps : (c : Option PlainCommand) (s : SetUp) (moment : ℕ) → (submits_next c s moment).state.client ≡ steps s.client (submits_next c s moment).events
+next_steps : (c : Option PlainCommand) (s : Progress) (moment : ℕ) → (submits_next c s moment).state.client ≡ steps s.client (submits_next c s moment).events
 next_steps None s moment = refl
 next_steps (Some c) s moment = refl
 
-begin_steps : (asked : Option Asked) (stream : Address) (s : SetUp) (moment : ℕ)
-    → (begins_with asked stream s moment).state.client ≡ steps s.client (begins_with asked stream s moment).events
-begin_steps None stream s moment = next_steps (slice_get (setup_commands stream) s.begun) s moment
-begin_steps (Some asked) stream s moment = refl
+begin_steps : (asked : Option Asked) (orders : List PlainCommand) (s : Progress) (moment : ℕ)
+    → (next_with asked orders s moment).state.client ≡ steps s.client (next_with asked orders s moment).events
+begin_steps None orders s moment = next_steps (slice_get orders s.begun) s moment
+begin_steps (Some asked) orders s moment = refl
 
-hear_steps : (s : Client) (begun moment : ℕ) (heard : Option Answer)
-    → (hears_setup s begun moment heard).client ≡ steps s (hears_setup s begun moment heard).events
-hear_steps s begun moment None = refl
-hear_steps s begun moment (Some failed) = refl
-hear_steps s begun moment (Some nothing) = refl
-hear_steps s begun moment (Some (came bytes peer)) = refl
+hear_steps : (size : ℕ) (s : Client) (begun moment : ℕ) (heard : Option Answer)
+    → (hears_order size s begun moment heard).client ≡ steps s (hears_order size s begun moment heard).events
+hear_steps size s begun moment None = refl
+hear_steps size s begun moment (Some failed) = refl
+hear_steps size s begun moment (Some nothing) = refl
+hear_steps size s begun moment (Some (came bytes peer)) = refl
 
-after_steps : (x : TurnEnd) (t : ControlTurn) (begun : ℕ) (turned : SetupTurned)
-    → (after_ticks x t begun turned).client ≡ steps t.state (after_ticks x t begun turned).events
-after_steps ends.GoesOn t begun turned = hear_steps t.state begun turned.moment turned.heard
-after_steps ends.Fault t begun turned = refl
-after_steps (ends.NoAnswer req) t begun turned = refl
-after_steps (ends.Refused status) t begun turned = refl
+after_steps : (size : ℕ) (x : TurnEnd) (t : ControlTurn) (begun : ℕ) (turned : OrderTurned)
+    → (after_send size x t begun turned).client ≡ steps t.state (after_send size x t begun turned).events
+after_steps size ends.GoesOn t begun turned = hear_steps size t.state begun turned.moment turned.heard
+after_steps size ends.Fault t begun turned = refl
+after_steps size (ends.NoAnswer req) t begun turned = refl
+after_steps size (ends.Refused status) t begun turned = refl
 
 -- three parts of a turn, one after the other
 joined_steps : (s a b c : Client) (xs ys zs : List Event) → a ≡ steps s xs → b ≡ steps a ys → c ≡ steps b zs → c ≡ steps s (xs ++ (ys ++ zs))
@@ -80,20 +82,31 @@ joined_steps s a b c xs ys zs first second third =
     ∙ (ap (λ k. steps k zs) second
     ∙ (sym (steps-append a ys zs) ∙ (ap (λ k. steps k (ys ++ zs)) first ∙ sym (steps-append s xs (ys ++ zs)))))
 
-turn_steps : (stream : Address) (s : SetUp) (t : SetupTurned) → (setup_turn stream s t).state.client ≡ steps s.client (setup_turn stream s t).events
-turn_steps stream s t =
-    let part : SetupPart = begins stream s t.moment in
-    let made : ControlTurn = setup_ticked stream s t.moment in
-    joined_steps s.client part.state.client made.state (after_ticks made.end made part.state.begun t).client part.events made.events
-    (after_ticks made.end made part.state.begun t).events (begin_steps s.client.asked stream s t.moment)
-    (ticks_steps part.state.client part.state.client [] t.moment refl) (after_steps made.end made part.state.begun t)
+turn_steps : (orders : List PlainCommand) (s : Progress) (t : OrderTurned) → (order_turn orders s t).state.client ≡ steps s.client (order_turn orders s t).events
+turn_steps orders s t =
+    let part : OrderPart = next_part orders s t.moment in
+    let made : ControlTurn = ticked_order orders s t.moment in
+    joined_steps s.client part.state.client made.state (after_send (length orders) made.end made part.state.begun t).client part.events made.events
+    (after_send (length orders) made.end made part.state.begun t).events (begin_steps s.client.asked orders s t.moment)
+    (ticks_steps part.state.client part.state.client [] t.moment refl) (after_steps (length orders) made.end made part.state.begun t)
 
-setup_steps : (stream : Address) (s : SetUp) (ts : List SetupTurned) → (setup_after stream s ts).client ≡ steps s.client (setup_events stream s ts)
-setup_steps stream s [] = refl
-setup_steps stream s (t ∷ ts) =
-    setup_steps stream (setup_turn stream s t).state ts
-    ∙ (ap (λ k. steps k (setup_events stream (setup_turn stream s t).state ts)) (turn_steps stream s t)
-    ∙ sym (steps-append s.client (setup_turn stream s t).events (setup_events stream (setup_turn stream s t).state ts)))
+list_steps : (orders : List PlainCommand) (s : Progress) (ts : List OrderTurned) → (orders_after orders s ts).client ≡ steps s.client (orders_events orders s ts)
+list_steps orders s [] = refl
+list_steps orders s (t ∷ ts) =
+    list_steps orders (order_turn orders s t).state ts
+    ∙ (ap (λ k. steps k (orders_events orders (order_turn orders s t).state ts)) (turn_steps orders s t)
+    ∙ sym (steps-append s.client (order_turn orders s t).events (orders_events orders (order_turn orders s t).state ts)))
+
+pub steps_keep : (s : Client) (es : List Event) → (steps s es).limit ≡ s.limit
+steps_keep s [] = refl
+steps_keep s (e ∷ es) = steps_keep (step s e) es ∙ step_keeps s e
+
+-- a turn keeps the client's limit
+pub turn_keeps : (orders : List PlainCommand) (s : Progress) (t : OrderTurned) → (order_turn orders s t).state.client.limit ≡ s.client.limit
+turn_keeps orders s t = ap (λ (k : Client). k.limit) (turn_steps orders s t) ∙ steps_keep s.client (order_turn orders s t).events
+
+pub are_steps : AreTheClients
+are_steps = record { orders = list_steps; control = control_steps }
 
 pub are_the_clients : IsTheClients
-are_the_clients = record { setup = setup_steps; control = control_steps }
+are_the_clients = record { setup = λ stream. list_steps (setup_commands stream); control = control_steps }

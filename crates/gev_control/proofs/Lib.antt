@@ -1,7 +1,11 @@
 pub mod Fronts
 pub mod Hearings
-pub mod SetupSteps
-pub mod SetupRuns
+pub mod OrderSteps
+pub mod OrderRuns
 pub mod ClientSteps
-pub mod SetupEnds
+pub mod OrderEnds
 pub mod Acks
+pub mod Submissions
+pub mod Tellings
+pub mod Throughs
+pub mod ThroughOrders

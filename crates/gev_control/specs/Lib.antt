@@ -1,6 +1,13 @@
 pub mod Sends
 pub mod Controlled
 pub mod Ends
+pub mod Orders
+pub mod OrderTurns
+pub mod CarriesOut
+pub mod CarriesThrough
+pub mod OrderLaws
+pub mod ThroughLaws
+pub mod Telling
 pub mod SetupTurns
 pub mod SetsUp
 pub mod SetupLaws

@@ -14,7 +14,7 @@ use Rattle.gev_control.specs.declared.acq_end.AcqEnd.TheVariants as reads
 use Rattle.gev_control.specs.Ends.{is_fault_end}
 use Rattle.gev_control.specs.SetupTurns.{SetupTurned, set_up}
 use Rattle.gev_control.specs.SetsUp.{setup_after}
-use Rattle.gev_control.proofs.SetupEnds.{ends_as_client}
+use Rattle.gev_control.proofs.OrderEnds.{ends_as_client}
 use Rattle.client_machine.specs.Machine.{Client}
 use Rattle.gev_acq.specs.Reading.{FaultsOf}
 use Rattle.gev_acq.specs.Turns.{Turned}

@@ -11,6 +11,7 @@ use Rattle.board_machine.specs.Laws.{IsAlone}
 use Rattle.board_machine.specs.Kinds.{HasNone, is_fill_refused, is_stop, is_taken}
 use Rattle.buffer_words.specs.Passes.{Token, own}
 use Rattle.buffer_words.specs.Workers.{AreOf, Hosts}
+use Rattle.client_machine.specs.Times.{SEND_LIMIT}
 use Rattle.client_machine.specs.Machine.{new_client}
 use Rattle.acquisition_machine.specs.declared.config.AcqConfig.{AcqConfig}
 use Rattle.camera_machine.specs.Camera.{Camera}
@@ -99,14 +100,14 @@ ran_live n camera stream answer o e served read taken lines written written_afte
       (λ well. subst (λ l. HasNone is_stop l) (sym own_a) (camera_stops_nothing served (live_camera n.seed) o.camera e.camera o.camera_clock e.camera_clock r.a r.worked_a well r.crew.first.new r.serves))
       (host_stops_nothing live_size n.buffers s u _ _ saw hosts) ends.cause;
   means = answer_means served read n.frames n.turns (length r.reads.made) lines taken_part.made taken answer taken_part.told_lines
-      (spent_all stream r.reads.on.setup_end read n.turns r.reads.made (never_spent stream new_client r.reads.on.setup r.reads.on.setup_end r.reads.on.client r.reads.on.set_up_by) r.reads.on.ends) ends.cause;
+      (spent_all stream r.reads.on.setup_end read n.turns r.reads.made (never_spent stream (new_client SEND_LIMIT) r.reads.on.setup r.reads.on.setup_end r.reads.on.client r.reads.on.set_up_by) r.reads.on.ends) ends.cause;
 }
   where
     own_b : own_of r.b.number u.seen ≡ own r.worked_b
     own_b = home_own r.one r.two r.b r.worked_b r.home r.back u.seen r.crew.second (second_in r) r.crew.ended_run
 
     reading : LiveReading n.mode live_config r.b.number read r.reads.made u.seen
-    reading = part_stays n.mode live_config camera stream (reader_side o new_client) (reader_side e r.client) [] r.journal n.turns read r.b r.worked_b r.reads u.seen r.crew.second.new
+    reading = part_stays n.mode live_config camera stream (reader_side o (new_client SEND_LIMIT)) (reader_side e r.client) [] r.journal n.turns read r.b r.worked_b r.reads u.seen r.crew.second.new
         (home_prefix r.one r.two r.b r.worked_b r.home r.back u.seen r.crew.second (second_in r)) own_b
 
     strict : HasNone is_fill_refused (own r.worked_b) → AreOf (is_strict_readers n.mode) (own r.worked_b)

@@ -9,6 +9,7 @@ use Rattle.board_machine.specs.Adding.{entries_of}
 use Rattle.acquisition_machine.specs.declared.config.AcqConfig.{AcqConfig}
 use Rattle.acquisition_machine.specs.Machine.{stop}
 use Rattle.block_fills.specs.Fills.{tried, retired_items}
+use Rattle.client_machine.specs.Times.{SEND_LIMIT}
 use Rattle.client_machine.specs.Machine.{Client, new_client}
 use Rattle.camera_machine.specs.Camera.{Camera}
 use Rattle.gev_links.specs.Links.{Address, Answer, failed, Adds}
@@ -48,7 +49,7 @@ pub record LiveReader (mode : Mode) (c : AcqConfig) (camera stream : Address) (o
   pub made : List Turned
   pub turned : List Event
   pub last : List Event
-  pub on : ReadsOn mode c camera stream (reader_side o new_client) (reader_side e client) [] journal turns end made turned last
+  pub on : ReadsOn mode c camera stream (reader_side o (new_client SEND_LIMIT)) (reader_side e client) [] journal turns end made turned last
   pub reading : LiveReading mode c k end made h
   pub fills : tried (own_of k h) ≡ retired_items c (inputs_in made ++ stop ∷ [])
   pub sized : AreSized live_size (claims_in (inputs_in made))

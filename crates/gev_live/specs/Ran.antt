@@ -7,6 +7,7 @@ use Rattle.board_machine.specs.Handout.{IsLegal}
 use Rattle.acquisition_machine.specs.declared.config.AcqConfig.{AcqConfig}
 use Rattle.buffer_words.specs.Passes.{Token}
 use Rattle.buffer_words.specs.Workers.{Works}
+use Rattle.client_machine.specs.Times.{SEND_LIMIT}
 use Rattle.client_machine.specs.Machine.{Client, new_client}
 use Rattle.camera_machine.specs.Camera.{Camera}
 use Rattle.mode_calls.specs.declared.mode.Mode.{Mode}
@@ -43,7 +44,7 @@ pub record RanCrew (mode : Mode) (c : AcqConfig) (new : Camera) (camera stream :
   pub client : Client
   pub journal : List Turn
   pub reader_works : Works (is_readers mode) b worked_b
-  pub reads : Reads mode c camera stream (reader_side o new_client) (reader_side e client) [] journal turns read b worked_b
+  pub reads : Reads mode c camera stream (reader_side o (new_client SEND_LIMIT)) (reader_side e client) [] journal turns read b worked_b
   pub faults : FaultsOf (is_fault_end read) o.stream.faults e.stream.faults o.control.faults e.control.faults
   pub application_works : Works is_applications d worked_d
   pub applies : AppliesAndStops frames o.app_clock e.app_clock [] lines answer d worked_d

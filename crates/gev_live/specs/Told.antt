@@ -1,6 +1,7 @@
 -- What the links and the clocks of a live run tell, and the conditions under which its workers begin.
 use Rattle.std.specs.Prelude.{◌≡◌, ℕ, ◌≤◌, List, [], Option}
-use Rattle.client_machine.specs.Machine.{Client, HasSubmittedNone}
+use Rattle.client_machine.specs.Times.{SEND_LIMIT}
+use Rattle.client_machine.specs.Machine.{Client, HasSubmittedNone, new_client}
 use Rattle.acq_core.specs.Receiver.{config_of, buffers, Stands}
 use Rattle.acq_core.specs.declared.window.Window.{Window}
 use Rattle.acq_core.specs.Waiting.{waiting_fills, waiting_requests}
@@ -45,7 +46,8 @@ pub record AreNew (seed turns : ℕ) (camera : Camera) (receiver : Window) (clie
   pub fills : waiting_fills receiver ≡ []
   pub requests : waiting_requests receiver ≡ []
   pub buffers_none : buffers receiver ≡ []
-  pub client_is : HasSubmittedNone client
+  pub client_is : client ≡ new_client SEND_LIMIT
+  pub unsubmitted : HasSubmittedNone client
   pub unwritten : journal ≡ []
   pub room_for : turns ≤ room
   pub no_lines : lines ≡ []

@@ -10,7 +10,7 @@ use gvcp_wire::Command;
 use std::sync::Wait;
 
 /// READREG of the register at 0x0A00, the control channel's privilege.
-const READ: Command<'static> = Command::ReadReg(b"\0\0\x0a\0");
+pub const READ: Command<'static> = Command::ReadReg(b"\0\0\x0a\0");
 
 /// A client with nothing to do, or with a READREG outstanding since moment 0.
 pub fn new_client(asks: bool) -> Client {

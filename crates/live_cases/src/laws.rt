@@ -7,7 +7,10 @@ use gev_acq::{
 };
 use gev_apply::{the_applications_part_stays, turns_are_of_their_kind};
 use gev_control::{
-    the_setup_ends_as_its_client, the_setup_stops_when_acknowledged, turns_are_steps_of_the_client,
+    a_list_stops_at_its_last_acknowledge, each_order_waits_for_the_one_before, heartbeats_are_told,
+    lists_end_as_their_client, orders_are_submitted_in_order, orders_that_go_through_are_in_order,
+    the_last_read_is_told, the_setup_ends_as_its_client, the_setup_stops_when_acknowledged,
+    turns_are_steps_of_the_client, turns_of_a_list_are_steps_of_the_client,
 };
 use gev_reader::{
     readers_claim_one_size, readers_fills_are_retired, readers_lay_nothing, readers_part_stays,
@@ -21,6 +24,14 @@ pub fn call_all(rt: &HostRuntime) -> Result<()> {
     client_goes_through_turns();
     turns_are_of_their_kind();
     the_applications_part_stays();
+    orders_are_submitted_in_order();
+    orders_that_go_through_are_in_order();
+    each_order_waits_for_the_one_before();
+    a_list_stops_at_its_last_acknowledge();
+    lists_end_as_their_client();
+    the_last_read_is_told();
+    heartbeats_are_told();
+    turns_of_a_list_are_steps_of_the_client();
     the_setup_stops_when_acknowledged();
     the_setup_ends_as_its_client();
     turns_are_steps_of_the_client();

@@ -15,6 +15,7 @@ mod laws;
 mod links;
 mod living;
 mod meeting;
+mod ordering;
 mod reading;
 mod recording;
 mod scripts;
@@ -113,6 +114,9 @@ fn call_worker<R: Wait>(
     match word {
         "setup" => controlling::set_up(rt, handles, case)?,
         "turn" => controlling::make_turn(rt, case)?,
+        "orders" => ordering::carry(rt, handles, case)?,
+        "through" => ordering::carry_through(rt, handles, case)?,
+        "beat" => ordering::tell_heartbeat(rt, case)?,
         "sends" => controlling::send_some(rt, case)?,
         "acquire" => acquiring::acquire_some(rt, handles, case)?,
         "served" => telling::serve_some(rt, handles, case)?,

@@ -9,6 +9,7 @@ use Rattle.acquisition_machine.specs.Runs.{first_state}
 use Rattle.acquisition_machine.proofs.Order.{all_weaker}
 use Rattle.block_fills.specs.Fills.{IsRetired}
 use Rattle.block_fills.proofs.Acquisitions.{retired_blocks}
+use Rattle.client_machine.specs.Times.{SEND_LIMIT}
 use Rattle.client_machine.specs.Machine.{new_client}
 use Rattle.gev_links.specs.Links.{Address}
 use Rattle.gev_status.specs.declared.status.Status.{Status}
@@ -47,8 +48,8 @@ run_keeps n camera stream answer o e written written_after faults faults_after h
   framed = λ frames sent.
       all_weaker (IsRetired live_config (reader_of run).inputs) (HoldsUnder frames live_config (reader_of run).inputs)
       (λ x r. blocks_frames frames live_config (reader_of run).inputs x r (inputs_sent frames live_config.p run.reader_part.made sent)) (handed_items h) handed;
-  causes = has_causes n.mode live_config camera stream (reader_side o new_client) (reader_side e run.reader_part.client) [] run.reader_part.journal n.turns run.read
-      run.reader_part.made run.reader_part.turned run.reader_part.last run.reader_part.on refl;
+  causes = has_causes n.mode live_config camera stream (reader_side o (new_client SEND_LIMIT)) (reader_side e run.reader_part.client) [] run.reader_part.journal n.turns run.read
+      run.reader_part.made run.reader_part.turned run.reader_part.last run.reader_part.on refl (omega arith);
 }
   where
     handed : AllByRecursion (IsRetired live_config (reader_of run).inputs) (handed_items h)

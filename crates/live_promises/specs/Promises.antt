@@ -11,6 +11,7 @@ use Rattle.board_machine.specs.Handout.{filled, items_handed_to, handed_items}
 use Rattle.acquisition_machine.specs.Machine.{stop}
 use Rattle.acquisition_machine.specs.Runs.{with_packet}
 use Rattle.block_fills.specs.Fills.{IsRetired}
+use Rattle.client_machine.specs.Times.{SEND_LIMIT}
 use Rattle.client_machine.specs.Machine.{new_client}
 use Rattle.mode_calls.specs.Dropped.{handed_out_items}
 use Rattle.gev_links.specs.Links.{Address, Answer, nothing, failed, came}
@@ -47,7 +48,7 @@ pub record KeepsRun {n : Numbers} {camera stream : Address} {answer : Status} {o
   pub handed : AllByRecursion (IsRetired live_config (reader_of run).inputs) (handed_items h)
   pub framed : (frames : ℕ → Option Frame) → AreSent frames live_config.p (packets_among (answers_in run.reader_part.made))
       → AllByRecursion (HoldsUnder frames live_config (reader_of run).inputs) (handed_items h)
-  pub causes : HasCauses n.mode live_config camera stream (reader_side o new_client) (reader_side e run.reader_part.client) [] run.reader_part.journal n.turns run.read
+  pub causes : HasCauses n.mode live_config camera stream (reader_side o (new_client SEND_LIMIT)) (reader_side e run.reader_part.client) [] run.reader_part.journal n.turns run.read
       run.reader_part.made run.reader_part.turned run.reader_part.last run.reader_part.on
 
 -- The headline holds with no acquirer: nobody filled a buffer, and whichever actors one asks of, they took none, so

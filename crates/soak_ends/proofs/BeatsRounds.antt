@@ -75,10 +75,10 @@ pace_ticks beats moment s asked p q = go (is_late asked moment) (nat_lt asked.se
 
     go : (late more : Bool)
         → end_of (if late then
-        (if more then goes_on (record t { asked = Some (sent_again asked moment) }) else record { client = record t { asked = None }; outcome = NoAnswer asked.req })
+        (if more then goes_on (record t { asked = Some (sent_again t.limit asked moment) }) else record { client = record t { asked = None }; outcome = NoAnswer asked.req })
         else goes_on t).outcome ≡ None
         → IsPacedClient beats moment (if late then
-        (if more then goes_on (record t { asked = Some (sent_again asked moment) }) else record { client = record t { asked = None }; outcome = NoAnswer asked.req })
+        (if more then goes_on (record t { asked = Some (sent_again t.limit asked moment) }) else record { client = record t { asked = None }; outcome = NoAnswer asked.req })
         else goes_on t).client
     go true true e = (omega arith, omega arith)
     go true false e = absurd (cc)

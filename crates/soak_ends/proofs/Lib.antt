@@ -1,6 +1,7 @@
 pub mod SetupAcks
 pub mod SetupProgress
 pub mod SetupQueues
+pub mod SetupLimit
 pub mod SetupRounds
 pub mod BeatsCounts
 pub mod BeatsRounds

@@ -23,6 +23,7 @@ use Rattle.world_machine.specs.Rounds.{rises, round, world_after}
 use Rattle.world_machine.proofs.Fits.{none_in}
 use Rattle.soak_ends.specs.Setup.{MOST_SETUP, rounds_left, left_at, setup_left, IsPromptOn, IsWithinLimit, IsUnderWay, SetupAt, SetupGoes, SetupStep, GoesOn, SetupEnds}
 use Rattle.soak_ends.proofs.SetupProgress.{Progress, progress_of, sent_stays, IsCarried, round_carries}
+use Rattle.soak_ends.proofs.SetupLimit.{round_limit}
 use Rattle.soak_ends.proofs.SetupQueues.{shown_prompt, round_prompt}
 
 -- ---- what is left
@@ -72,24 +73,24 @@ abbrev IsTicked : Option Asked → ℕ → ℕ → Type 0
 IsTicked None moment left = ⊥
 IsTicked (Some asked) moment left = IsWithinLimit asked moment × (rounds_left (Some asked) moment < left)
 
-ticks : (s : Client) (asked : Asked) (moment : ℕ) → asked.limit ≡ SEND_LIMIT → moment < asked.sent + 50
+ticks : (s : Client) (asked : Asked) (moment : ℕ) → s.limit ≡ SEND_LIMIT → asked.limit ≡ SEND_LIMIT → moment < asked.sent + 50
     → end_of (ticked_with (Some asked) (record s { asked = Some asked }) moment).outcome ≡ None
     → IsTicked (ticked_with (Some asked) (record s { asked = Some asked }) moment).client.asked moment (4 * (3 - asked.sends) + (asked.sent + 59 - moment) / 10)
-ticks s asked moment limit recent = go (is_late asked moment) refl (nat_lt asked.sends SENDS) refl
+ticks s asked moment own limit recent = go (is_late asked moment) refl (nat_lt asked.sends SENDS) refl
   where
     t : Client
     t = record s { asked = Some asked }
 
     go : (late : Bool) → is_late asked moment ≡ late → (more : Bool) → nat_lt asked.sends SENDS ≡ more
         → end_of (if late then
-        (if more then goes_on (record t { asked = Some (sent_again asked moment) }) else record { client = record t { asked = None }; outcome = NoAnswer asked.req })
+        (if more then goes_on (record t { asked = Some (sent_again t.limit asked moment) }) else record { client = record t { asked = None }; outcome = NoAnswer asked.req })
         else goes_on t).outcome ≡ None
         → IsTicked (if late then
-        (if more then goes_on (record t { asked = Some (sent_again asked moment) }) else record { client = record t { asked = None }; outcome = NoAnswer asked.req })
+        (if more then goes_on (record t { asked = Some (sent_again t.limit asked moment) }) else record { client = record t { asked = None }; outcome = NoAnswer asked.req })
         else goes_on t).client.asked moment (4 * (3 - asked.sends) + (asked.sent + 59 - moment) / 10)
     go true l true m e =
         let few : asked.sends < 3 = ltb-true asked.sends SENDS m in
-        (record { limit = refl; recent = omega arith }, omega arith)
+        (record { limit = own; recent = omega arith }, omega arith)
     go true l false m e = absurd (cc)
     go false l more m e =
         let early : moment < asked.sent + asked.limit = leb-false (asked.sent + asked.limit) moment l in
@@ -130,50 +131,50 @@ just_asked s c moment = record {
   bytes = plain (head_for (next_req s.last_req) c) c;
   sends = 1;
   sent = moment;
-  limit = SEND_LIMIT;
+  limit = s.limit;
   waits = true;
 }
 
 -- it was just submitted
-first_goes : (s : Client) (c : PlainCommand) (left begun done moment : ℕ) → begun ≡ done → done < SETUP_SIZE → 13 * (4 - begun) ≤ suc left
+first_goes : (s : Client) (c : PlainCommand) (left begun done moment : ℕ) → s.limit ≡ SEND_LIMIT → begun ≡ done → done < SETUP_SIZE → 13 * (4 - begun) ≤ suc left
     → end_of (ticked (with_command s c moment) moment).outcome ≡ None
     → Goes left (taken (ticked (with_command s c moment) moment).client).asked (begun + 1) done moment
-first_goes s c left begun done moment same d few e =
+first_goes s c left begun done moment own same d few e =
     taken_goes (ticked (with_command s c moment) moment).client.asked (4 * (3 - 1) + (moment + 59 - moment) / 10) left (begun + 1) done moment
-    (ticks (with_command s c moment) (just_asked s c moment) moment refl (omega arith) e) d (omega arith) (omega arith)
+    (ticks (with_command s c moment) (just_asked s c moment) moment own own (omega arith) e) d (omega arith) (omega arith)
 
 -- from the world of the round before, at its moment, to that after the tick
 client_goes : {A : Type 0} (w : World A) (before : ℕ) (asked : Option Asked) (next : Option PlainCommand)
-    → slice_get (setup_commands stream_peer) w.begun ≡ next → w.moment ≡ before + 10 → SetupAt asked w.begun w.done before
+    → w.client.limit ≡ SEND_LIMIT → slice_get (setup_commands stream_peer) w.begun ≡ next → w.moment ≡ before + 10 → SetupAt asked w.begun w.done before
     → end_of (ticked (submits asked next (with_asked w asked)).client w.moment).outcome ≡ None
     → GoesIn (left_at asked w.begun w.done before - 1)
     (progress_of (record (submits asked next (with_asked w asked)) { client = taken (ticked (submits asked next (with_asked w asked)).client w.moment).client }))
-client_goes w before None None is time (inl all) e = all_done _ _ _ _ _ all.0 all.1
-client_goes w before None None is time (inr way) e =
+client_goes w before None None own is time (inl all) e = all_done _ _ _ _ _ all.0 all.1
+client_goes w before None None own is time (inr way) e =
     let same : w.begun ≡ w.done = way.1 in
     let few : w.done < 4 = way.0 in
     absurd (next_is_there w.begun (omega arith) is)
-client_goes w before None (Some c) is time (inl all) e =
+client_goes w before None (Some c) own is time (inl all) e =
     let below : w.begun < 4 = next_below w.begun c is in
     absurd (omega (arith, all.0))
-client_goes w before None (Some c) is time (inr way) e =
+client_goes w before None (Some c) own is time (inr way) e =
     let same : w.begun ≡ w.done = way.1 in
     let left = left_going None w.begun w.done before way.0 in
-    first_goes (record w.client { asked = None }) c (left_at None w.begun w.done before - 1) w.begun w.done w.moment (omega arith) way.0 (omega arith) e
-client_goes w before (Some asked) next is time (inl all) e = all_done _ _ _ _ _ all.0 all.1
-client_goes w before (Some asked) next is time (inr way) e =
+    first_goes (record w.client { asked = None }) c (left_at None w.begun w.done before - 1) w.begun w.done w.moment own (omega arith) way.0 (omega arith) e
+client_goes w before (Some asked) next own is time (inl all) e = all_done _ _ _ _ _ all.0 all.1
+client_goes w before (Some asked) next own is time (inr way) e =
     let recent : before < asked.sent + 40 = way.1.1.recent in
     taken_goes (ticked (record w.client { asked = Some asked }) w.moment).client.asked (4 * (3 - asked.sends) + (asked.sent + 59 - w.moment) / 10)
     (left_at (Some asked) w.begun w.done before - 1) w.begun w.done w.moment
-    (ticks w.client asked w.moment way.1.1.limit (omega arith) e) way.0 way.1.0
+    (ticks w.client asked w.moment own way.1.1.limit (omega arith) e) way.0 way.1.0
     (omega (arith, left_going (Some asked) w.begun w.done before way.0))
 
-goes_after_client : {A : Type 0} (run : Run) (w : World A) → SetupAt w.client.asked w.begun w.done w.moment → (client_turn run (rises w)).end ≡ None
+goes_after_client : {A : Type 0} (run : Run) (w : World A) → w.client.limit ≡ SEND_LIMIT → SetupAt w.client.asked w.begun w.done w.moment → (client_turn run (rises w)).end ≡ None
     → GoesIn (setup_left w - 1) (progress_of (client_turn run (rises w)).world)
-goes_after_client run w at e =
+goes_after_client run w own at e =
     let t = (ticked (begins (rises w)).client (rises w).moment).client in
     subst (GoesIn (setup_left w - 1)) (sym (sent_stays run (record (begins (rises w)) { client = taken t }) (to_send t.asked)))
-    (client_goes (rises w) w.moment w.client.asked (slice_get (setup_commands stream_peer) w.begun) refl refl at e)
+    (client_goes (rises w) w.moment w.client.asked (slice_get (setup_commands stream_peer) w.begun) own refl refl at e)
 
 -- ---- what arrives
 
@@ -236,7 +237,7 @@ goes_is_carried {A} left host v d prompt e g = go d.channel d.bytes prompt e
 
 pub setup_step : {A : Type 0} (run : Run) (host : Host A) (w : World A) → SetupGoes w → (round run host w).end ≡ None → SetupStep run host w
 setup_step {A} run host w h e = record {
-  goes = record { stands = g.stands; prompt = round_prompt run host w h.prompt };
+  goes = record { stands = g.stands; prompt = round_prompt run host w h.prompt; limit = round_limit run host w h.limit e };
   falls = λ n.
       let some = some_left w.client.asked w.begun w.done w.moment h.stands n in
       let few = g.few in
@@ -249,7 +250,7 @@ setup_step {A} run host w h e = record {
     v = (round run host w).world
 
     g : GoesIn (setup_left w - 1) (progress_of v)
-    g = round_carries (GoesIn (setup_left w - 1)) IsPromptDatagram run host (goes_is_carried (setup_left w - 1) host) w (goes_after_client run w h.stands)
+    g = round_carries (GoesIn (setup_left w - 1)) IsPromptDatagram run host (goes_is_carried (setup_left w - 1) host) w (goes_after_client run w h.limit h.stands)
         (shown_prompt run w h.prompt).arriving e
 
     none : w.done ≡ SETUP_SIZE → setup_left v ≡ 0
@@ -259,7 +260,7 @@ setup_step {A} run host w h e = record {
 
 pub setup_begins : {A : Type 0} (run : Run) (start : A) → SetupGoes (new_world run start)
 setup_begins run start =
-    record { stands = inr (omega arith, refl); prompt = record { kept = tt; arriving = λ d among. absurd (none_in d among) } }
+    record { stands = inr (omega arith, refl); prompt = record { kept = tt; arriving = λ d among. absurd (none_in d among) }; limit = refl }
 
 -- What holds after n rounds.
 pub record IsSettingUp {A : Type 0} (w : World A) (n : ℕ) : Type 0 where

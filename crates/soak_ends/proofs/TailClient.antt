@@ -54,7 +54,7 @@ ticked_quiet s moment (Some asked) h = go (is_late asked moment) (nat_lt asked.s
     t = record s { asked = Some asked }
 
     go : (late more : Bool) → SetsUp (if late then
-        (if more then goes_on (record t { asked = Some (sent_again asked moment) }) else record { client = record t { asked = None }; outcome = NoAnswer asked.req })
+        (if more then goes_on (record t { asked = Some (sent_again t.limit asked moment) }) else record { client = record t { asked = None }; outcome = NoAnswer asked.req })
         else goes_on t).client.asked
     go true true = h
     go true false = tt

@@ -84,6 +84,8 @@ SetupAt asked begun done moment =
 pub record SetupGoes {A : Type 0} (w : World A) : Type 0 where
   pub stands : SetupAt w.client.asked w.begun w.done w.moment
   pub prompt : IsPromptWorld w
+  -- each send has this limit
+  pub limit : w.client.limit ≡ SEND_LIMIT
 
 -- ---- it ends
 

@@ -3,6 +3,7 @@ use Rattle.std.specs.Prelude.{ℕ, Bool, false, List, []}
 use Rattle.gev_types.specs.declared.frame.Shape.{Shape}
 use Rattle.lossy_queue.specs.declared.datagram.Datagram.{Datagram}
 use Rattle.lossy_queue.specs.declared.rates.Rates.{Rates}
+use Rattle.client_machine.specs.Times.{SEND_LIMIT}
 use Rattle.client_machine.specs.Machine.{Client, new_client}
 use Rattle.camera_machine.specs.Camera.{Camera, new_camera}
 use Rattle.camera_machine.specs.Events.{step, set_short}
@@ -82,7 +83,7 @@ new_world run host = record {
   to_camera = [];
   to_host = [];
   camera = first_camera run;
-  client = new_client;
+  client = new_client SEND_LIMIT;
   host = host;
   begun = 0;
   done = 0;

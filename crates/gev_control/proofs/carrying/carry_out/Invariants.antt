@@ -1,14 +1,14 @@
-use Rattle.std.proofs.Common.{◌≡◌, ◌≤◌, List}
-use Rattle.client_machine.specs.Setup.{SETUP_SIZE as COMMANDS}
-use Rattle.gev_control.specs.SetupTurns.{SetupTurned}
-use Rattle.gev_control.specs.SetsUp.{SetsUpSo}
-use Rattle.gev_control.proofs.setting_up.setup.Given as goal
+use Rattle.std.proofs.Common.{◌≡◌, ◌≤◌, List, length}
+use Rattle.gev_control.specs.Orders.{commands_of}
+use Rattle.gev_control.specs.OrderTurns.{OrderTurned}
+use Rattle.gev_control.specs.CarriesOut.{CarriesOn}
+use Rattle.gev_control.proofs.carrying.carry_out.Given as goal
 
 abbrev pub invariant-turns : goal.invariant-turns
 invariant-turns g l = record {
-  made : List SetupTurned;
+  made : List OrderTurned;
   so :
-      SetsUpSo l.camera l.stream
+      CarriesOn l.camera (commands_of l.orders)
       (record {
         heard = g.L.Link.received l.fn.control;
         sent = g.L.Link.sent l.fn.control;
@@ -17,6 +17,6 @@ invariant-turns g l = record {
       })
       (record { heard = g.L.Link.received l.control; sent = g.L.Link.sent l.control; told = g.C.Clock.told l.clock; client = l.client })
       l.begun made;
-  few : l.begun ≤ COMMANDS;
+  few : l.begun ≤ length l.orders;
   faults : g.L.Link.faults l.control ≡ g.L.Link.faults l.fn.control;
 }
