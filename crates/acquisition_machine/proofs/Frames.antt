@@ -7,7 +7,7 @@ use Rattle.gev_types.specs.declared.frame.Frame.{Frame}
 use Rattle.stream_packets.specs.Packets.{StreamPacket}
 use Rattle.stream_packets.specs.Sent.{IsSent}
 use Rattle.block_image.specs.OneBlock.{AreSent}
-use Rattle.block_image.proofs.OneBlockLemmas.{complete_is_frame, bytes_are_in_place, all_packets_complete}
+use Rattle.block_image.proofs.OneBlockLemmas.{complete_is_frame, records_tell_their_frame, bytes_are_in_place, all_packets_complete}
 use Rattle.acquisition_machine.specs.declared.config.AcqConfig.{AcqConfig}
 use Rattle.acquisition_machine.specs.Blocks.{Given, Open, Retirement, ranges_asked, after_asking}
 use Rattle.acquisition_machine.specs.Machine.{Input, State, step}
@@ -51,6 +51,7 @@ holds_given frames p o None s = tt
 holds_given frames p o (Some g) s = record {
   complete = complete_is_frame frames p o.block g.size o.heard s;
   in_place = bytes_are_in_place frames p o.block g.size o.heard s;
+  tells = λ frame info is tells. records_tell_their_frame frames p o.block g.size o.heard frame info s is tells;
   whole = λ frame is fits all. all_packets_complete frames p o.block g.size o.heard frame s is fits all;
 }
 

@@ -2,8 +2,10 @@
 use Rattle.std.specs.Prelude.{◌≡◌, ⊤, ℕ, ◌≤◌, ◌==◌, true, List, [], ◌∷◌, ◌++◌, length, Option, Some, None, if◌then◌else◌}
 use Rattle.std.specs.List.{AllByRecursion}
 use Rattle.gev_types.specs.declared.frame.Frame.{Frame}
+use Rattle.gev_types.specs.declared.image_info.ImageInfo.{ImageInfo}
 use Rattle.stream_packets.specs.Packets.{StreamPacket, head_of}
 use Rattle.block_image.specs.AllPackets.{HasAllPackets}
+use Rattle.block_image.specs.Infos.{IsInfoOf}
 use Rattle.block_image.specs.Image.{image}
 use Rattle.block_image.specs.OneBlock.{AreSent, HoldsFrame, HasBytesInPlace}
 use Rattle.acquisition_machine.specs.declared.config.AcqConfig.{AcqConfig}
@@ -58,11 +60,13 @@ FillsAreImages =
 -- ---- frames that were sent
 
 -- What the buffer holds of its block's frame: the frame itself where it is marked complete; in every case
--- each received byte in place, and 0 elsewhere; and where the buffer is large enough and all packets came, it
--- is marked complete.
+-- each received byte in place, and 0 elsewhere; where it tells an image, that frame's; and where the buffer is
+-- large enough and all packets came, it is marked complete.
 pub record HoldsOfFrame (frames : ℕ → Option Frame) (p : ℕ) (o : Open) (g : Given) : Type 0 where
   pub complete : (filling_in p o g).rec.complete ≡ true → HoldsFrame frames o.block (filling_in p o g)
   pub in_place : HasBytesInPlace frames p o.block g.size (kept_in p o) (filling_in p o g).bytes
+  pub tells : (frame : Frame) (info : ImageInfo) → frames o.block ≡ Some frame
+      → (filling_in p o g).rec.image ≡ Some info → IsInfoOf frame info
   pub whole : (frame : Frame) → frames o.block ≡ Some frame → length frame.pixels ≤ g.size
       → HasAllPackets frame p o.heard → (filling_in p o g).rec.complete ≡ true
 

@@ -1,5 +1,6 @@
 -- Lists of inputs, written out with all that the machine makes of them.
-use Rattle.std.specs.Prelude.{◌≡◌, ℕ, ◌*◌, true, false, Bool, List, [], ◌∷◌, map, replicate, Some, None}
+use Rattle.std.specs.Prelude.{◌≡◌, ℕ, ◌*◌, true, false, Bool, List, [], ◌∷◌, map, replicate, Option, Some, None, is_some}
+use Rattle.gev_types.specs.declared.image_info.ImageInfo.{ImageInfo}
 use Rattle.stream_packets.specs.declared.fields.Head.{Head}
 use Rattle.stream_packets.specs.declared.fields.LeaderInfo.{LeaderInfo}
 use Rattle.stream_packets.specs.Packets.{leader, payload, trailer, notice}
@@ -79,18 +80,32 @@ finds_none = claimed None
 abbrev pub abc : List ℕ
 abc = 97 ∷ 98 ∷ 99 ∷ []
 
-abbrev pub comes_back : ℕ → List ℕ → ℕ → Bool → Bool → Bool → ℕ → ℕ → Retired
-comes_back place bytes b whole larger led len placed = record {
+-- what that leader tells of the image, of as many lines
+abbrev pub seen : ℕ → ℕ → Option ImageInfo
+seen x y = Some record {
+  timestamp = 0;
+  pixel = 0x0108_0001;
+  size_x = x;
+  size_y = y;
+  rows = y;
+  offset_x = 0;
+  offset_y = 0;
+  padding_x = 0;
+  padding_y = 0;
+}
+
+abbrev pub comes_back : ℕ → List ℕ → ℕ → Bool → Bool → Option ImageInfo → ℕ → ℕ → Retired
+comes_back place bytes b whole larger image len placed = record {
   place = place;
   buf = record {
     bytes = bytes;
-    rec = record { block = b; complete = whole; larger = larger; has_leader = led; data_len = len; filled = placed };
+    rec = record { block = b; complete = whole; larger = larger; has_leader = is_some image; data_len = len; filled = placed; image = image };
   };
 }
 
 -- the three bytes of block b, whole, in the buffer of this place
 abbrev pub whole_abc : ℕ → ℕ → Retired
-whole_abc place b = comes_back place abc b true false true 3 3
+whole_abc place b = comes_back place abc b true false (seen 3 1) 3 3
 
 -- The command number n that asks for the packets from first to last of block 1.
 abbrev pub asks_for : ℕ → ℕ → ℕ → List ℕ
@@ -166,7 +181,7 @@ one_byte = record {
   config = config 528 1 2;
   inputs = leads 1 1 1 ∷ finds 0 1 ∷ leads 1 1 1 ∷ carries 1 1 (97 ∷ []) ∷ trails 1 2 1 ∷ [];
   answers = Buffer 1 ∷ Done ∷ Done ∷ Done ∷ [];
-  filled = comes_back 0 (97 ∷ []) 1 true false true 1 1 ∷ [];
+  filled = comes_back 0 (97 ∷ []) 1 true false (seen 1 1) 1 1 ∷ [];
   commands = [];
   counts = no_counts;
 }
@@ -179,7 +194,7 @@ with_rest = record {
       leads 1 5 2 ∷ finds 0 12 ∷ leads 1 5 2 ∷ carries 1 1 (1 ∷ 2 ∷ 3 ∷ 4 ∷ []) ∷ carries 1 2 (5 ∷ 6 ∷ 7 ∷ 8 ∷ [])
       ∷ carries 1 3 (9 ∷ 10 ∷ []) ∷ trails 1 4 2 ∷ [];
   answers = Buffer 1 ∷ Done ∷ Done ∷ Done ∷ Done ∷ Done ∷ [];
-  filled = comes_back 0 (1 ∷ 2 ∷ 3 ∷ 4 ∷ 5 ∷ 6 ∷ 7 ∷ 8 ∷ 9 ∷ 10 ∷ 0 ∷ 0 ∷ []) 1 true false true 10 10 ∷ [];
+  filled = comes_back 0 (1 ∷ 2 ∷ 3 ∷ 4 ∷ 5 ∷ 6 ∷ 7 ∷ 8 ∷ 9 ∷ 10 ∷ 0 ∷ 0 ∷ []) 1 true false (seen 5 2) 10 10 ∷ [];
   commands = [];
   counts = no_counts;
 }
@@ -192,7 +207,7 @@ without_rest = record {
       leads 1 4 2 ∷ finds 0 8 ∷ leads 1 4 2 ∷ carries 1 1 (1 ∷ 2 ∷ 3 ∷ 4 ∷ []) ∷ carries 1 2 (5 ∷ 6 ∷ 7 ∷ 8 ∷ [])
       ∷ trails 1 3 2 ∷ [];
   answers = Buffer 1 ∷ Done ∷ Done ∷ Done ∷ Done ∷ [];
-  filled = comes_back 0 (1 ∷ 2 ∷ 3 ∷ 4 ∷ 5 ∷ 6 ∷ 7 ∷ 8 ∷ []) 1 true false true 8 8 ∷ [];
+  filled = comes_back 0 (1 ∷ 2 ∷ 3 ∷ 4 ∷ 5 ∷ 6 ∷ 7 ∷ 8 ∷ []) 1 true false (seen 4 2) 8 8 ∷ [];
   commands = [];
   counts = no_counts;
 }
@@ -205,7 +220,7 @@ small_buffer = record {
   inputs =
       datagram abc_leader ∷ finds 0 2 ∷ datagram abc_leader ∷ datagram abc_payload ∷ datagram abc_trailer ∷ tick 1000 ∷ [];
   answers = Buffer 1 ∷ Done ∷ Done ∷ Done ∷ [];
-  filled = comes_back 0 (97 ∷ 98 ∷ []) 1 false true true 2 2 ∷ [];
+  filled = comes_back 0 (97 ∷ 98 ∷ []) 1 false true (seen 3 1) 2 2 ∷ [];
   commands = [];
   counts = no_counts;
 }
@@ -215,7 +230,7 @@ large_buffer = record {
   config = config 528 1 2;
   inputs = datagram abc_leader ∷ finds 0 4 ∷ datagram abc_leader ∷ datagram abc_payload ∷ datagram abc_trailer ∷ [];
   answers = Buffer 1 ∷ Done ∷ Done ∷ Done ∷ [];
-  filled = comes_back 0 (97 ∷ 98 ∷ 99 ∷ 0 ∷ []) 1 true false true 3 3 ∷ [];
+  filled = comes_back 0 (97 ∷ 98 ∷ 99 ∷ 0 ∷ []) 1 true false (seen 3 1) 3 3 ∷ [];
   commands = [];
   counts = no_counts;
 }
@@ -246,8 +261,8 @@ displaces = record {
       ∷ carries 6 1 abc ∷ finds 2 3 ∷ carries 6 1 abc ∷ carries 5 1 abc ∷ stop ∷ [];
   answers = Buffer 5 ∷ Done ∷ Buffer 7 ∷ Done ∷ Buffer 6 ∷ Done ∷ Ignored (Late (Some 6)) ∷ [];
   filled =
-      comes_back 0 abc 5 false false false 3 3 ∷ comes_back 2 abc 6 false false false 3 3
-      ∷ comes_back 1 abc 7 false false false 3 3 ∷ [];
+      comes_back 0 abc 5 false false None 3 3 ∷ comes_back 2 abc 6 false false None 3 3
+      ∷ comes_back 1 abc 7 false false None 3 3 ∷ [];
   commands = [];
   counts = record no_counts { late = 1 };
 }
@@ -274,7 +289,7 @@ restarts = record {
   config = config 528 1 2;
   inputs = leads 9 3 1 ∷ finds 0 3 ∷ leads 9 3 1 ∷ stop ∷ leads 9 3 1 ∷ restart ∷ leads 1 3 1 ∷ [];
   answers = Buffer 9 ∷ Done ∷ Ignored (Late (Some 10)) ∷ Buffer 1 ∷ [];
-  filled = comes_back 0 (0 ∷ 0 ∷ 0 ∷ []) 9 false false true 3 0 ∷ [];
+  filled = comes_back 0 (0 ∷ 0 ∷ 0 ∷ []) 9 false false (seen 3 1) 3 0 ∷ [];
   commands = [];
   counts = record no_counts { late = 1 };
 }

@@ -2,12 +2,14 @@
 
 ghost use Rattle.std.specs.Prelude.{◌≡◌, ◌≤◌, List};
 ghost use Rattle.stream_packets.specs.Packets.{StreamPacket};
-ghost use Rattle.block_image.specs.Image.{is_larger, image_len, extent_in, record_of};
+ghost use Rattle.block_image.specs.Infos.{info_of};
+ghost use Rattle.block_image.specs.Image.{is_larger, image_len, leader_in, lines_in, extent_in, record_of};
 ghost use Rattle.block_assembly.specs.Assembly.{IsAssembly, IsSound};
 
-use crate::completing::{completes, extent};
+use crate::completing::{completes, extent, lines_of};
 use crate::progress::Progress;
-use gev_types::Record;
+use block_image::info_of;
+use gev_types::{ImageInfo, Record};
 
 /// Whether the block has more bytes than the buffer.
 fn is_larger(assembly: &Progress) -> bool
@@ -34,6 +36,14 @@ fn image_len(assembly: &Progress) -> u32
     }
 }
 
+/// What is known of the image, by the leader and the trailer that were kept.
+fn info(assembly: &Progress) -> Option<ImageInfo>
+    ensures { (ks : List StreamPacket) → IsAssembly assembly.now ks
+        → result ≡ info_of (leader_in ks) (lines_in ks) }
+{
+    info_of(assembly.leader, lines_of(assembly.trailer))
+}
+
 /// What is known of the block.
 pub(crate) fn record(assembly: &Progress) -> Record
     requires { IsSound assembly.now }
@@ -49,5 +59,6 @@ pub(crate) fn record(assembly: &Progress) -> Record
         has_leader: assembly.leader.is_some(),
         data_len: image_len(assembly),
         filled: assembly.placed,
+        image: info(assembly),
     }
 }

@@ -74,7 +74,7 @@ impl Bench {
             ["bitmap", ids, clear, calls @ ..] => bitmaps::answer(alloc, ids, clear, calls, out),
             ["requests", top, kept, refused] => bitmaps::requests(alloc, top, kept, refused, out),
             ["samples", _, code] => pictures::samples(code, out),
-            ["look", leader, lines] => pictures::look(&self.datagrams, leader, lines, out),
+            ["info", leader, lines] => images::info(&self.datagrams, leader, lines, out),
             ["image", block, size, names @ ..] => {
                 images::image(alloc, &self.datagrams, block, size, names, out)
             }

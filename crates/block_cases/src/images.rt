@@ -1,6 +1,7 @@
-//! What some packets of a stream with payloads of 528 bytes give of a block: which are kept, and the image.
+//! What some packets of a stream with payloads of 528 bytes give of a block: which are kept, the image, and what is known
+//! of it.
 //!
-//! `kept BLOCK DATAGRAM..` and `image BLOCK SIZE DATAGRAM..`.
+//! `kept BLOCK DATAGRAM..`, `image BLOCK SIZE DATAGRAM..` and `info LEADER LINES`.
 
 ghost use Rattle.std.specs.Prelude.{◌≡◌, true};
 ghost use Rattle.gvsp_wire.specs.View.{view, views};
@@ -8,7 +9,7 @@ ghost use Rattle.block_image.specs.KeptFacts.{TellsSize, DoLeadersTellSizes};
 
 use crate::bench::Datagrams;
 use crate::print::{add_bytes, number};
-use block_image::{block_image, kept_packets, tells_its_size};
+use block_image::{block_image, info_of, kept_packets, tells_its_size};
 use gev_types::MAX_BUFFER_SIZE;
 use gvsp_wire::Packet;
 use std::alloc::Global;
@@ -81,4 +82,13 @@ pub fn kept(
         write!(out, " {}", packet.head().id).ok()?;
     }
     Some(())
+}
+
+/// What is known of an image, by a leader and a trailer's lines, or without one of them.
+pub fn info(datagrams: &Datagrams, leader: &str, lines: &str, out: &mut String) -> Option<()> {
+    let leader = match datagrams.packet(leader) {
+        Some(packet) => packet.leader_info(),
+        None => None,
+    };
+    write!(out, " {:?}", info_of(leader, number(lines))).ok()
 }

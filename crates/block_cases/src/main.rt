@@ -7,8 +7,8 @@
 mod bench; // what the rows before have left, and which row is which
 mod bitmaps; // sets of packet ids, and the ranges that are asked for
 mod blocks; // one block, packet by packet
-mod images; // the image of some packets
-mod pictures; // how pictures are drawn
+mod images; // the image of some packets, and what is known of it
+mod pictures; // how pixels are drawn
 mod print; // numbers and bytes as text
 mod streams; // a stream, input by input
 

@@ -87,7 +87,7 @@ has_trailer-at k (payload h d ∷ xs) has = has_trailer-at k xs has
 has_trailer-at k (trailer h y ∷ xs) has = refl
 has_trailer-at k (notice h ∷ xs) has = has_trailer-at k xs has
 
-lines_in-of_frame : (f : Frame) (p : ℕ) (ks : List StreamPacket) → AreOfFrame f p ks → has_trailer ks ≡ true → lines_in ks ≡ Some f.rows
+pub lines_in-of_frame : (f : Frame) (p : ℕ) (ks : List StreamPacket) → AreOfFrame f p ks → has_trailer ks ≡ true → lines_in ks ≡ Some f.rows
 lines_in-of_frame f p [] all has = cc
 lines_in-of_frame f p (leader h i ∷ xs) all has = lines_in-of_frame f p xs all.1 has
 lines_in-of_frame f p (payload h d ∷ xs) all has = lines_in-of_frame f p xs all.1 has

@@ -12,6 +12,7 @@ pub mod KeptLawLemmas
 pub mod FramePieces
 pub mod FrameKept
 pub mod FewerLines
+pub mod Infos
 pub mod OneBlockLemmas
 pub mod AllPacketsLemmas
 pub mod PlainSteps

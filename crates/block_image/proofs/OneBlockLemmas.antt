@@ -17,6 +17,7 @@ use Rattle.block_image.specs.Image.{covers, byte_from, placed, image_bytes, lead
 use Rattle.block_image.specs.KeptFacts.{may_keep, HasDistinctIds, IsKept, IsNumbered, ArePayloadsNumbered}
 use Rattle.block_image.specs.AllPackets.{AreAlike, HasCome, HasAllPackets}
 use Rattle.block_image.specs.OneBlock.{AreSent, HoldsFrame, IsPieceOfFrame, CompleteIsFrame, BytesAreInPlace, AllPacketsComplete}
+use Rattle.block_image.specs.InfoLaws.{RecordsTellTheirFrame}
 use Rattle.block_image.proofs.Bools.{first_some, first_some_if}
 use Rattle.block_image.proofs.Covering.{Covers, covers_parts, covers_from, same_id}
 use Rattle.block_image.proofs.IsKept.{may_keep_from, may_keep-payload, IsKept-kept, kept-all}
@@ -25,6 +26,7 @@ use Rattle.block_image.proofs.Members.{Has, all-has, all_with, member_from_some,
 use Rattle.block_image.proofs.KeptLawLemmas.{IsAnswered, IsAnswered-has}
 use Rattle.block_image.proofs.FramePieces.{payload_at, start_at, start_within, length-payload_bytes, get_or-payload_bytes, count_fits}
 use Rattle.block_image.proofs.FewerLines.{has_trailer-at, extent_in-of_frame}
+use Rattle.block_image.proofs.Infos.{info-of_ends, info_of_frame}
 use Rattle.block_image.proofs.FrameKept.{AreOfFrame, some_same, frame_of_block, of_frame_from_sent, member-has_id, leader_in-by_id, has_trailer_at-by_kind, has_trailer-by_id, has_payload-by_id, has_payloads-from_each, has_payloads-each, payload_at_id}
 
 -- what is placed
@@ -228,11 +230,18 @@ holds_frame frames p b size xs s c =
       data_len = data_len;
       pixels = ap (λ n. take n (image_bytes p ks size)) data_len
           ∙ frame_bytes f p b size ks some is (kept_numbered frames p b xs s) of_frame all goes_in;
+      image = info-of_ends f p ks (s.are_frames.valid b f of_block) of_frame first c.ended;
     }
 
 pub complete_is_frame : CompleteIsFrame
 complete_is_frame frames p b size xs s complete =
     holds_frame frames p b size xs s (complete_parts p size (kept p b xs) (extent_in (kept p b xs)) refl complete)
+
+-- the image that a record tells is the frame's
+
+pub records_tell_their_frame : RecordsTellTheirFrame
+records_tell_their_frame frames p b size xs f info s is tells =
+    info_of_frame f p (kept p b xs) info (kept_of_frame frames p b f xs s is) tells
 
 -- all packets make it complete
 

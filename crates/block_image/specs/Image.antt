@@ -6,6 +6,7 @@ use Rattle.stream_packets.specs.declared.fields.LeaderInfo.{LeaderInfo}
 use Rattle.stream_packets.specs.Packets.{StreamPacket, leader, payload, trailer, notice, head_of, is_trailer}
 use Rattle.stream_packets.specs.FramePackets.{payload_count, payload_start}
 use Rattle.block_image.specs.Extent.{extent_of}
+use Rattle.block_image.specs.Infos.{info_of}
 use Rattle.block_image.specs.Kept.{kept}
 
 -- Position j is one of the len bytes from position start on.
@@ -120,6 +121,7 @@ record_of p b size ks = record {
   has_leader = is_some (leader_in ks);
   data_len = image_len p size ks (extent_in ks);
   filled = placed_count p ks size;
+  image = info_of (leader_in ks) (lines_in ks);
 }
 
 -- what the kept packets of block b give in a buffer of this size

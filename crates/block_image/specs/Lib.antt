@@ -1,5 +1,6 @@
 pub mod Sizes
 pub mod Extent
+pub mod Infos
 pub mod Kept
 pub mod Image
 pub mod KeptFacts
@@ -7,3 +8,4 @@ pub mod Counting
 pub mod KeptLaws
 pub mod AllPackets
 pub mod OneBlock
+pub mod InfoLaws

@@ -8,6 +8,7 @@ use Rattle.stream_packets.specs.Packets.{StreamPacket, payload}
 use Rattle.stream_packets.specs.FramePackets.{payload_start}
 use Rattle.stream_packets.specs.Sent.{AreFrames, IsSent}
 use Rattle.block_image.specs.Sizes.{IsPayloadSize}
+use Rattle.block_image.specs.Infos.{frame_info}
 use Rattle.block_image.specs.Kept.{kept}
 use Rattle.block_image.specs.Image.{covers, image}
 use Rattle.block_image.specs.AllPackets.{HasAllPackets}
@@ -18,12 +19,14 @@ pub record AreSent (frames : ℕ → Option Frame) (p : ℕ) (xs : List StreamPa
   pub payload_size : IsPayloadSize p
   pub sent : All (IsSent frames p) xs
 
--- the first bytes of the filling, as many as its record says, are the frame of block b
+-- The first bytes of the filling, as many as its record says, are the frame of block b, and the image that it
+-- tells is the frame's.
 pub record HoldsFrame (frames : ℕ → Option Frame) (b : ℕ) (filling : Filling) : Type 0 where
   pub frame : Frame
   pub of_block : frames b ≡ Some frame
   pub data_len : filling.rec.data_len ≡ length frame.pixels
   pub pixels : take filling.rec.data_len filling.bytes ≡ frame.pixels
+  pub image : filling.rec.image ≡ Some (frame_info frame frame.rows)
 
 -- the bytes of a payload are those of block b's frame at its place
 pub record IsPieceOfFrame (frames : ℕ → Option Frame) (p b : ℕ) (h : Head) (d : List ℕ) : Type 0 where

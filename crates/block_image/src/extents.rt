@@ -1,10 +1,11 @@
-//! How long an image is, by its leader and its trailer.
+//! How long an image is, and what is known of it, by its leader and its trailer.
 
 ghost use Rattle.std.specs.Prelude.{◌≡◌, ◌≤◌, ◌↔◌, ◌&&◌, nat_le, IsTrue, IfSome};
 ghost use Rattle.gev_types.specs.Limits.{max_buffer_size};
 ghost use Rattle.block_image.specs.Extent.{size_with, extent, extent_of, TellsItsSize, TellsSizeIfLeader};
+ghost use Rattle.block_image.specs.Infos.{rows_of, info_of};
 
-use gev_types::frame_size;
+use gev_types::{ImageInfo, frame_size};
 use stream_packets::LeaderInfo;
 
 /// Whether the leader tells the size of an image of all its lines, as each parsed one does.
@@ -73,4 +74,34 @@ pub fn extent_of(leader: Option<LeaderInfo>, lines: Option<u32>) -> Option<u32>
         Some(info) => Some(extent(info, lines)),
         None => None,
     }
+}
+
+/// How many lines the image has: those that the trailer tells, or as many as the leader announces where the
+/// trailer wasn't kept, or tells none or more.
+fn rows_of(info: LeaderInfo, lines: Option<u32>) -> u32
+    ensures { result ≡ rows_of info lines }
+{
+    match lines {
+        Some(lines) if are_lines(lines, info.size_y) => lines,
+        _ => info.size_y,
+    }
+}
+
+/// What is known of the image, where a leader was kept, by it and by the lines that its trailer tells, if
+/// that was kept.
+pub fn info_of(leader: Option<LeaderInfo>, lines: Option<u32>) -> Option<ImageInfo>
+    ensures { result ≡ info_of leader lines }
+{
+    let info = leader?;
+    Some(ImageInfo {
+        timestamp: info.timestamp,
+        pixel: info.pixel,
+        size_x: info.size_x,
+        size_y: info.size_y,
+        rows: rows_of(info, lines),
+        offset_x: info.offset_x,
+        offset_y: info.offset_y,
+        padding_x: info.padding_x,
+        padding_y: info.padding_y,
+    })
 }

@@ -1,6 +1,7 @@
 //! Laws over the definitions, each the contract of a function with nothing to do.
 
 ghost use Rattle.block_image.specs.AllPackets.{AllPacketsAgree, PacketsAgree};
+ghost use Rattle.block_image.specs.InfoLaws.{LeadersTellImages, RecordsTellTheirFrame, RecordsTellTheirLength};
 ghost use Rattle.block_image.specs.KeptLaws.{KeepsInOrder, KeepsNoIdTwice, KeepsOneTrailer, KeepsTheFirst, KeepsWhatFits, IgnoresLeaderInfo, MissesNothing};
 ghost use Rattle.block_image.specs.OneBlock.{AllPacketsComplete, BytesAreInPlace, CompleteIsFrame};
 
@@ -64,4 +65,20 @@ pub fn bytes_are_in_place()
 /// A block whose packets all came, and whose buffer is large enough, is complete.
 pub fn all_packets_complete()
     ensures { AllPacketsComplete }
+{}
+
+/// A record's length is that of the image that it tells.
+pub fn records_tell_their_length()
+    ensures { RecordsTellTheirLength }
+{}
+
+/// The image that a record tells, complete or not, is that of its own block's frame, whichever sent packets
+/// came: its timestamp, pixel format, sizes, offsets and paddings.
+pub fn records_tell_their_frame()
+    ensures { RecordsTellTheirFrame }
+{}
+
+/// A record tells an image just where it says that a leader was kept.
+pub fn leaders_tell_images()
+    ensures { LeadersTellImages }
 {}

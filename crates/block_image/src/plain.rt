@@ -9,7 +9,7 @@ ghost use Rattle.block_image.specs.Kept.{kept};
 ghost use Rattle.block_image.specs.KeptFacts.{DoLeadersTellSizes};
 ghost use Rattle.block_image.specs.Image.{byte_from, placed, image_bytes, placed_count, placed_end, leader_in, record_of, filling_of, image};
 
-use crate::extents::extent_of;
+use crate::extents::{extent_of, info_of};
 use crate::keeping::kept_packets;
 use crate::looking::{first_leader, first_lines};
 use crate::records::{completes, outgrows, start_of_payload};
@@ -83,7 +83,8 @@ fn record_with(p: u32, block: u64, size: u32, kept: &[Packet<'_>], placed: Place
     ensures { result ≡ record_of p block size (views kept.now) }
 {
     let leader = first_leader(kept);
-    let extent = extent_of(leader, first_lines(kept));
+    let lines = first_lines(kept);
+    let extent = extent_of(leader, lines);
     Record {
         block,
         complete: completes(p, size, kept, extent),
@@ -91,6 +92,7 @@ fn record_with(p: u32, block: u64, size: u32, kept: &[Packet<'_>], placed: Place
         has_leader: leader.is_some(),
         data_len: extent.map_or(placed.end, |len| len.min(size)),
         filled: placed.count,
+        image: info_of(leader, lines),
     }
 }
 

@@ -1,6 +1,8 @@
+use crate::image_info::ImageInfo;
+
 /// What is known of the block that a buffer holds.
 ///
-/// The empty record, `Record::default()`, has block 0, every flag false and every number 0.
+/// The empty record, `Record::default()`, has block 0, every flag false, every number 0 and no image.
 #[derive(Clone, Copy, Debug, Default, PartialEq, Eq)]
 pub struct Record {
     /// The block id; 0 only in an empty record.
@@ -15,4 +17,6 @@ pub struct Record {
     pub data_len: u32,
     /// How many bytes of the buffer were placed by payload packets.
     pub filled: u32,
+    /// What is known of the image: None where no leader was kept.
+    pub image: Option<ImageInfo>,
 }

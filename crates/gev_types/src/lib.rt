@@ -5,6 +5,7 @@ mod block_record; // what is known of a buffer's block
 mod buf; // an image buffer
 mod bytes; // owned bytes
 mod frame; // images, and their size
+mod image_info; // what is known of a buffer's image
 pub mod laws; // laws of the definitions, as contracts
 mod limits; // the numbers that all keep
 mod memory; // want of memory
@@ -14,6 +15,7 @@ pub use block_record::Record;
 pub use buf::Buf;
 pub use bytes::Bytes;
 pub use frame::{Frame, Shape, frame_size};
+pub use image_info::ImageInfo;
 pub use limits::{
     MAX_BUFFER_SIZE, MAX_PACKET_ID, MAX_PAYLOAD_SIZE, MAX_RECEIVED_PAYLOAD_SIZE, MIN_PAYLOAD_SIZE,
     PLACES,

@@ -21,6 +21,7 @@ use Rattle.board_machine.specs.Adding.{entries_of}
 use Rattle.board_calls.specs.Calls.{run_word}
 use Rattle.board_calls.specs.Infos.{InfosBy}
 use Rattle.acquisition_machine.specs.Machine.{stop, restart}
+use Rattle.acquisition_machine.specs.Worked.{seen}
 use Rattle.script_trace.specs.StreamLines.{tells, idles, told_twice}
 use Rattle.mode_calls.specs.declared.mode.Mode.TheVariants.{OldestFirst}
 use Rattle.script_trace.specs.Modes.{FillsBlock}
@@ -33,7 +34,7 @@ abbrev bytes : List ℕ
 bytes = 0 ∷ 0 ∷ 0 ∷ 0 ∷ 129 ∷ 0 ∷ 0 ∷ 0 ∷ 0 ∷ 0 ∷ 0 ∷ 0 ∷ 0 ∷ 0 ∷ 0 ∷ 1 ∷ 0 ∷ 0 ∷ 0 ∷ 0 ∷ 0 ∷ 0 ∷ 0 ∷ 1 ∷ 0 ∷ 0 ∷ 0 ∷ 0 ∷ 0 ∷ 0 ∷ 0 ∷ 0 ∷ 1 ∷ 8 ∷ 0 ∷ 1 ∷ 0 ∷ 0 ∷ 0 ∷ 3 ∷ 0 ∷ 0 ∷ 0 ∷ 1 ∷ 0 ∷ 0 ∷ 0 ∷ 0 ∷ 0 ∷ 0 ∷ 0 ∷ 0 ∷ 0 ∷ 0 ∷ 0 ∷ 0 ∷ []
 
 abbrev leader_only : Filling
-leader_only = record { bytes = 0 ∷ 0 ∷ 0 ∷ []; rec = record { block = 1; complete = false; larger = false; has_leader = true; data_len = 3; filled = 0 } }
+leader_only = record { bytes = 0 ∷ 0 ∷ 0 ∷ []; rec = record { block = 1; complete = false; larger = false; has_leader = true; data_len = 3; filled = 0; image = seen 3 1 } }
 
 told_pool : InfosBy 1000 0 (LookPool [] ∷ [])
 told_pool = record {
