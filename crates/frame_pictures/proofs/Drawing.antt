@@ -4,12 +4,13 @@ use Rattle.std.specs.Prelude.{◌==◌, ◌||◌, Ok, Err}
 use Rattle.std.proofs.lemmas.Bool.{or_cases, eqb-true, cond-false, false_from_ne_true}
 use Rattle.std.proofs.lemmas.List.{take_all, length-drop}
 use Rattle.std.proofs.Math.Seq.{take-suc, take-add}
+use Rattle.gev_types.specs.declared.image_info.ImageInfo.{ImageInfo}
 use Rattle.gev_types.specs.FrameSize.{bits_per_pixel}
-use Rattle.frame_pictures.specs.declared.look.Look.{Look}
+use Rattle.block_image.specs.Infos.{frame_info}
 use Rattle.frame_pictures.specs.declared.samples.Samples.TheVariants.{Grey8}
 use Rattle.frame_pictures.specs.declared.no_picture.NoPicture.TheVariants.{NoPixels}
 use Rattle.frame_pictures.specs.Pictures.{head_text, byte_at, row_text, row_step, rows_text, drawing, drawn_as}
-use Rattle.frame_pictures.specs.Laws.{PlainFramesAreTheirPixels, PixelsAreAsWideAsTheirFormat, frame_look}
+use Rattle.frame_pictures.specs.Laws.{PlainFramesAreTheirPixels, PixelsAreAsWideAsTheirFormat}
 
 whole_bytes : (m : ℕ) → (m * 8 + 7) / 8 ≡ m
 whole_bytes m = omega arith
@@ -17,8 +18,8 @@ whole_bytes m = omega arith
 add-mul-one : (n w : ℕ) → suc n * w ≡ n * w + w
 add-mul-one n w = omega arith
 
-step_of : (look : Look) → look.padding ≡ 0 → row_step Grey8 look ≡ look.width
-step_of look tight = let one : look.width * 1 ≡ look.width = omega arith in omega (arith, one, tight)
+step_of : (info : ImageInfo) → info.padding_x ≡ 0 → row_step Grey8 info ≡ info.size_x
+step_of info tight = let one : info.size_x * 1 ≡ info.size_x = omega arith in omega (arith, one, tight)
 
 -- a row of grey bytes is what lies there
 grey_row : (row : List ℕ) (n : ℕ) → n ≤ length row → row_text Grey8 row n ≡ take n row
@@ -30,16 +31,16 @@ grey_row row (suc n) fits =
     ∙ sym (take-suc row n 0 (omega arith))
 
 -- and so are rows without padding
-grey_rows : (look : Look) (image : List ℕ) (n : ℕ) → look.padding ≡ 0 → n * look.width ≤ length image → rows_text Grey8 look image n ≡ take (n * look.width) image
-grey_rows look image zero tight fits = let none : 0 * look.width ≡ 0 = omega arith in ap (λ m. take m image) (sym none)
-grey_rows look image (suc n) tight fits =
-    let step : n * row_step Grey8 look ≡ n * look.width = ap (λ m. n * m) (step_of look tight) in
-    let more : suc n * look.width ≡ n * look.width + look.width = add-mul-one n look.width in
-    let left : look.width ≤ length (drop (n * look.width) image) = omega (arith, length-drop (n * look.width) image, more) in
-    ap (λ t. t ++ row_text Grey8 (drop (n * row_step Grey8 look) image) look.width) (grey_rows look image n tight (omega (arith, more)))
-    ∙ ap (λ m. take (n * look.width) image ++ row_text Grey8 (drop m image) look.width) step
-    ∙ ap (λ t. take (n * look.width) image ++ t) (grey_row (drop (n * look.width) image) look.width left)
-    ∙ sym (take-add (n * look.width) look.width image)
+grey_rows : (info : ImageInfo) (image : List ℕ) (n : ℕ) → info.padding_x ≡ 0 → n * info.size_x ≤ length image → rows_text Grey8 info image n ≡ take (n * info.size_x) image
+grey_rows info image zero tight fits = let none : 0 * info.size_x ≡ 0 = omega arith in ap (λ m. take m image) (sym none)
+grey_rows info image (suc n) tight fits =
+    let step : n * row_step Grey8 info ≡ n * info.size_x = ap (λ m. n * m) (step_of info tight) in
+    let more : suc n * info.size_x ≡ n * info.size_x + info.size_x = add-mul-one n info.size_x in
+    let left : info.size_x ≤ length (drop (n * info.size_x) image) = omega (arith, length-drop (n * info.size_x) image, more) in
+    ap (λ t. t ++ row_text Grey8 (drop (n * row_step Grey8 info) image) info.size_x) (grey_rows info image n tight (omega (arith, more)))
+    ∙ ap (λ m. take (n * info.size_x) image ++ row_text Grey8 (drop m image) info.size_x) step
+    ∙ ap (λ t. take (n * info.size_x) image ++ t) (grey_row (drop (n * info.size_x) image) info.size_x left)
+    ∙ sym (take-add (n * info.size_x) info.size_x image)
     ∙ ap (λ m. take m image) (sym more)
 
 -- how long the pixels are
@@ -66,14 +67,14 @@ wide_as_format pixel s e = search rules
 
 pub plain_frames_are_their_pixels : PlainFramesAreTheirPixels
 plain_frames_are_their_pixels frame valid tight_x tight_y format =
-    let look : Look = frame_look frame in
+    let info : ImageInfo = frame_info frame frame.rows in
     let len : length frame.pixels ≡ frame.rows * frame.size_x = length_of frame.size_x frame.rows (bits_per_pixel frame.pixel) frame.padding_x frame.padding_y (length frame.pixels)
     (wide_as_format frame.pixel Grey8 format) tight_x tight_y valid.size in
     let some : (frame.size_x == 0 || frame.rows == 0) ≡ false = some_pixels frame.size_x frame.rows (omega (arith, len, valid.in_limits.0)) in
-    ap (λ o. drawn_as o look (take (length frame.pixels) frame.pixels)) format
-    ∙ cond-false (frame.size_x == 0 || frame.rows == 0) (Err NoPixels) (Ok (drawing Grey8 look (take (length frame.pixels) frame.pixels))) some
-    ∙ ap (λ (image : List ℕ). Ok (drawing Grey8 look image)) (take_all (length frame.pixels) frame.pixels (omega arith))
+    ap (λ o. drawn_as o info (take (length frame.pixels) frame.pixels)) format
+    ∙ cond-false (frame.size_x == 0 || frame.rows == 0) (Err NoPixels) (Ok (drawing Grey8 info (take (length frame.pixels) frame.pixels))) some
+    ∙ ap (λ (image : List ℕ). Ok (drawing Grey8 info image)) (take_all (length frame.pixels) frame.pixels (omega arith))
     ∙ ap (λ (t : List ℕ). Ok (head_text Grey8 frame.size_x frame.rows ++ t))
-    (grey_rows look frame.pixels frame.rows tight_x (omega (arith, len))
+    (grey_rows info frame.pixels frame.rows tight_x (omega (arith, len))
     ∙ ap (λ m. take m frame.pixels) (sym len)
     ∙ take_all (length frame.pixels) frame.pixels (omega arith))

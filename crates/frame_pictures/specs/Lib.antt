@@ -1,5 +1,5 @@
-pub mod Looks
 pub mod Formats
 pub mod Pictures
+pub mod Pixels
 pub mod Laws
 pub mod Worked

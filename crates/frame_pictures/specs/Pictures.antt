@@ -3,7 +3,8 @@ use Rattle.std.specs.Prelude.{ℕ, zero, suc, ◌+◌, ◌*◌, ◌==◌, ◌||�
 use Rattle.std.specs.List.{concat}
 use Rattle.std.specs.Fmt.{decimal}
 use Rattle.byteorder.specs.Endian.{big_bytes}
-use Rattle.frame_pictures.specs.declared.look.Look.{Look}
+use Rattle.gev_types.specs.declared.image_info.ImageInfo.{ImageInfo}
+use Rattle.gev_types.specs.Filling.{Filling}
 use Rattle.frame_pictures.specs.declared.no_picture.NoPicture.{NoPicture}
 use Rattle.frame_pictures.specs.declared.no_picture.NoPicture.TheVariants.{NoLeader, PixelFormat, NoPixels}
 use Rattle.frame_pictures.specs.declared.samples.Samples.{Samples}
@@ -50,28 +51,32 @@ row_text s row zero = []
 row_text s row (suc n) = row_text s row n ++ pixel_text s row (n * pixel_bytes s)
 
 -- how many bytes lie between the begin of one row and that of the next
-abbrev pub row_step : Samples → Look → ℕ
-row_step s look = look.width * pixel_bytes s + look.padding
+abbrev pub row_step : Samples → ImageInfo → ℕ
+row_step s info = info.size_x * pixel_bytes s + info.padding_x
 
 -- the first n rows, from the top
-abbrev pub rows_text : Samples → Look → List ℕ → ℕ → List ℕ
-rows_text s look image zero = []
-rows_text s look image (suc n) = rows_text s look image n ++ row_text s (drop (n * row_step s look) image) look.width
+abbrev pub rows_text : Samples → ImageInfo → List ℕ → ℕ → List ℕ
+rows_text s info image zero = []
+rows_text s info image (suc n) = rows_text s info image n ++ row_text s (drop (n * row_step s info) image) info.size_x
 
 -- ---- the picture
 
-abbrev pub drawing : Samples → Look → List ℕ → List ℕ
-drawing s look image = head_text s look.width look.rows ++ rows_text s look image look.rows
+abbrev pub drawing : Samples → ImageInfo → List ℕ → List ℕ
+drawing s info image = head_text s info.size_x info.rows ++ rows_text s info image info.rows
 
-abbrev pub drawn_as : Option Samples → Look → List ℕ → Result (List ℕ) NoPicture
-drawn_as None look image = Err (PixelFormat look.pixel)
-drawn_as (Some s) look image = if look.width == 0 || look.rows == 0 then Err NoPixels else Ok (drawing s look image)
+abbrev pub drawn_as : Option Samples → ImageInfo → List ℕ → Result (List ℕ) NoPicture
+drawn_as None info image = Err (PixelFormat info.pixel)
+drawn_as (Some s) info image = if info.size_x == 0 || info.rows == 0 then Err NoPixels else Ok (drawing s info image)
 
--- the picture with this look of an image of these bytes, or why there is none
-abbrev pub drawn : Option Look → List ℕ → Result (List ℕ) NoPicture
+-- the picture of an image of these bytes, or why there is none
+abbrev pub drawn : Option ImageInfo → List ℕ → Result (List ℕ) NoPicture
 drawn None image = Err NoLeader
-drawn (Some look) image = drawn_as (samples_of look.pixel) look image
+drawn (Some info) image = drawn_as (samples_of info.pixel) info image
 
 -- The picture in a buffer with these bytes, of which so many are the image's: what lies behind them counts as 0.
-abbrev pub picture : Option Look → ℕ → List ℕ → Result (List ℕ) NoPicture
-picture look data_len bytes = drawn look (take data_len bytes)
+abbrev pub picture : Option ImageInfo → ℕ → List ℕ → Result (List ℕ) NoPicture
+picture told data_len bytes = drawn told (take data_len bytes)
+
+-- the picture of what a buffer holds, by its record and its bytes alone
+abbrev pub picture_of : Filling → Result (List ℕ) NoPicture
+picture_of filling = picture filling.rec.image filling.rec.data_len filling.bytes

@@ -1,13 +1,24 @@
 -- Pictures worked out by hand.
 use Rattle.std.specs.Prelude.{◌≡◌, ℕ, List, [], ◌∷◌, ◌++◌, codes, Option, Some, None, Ok, Err}
+use Rattle.gev_types.specs.declared.image_info.ImageInfo.{ImageInfo}
 use Rattle.stream_packets.specs.declared.fields.LeaderInfo.{LeaderInfo}
-use Rattle.frame_pictures.specs.declared.look.Look.{Look}
+use Rattle.block_image.specs.Infos.{info_of}
 use Rattle.frame_pictures.specs.declared.no_picture.NoPicture.TheVariants.{NoLeader, PixelFormat, NoPixels}
-use Rattle.frame_pictures.specs.Looks.{look_of}
 use Rattle.frame_pictures.specs.Pictures.{picture}
 
-abbrev pub look_with : ℕ → ℕ → ℕ → ℕ → Option Look
-look_with pixel width padding rows = Some (record { pixel = pixel; width = width; padding = padding; rows = rows })
+-- an image of so many columns and rows, and with so many bytes behind each row, all of whose announced lines are there
+abbrev pub info_with : ℕ → ℕ → ℕ → ℕ → Option ImageInfo
+info_with pixel width padding rows = Some (record {
+  timestamp = 0;
+  pixel = pixel;
+  size_x = width;
+  size_y = rows;
+  offset_x = 0;
+  offset_y = 0;
+  padding_x = padding;
+  padding_y = 0;
+  rows = rows;
+})
 
 -- a leader of 2 by 2 pixels of Mono12, with a byte behind each row
 abbrev pub twelve_bits : LeaderInfo
@@ -33,30 +44,30 @@ nine = 1 ∷ 2 ∷ 3 ∷ 4 ∷ 5 ∷ 6 ∷ 7 ∷ 8 ∷ 9 ∷ []
 
 pub record PicturesAreWorked : Type 0 where
   -- three pixels of Mono8 in one row
-  pub grey : picture (look_with 0x01080001 3 0 1) 3 (97 ∷ 98 ∷ 99 ∷ []) ≡ Ok (codes "P5\n3 1\n255\nabc")
+  pub grey : picture (info_with 0x01080001 3 0 1) 3 (97 ∷ 98 ∷ 99 ∷ []) ≡ Ok (codes "P5\n3 1\n255\nabc")
   -- two of its values are above the greatest
   pub twelve :
-      picture (look_of (Some twelve_bits) None) 10 four_values
+      picture (info_of (Some twelve_bits) None) 10 four_values
       ≡ Ok (codes "P5\n2 2\n4095\n" ++ 0x0f ∷ 0xff ∷ 0x0f ∷ 0xff ∷ 0x0f ∷ 0xff ∷ 0x00 ∷ 0x00 ∷ [])
   -- the trailer tells one row
   pub short :
-      picture (look_of (Some twelve_bits) (Some 1)) 5 four_values
+      picture (info_of (Some twelve_bits) (Some 1)) 5 four_values
       ≡ Ok (codes "P5\n2 1\n4095\n" ++ 0x0f ∷ 0xff ∷ 0x0f ∷ 0xff ∷ [])
   -- no row, and more rows than the leader announces, count as the leader's
-  pub no_line : look_of (Some twelve_bits) (Some 0) ≡ look_with 0x01100005 2 1 2
-  pub too_many : look_of (Some twelve_bits) (Some 3) ≡ look_with 0x01100005 2 1 2
+  pub no_line : info_of (Some twelve_bits) (Some 0) ≡ info_with 0x01100005 2 1 2
+  pub too_many : info_of (Some twelve_bits) (Some 3) ≡ info_with 0x01100005 2 1 2
   -- what lies behind the image is black, and half a value too
-  pub cut : picture (look_with 0x01100007 1 1 3) 4 nine ≡ Ok (codes "P5\n1 3\n65535\n" ++ 2 ∷ 1 ∷ 0 ∷ 4 ∷ 0 ∷ 0 ∷ [])
+  pub cut : picture (info_with 0x01100007 1 1 3) 4 nine ≡ Ok (codes "P5\n1 3\n65535\n" ++ 2 ∷ 1 ∷ 0 ∷ 4 ∷ 0 ∷ 0 ∷ [])
   -- the padding of two rows is left out
-  pub padded : picture (look_with 0x01080001 2 1 2) 6 nine ≡ Ok (codes "P5\n2 2\n255\n" ++ 1 ∷ 2 ∷ 4 ∷ 5 ∷ [])
+  pub padded : picture (info_with 0x01080001 2 1 2) 6 nine ≡ Ok (codes "P5\n2 2\n255\n" ++ 1 ∷ 2 ∷ 4 ∷ 5 ∷ [])
   -- the two orders of colours
-  pub red_first : picture (look_with 0x02180014 1 0 2) 6 nine ≡ Ok (codes "P6\n1 2\n255\n" ++ 1 ∷ 2 ∷ 3 ∷ 4 ∷ 5 ∷ 6 ∷ [])
-  pub blue_first : picture (look_with 0x02180015 1 0 2) 5 nine ≡ Ok (codes "P6\n1 2\n255\n" ++ 3 ∷ 2 ∷ 1 ∷ 0 ∷ 5 ∷ 4 ∷ [])
+  pub red_first : picture (info_with 0x02180014 1 0 2) 6 nine ≡ Ok (codes "P6\n1 2\n255\n" ++ 1 ∷ 2 ∷ 3 ∷ 4 ∷ 5 ∷ 6 ∷ [])
+  pub blue_first : picture (info_with 0x02180015 1 0 2) 5 nine ≡ Ok (codes "P6\n1 2\n255\n" ++ 3 ∷ 2 ∷ 1 ∷ 0 ∷ 5 ∷ 4 ∷ [])
   -- values of 10 bits of a Bayer pattern, and of Mono14
-  pub ten : picture (look_with 0x0110000f 1 0 1) 2 (0 ∷ 4 ∷ []) ≡ Ok (codes "P5\n1 1\n1023\n" ++ 3 ∷ 255 ∷ [])
-  pub fourteen : picture (look_with 0x01100025 1 0 1) 2 (255 ∷ 255 ∷ []) ≡ Ok (codes "P5\n1 1\n16383\n" ++ 63 ∷ 255 ∷ [])
+  pub ten : picture (info_with 0x0110000f 1 0 1) 2 (0 ∷ 4 ∷ []) ≡ Ok (codes "P5\n1 1\n1023\n" ++ 3 ∷ 255 ∷ [])
+  pub fourteen : picture (info_with 0x01100025 1 0 1) 2 (255 ∷ 255 ∷ []) ≡ Ok (codes "P5\n1 1\n16383\n" ++ 63 ∷ 255 ∷ [])
   -- why there is none: a format that isn't drawn goes before a picture without pixels
   pub without_leader : picture None 3 nine ≡ Err NoLeader
-  pub packed : picture (look_with 0x010c0006 0 0 1) 3 nine ≡ Err (PixelFormat 0x010c0006)
-  pub no_column : picture (look_with 0x01080001 0 5 1) 5 nine ≡ Err NoPixels
-  pub no_row : picture (look_with 0x02180014 3 0 0) 4 nine ≡ Err NoPixels
+  pub packed : picture (info_with 0x010c0006 0 0 1) 3 nine ≡ Err (PixelFormat 0x010c0006)
+  pub no_column : picture (info_with 0x01080001 0 5 1) 5 nine ≡ Err NoPixels
+  pub no_row : picture (info_with 0x02180014 3 0 0) 4 nine ≡ Err NoPixels

@@ -1,6 +1,6 @@
 //! What the definitions promise: each function here does nothing, and its contract is a law.
 
-ghost use Rattle.frame_pictures.specs.Laws.{PixelsAreAsWideAsTheirFormat, PlainFramesAreTheirPixels, CompletePicturesShowFrames, PicturesShowWhatCame};
+ghost use Rattle.frame_pictures.specs.Laws.{PixelsAreAsWideAsTheirFormat, PlainFramesAreTheirPixels, PicturesAreTheirPixels, HeldFramesAreShown, BytesInPlaceAreShown};
 ghost use Rattle.frame_pictures.specs.Worked.{PicturesAreWorked};
 
 /// A pixel that is drawn takes as many bytes as its format's code says.
@@ -14,15 +14,21 @@ pub fn plain_frames_are_their_pixels()
     ensures { PlainFramesAreTheirPixels }
 {}
 
-/// The picture of an image that is marked complete is that of its block's frame, whichever sent packets came.
-pub fn complete_pictures_show_frames()
-    ensures { CompletePicturesShowFrames }
+/// Behind its head a picture has as many pixels as its image, row by row from the top. Each is made of the bytes that
+/// stand in the buffer at its place in its row, and no padding is drawn.
+pub fn pictures_are_their_pixels()
+    ensures { PicturesAreTheirPixels }
 {}
 
-/// In every picture, complete or not, rows lie as the frame's, each byte that was received is the frame's, and
-/// every other is 0.
-pub fn pictures_show_what_came()
-    ensures { PicturesShowWhatCame }
+/// The picture of a buffer that holds a block's frame is that of the frame.
+pub fn held_frames_are_shown()
+    ensures { HeldFramesAreShown }
+{}
+
+/// In every picture, complete or not, each byte that was received is the frame's, every other is 0, and each pixel is
+/// made of the bytes at its place.
+pub fn bytes_in_place_are_shown()
+    ensures { BytesInPlaceAreShown }
 {}
 
 /// Some pictures as they were worked out by hand.

@@ -178,6 +178,7 @@ impl fmt::Display for PictureCause {
     fn fmt<W: fmt::Write>(&self, f: &mut fmt::Formatter<W>) -> fmt::Result {
         match self.0 {
             NoPicture::Taken(count) => write!(f, "{count} buffers were taken"),
+            NoPicture::NoneOf(count) => write!(f, "none of {count} buffers has one"),
             NoPicture::NoLeader => write!(f, "no leader"),
             NoPicture::PixelFormat(code) => write!(f, "pixel format 0x{code:08x}"),
             NoPicture::NoPixels => write!(f, "no pixels"),

@@ -3,7 +3,7 @@ use Rattle.std.proofs.Common.{◌≡◌, ℕ, zero, suc, ◌+◌, ◌-◌, ◌*�
 use Rattle.std.specs.Prelude.{OnErr}
 use Rattle.std.proofs.lemmas.List.{drop-drop}
 use Rattle.gev_links.specs.Told.{Appends, WritesFront}
-use Rattle.frame_pictures.specs.declared.look.Look.{Look}
+use Rattle.gev_types.specs.declared.image_info.ImageInfo.{ImageInfo}
 use Rattle.frame_pictures.specs.declared.samples.Samples.{Samples}
 use Rattle.frame_pictures.specs.Formats.{pixel_bytes}
 use Rattle.frame_pictures.specs.Pictures.{pixel_text, row_text, row_step, rows_text}
@@ -85,22 +85,22 @@ row_more s row n (suc k) =
 pub row_begins : (s : Samples) (row : List ℕ) (n m : ℕ) → n ≤ m → Begins (row_text s row n) (row_text s row m)
 row_begins s row n m few = let same : n + (m - n) ≡ m = omega arith in subst (λ k. Begins (row_text s row n) (row_text s row k)) same (row_more s row n (m - n))
 
-rows_more : (s : Samples) (look : Look) (image : List ℕ) (n k : ℕ) → Begins (rows_text s look image n) (rows_text s look image (n + k))
-rows_more s look image n zero = let same : n + 0 ≡ n = omega arith in
-    record { rest = []; is = ap (rows_text s look image) same ∙ sym (append-nil (rows_text s look image n)) }
-rows_more s look image n (suc k) =
+rows_more : (s : Samples) (info : ImageInfo) (image : List ℕ) (n k : ℕ) → Begins (rows_text s info image n) (rows_text s info image (n + k))
+rows_more s info image n zero = let same : n + 0 ≡ n = omega arith in
+    record { rest = []; is = ap (rows_text s info image) same ∙ sym (append-nil (rows_text s info image n)) }
+rows_more s info image n (suc k) =
     let same : n + suc k ≡ suc (n + k) = omega arith in
-    let b = rows_more s look image n k in
-    let last : List ℕ = row_text s (drop ((n + k) * row_step s look) image) look.width in
+    let b = rows_more s info image n k in
+    let last : List ℕ = row_text s (drop ((n + k) * row_step s info) image) info.size_x in
     record {
       rest = b.rest ++ last;
-      is = ap (rows_text s look image) same ∙ ap (λ (t : List ℕ). t ++ last) b.is ∙ append_assoc (rows_text s look image n) b.rest last;
+      is = ap (rows_text s info image) same ∙ ap (λ (t : List ℕ). t ++ last) b.is ∙ append_assoc (rows_text s info image n) b.rest last;
     }
 
-pub rows_begin : (s : Samples) (look : Look) (image : List ℕ) (n m : ℕ) → n ≤ m → Begins (rows_text s look image n) (rows_text s look image m)
-rows_begin s look image n m few =
+pub rows_begin : (s : Samples) (info : ImageInfo) (image : List ℕ) (n m : ℕ) → n ≤ m → Begins (rows_text s info image n) (rows_text s info image m)
+rows_begin s info image n m few =
     let same : n + (m - n) ≡ m = omega arith in
-    subst (λ k. Begins (rows_text s look image n) (rows_text s look image k)) same (rows_more s look image n (m - n))
+    subst (λ k. Begins (rows_text s info image n) (rows_text s info image k)) same (rows_more s info image n (m - n))
 
 -- ---- answers
 
@@ -132,30 +132,30 @@ row_more_held w x y s row before held held_now held_after n j at h less is =
     (subst (λ (t : List ℕ). HoldsBack w y ((before ++ row_text s row n) ++ pixel_text s row j) t) (sym is) more)
 
 -- writing failed in a row
-pub rows_front : (w x y : Option (List ℕ)) (s : Samples) (look : Look) (image row before held : List ℕ) (n m : ℕ) → n + 1 ≤ m
-    → row ≡ drop (n * row_step s look) image
-    → HoldsBack w x (before ++ rows_text s look image n) held → WritesFront x y (held ++ row_text s row look.width) → WritesFront w y (before ++ rows_text s look image m)
-rows_front w x y s look image row before held n m few at h f =
-    let b = rows_begin s look image (suc n) m (omega (arith, few)) in
-    let here : List ℕ = row_text s (drop (n * row_step s look) image) look.width in
-    held_front w x y (before ++ rows_text s look image n) held here (before ++ rows_text s look image m) b.rest h
-    (subst (λ (t : List ℕ). WritesFront x y (held ++ row_text s t look.width)) at f)
-    (ap (λ (t : List ℕ). before ++ t) b.is ∙ sym (append_assoc before (rows_text s look image n ++ here) b.rest)
-    ∙ ap (λ (t : List ℕ). t ++ b.rest) (sym (append_assoc before (rows_text s look image n) here)))
+pub rows_front : (w x y : Option (List ℕ)) (s : Samples) (info : ImageInfo) (image row before held : List ℕ) (n m : ℕ) → n + 1 ≤ m
+    → row ≡ drop (n * row_step s info) image
+    → HoldsBack w x (before ++ rows_text s info image n) held → WritesFront x y (held ++ row_text s row info.size_x) → WritesFront w y (before ++ rows_text s info image m)
+rows_front w x y s info image row before held n m few at h f =
+    let b = rows_begin s info image (suc n) m (omega (arith, few)) in
+    let here : List ℕ = row_text s (drop (n * row_step s info) image) info.size_x in
+    held_front w x y (before ++ rows_text s info image n) held here (before ++ rows_text s info image m) b.rest h
+    (subst (λ (t : List ℕ). WritesFront x y (held ++ row_text s t info.size_x)) at f)
+    (ap (λ (t : List ℕ). before ++ t) b.is ∙ sym (append_assoc before (rows_text s info image n ++ here) b.rest)
+    ∙ ap (λ (t : List ℕ). t ++ b.rest) (sym (append_assoc before (rows_text s info image n) here)))
 
 -- one row more
-pub rows_more_held : (w x y : Option (List ℕ)) (s : Samples) (look : Look) (image row before held held_after : List ℕ) (n : ℕ)
-    → row ≡ drop (n * row_step s look) image
-    → HoldsBack w x (before ++ rows_text s look image n) held → HoldsBack x y (held ++ row_text s row look.width) held_after
-    → HoldsBack w y (before ++ rows_text s look image (n + 1)) held_after
-rows_more_held w x y s look image row before held held_after n at h more =
+pub rows_more_held : (w x y : Option (List ℕ)) (s : Samples) (info : ImageInfo) (image row before held held_after : List ℕ) (n : ℕ)
+    → row ≡ drop (n * row_step s info) image
+    → HoldsBack w x (before ++ rows_text s info image n) held → HoldsBack x y (held ++ row_text s row info.size_x) held_after
+    → HoldsBack w y (before ++ rows_text s info image (n + 1)) held_after
+rows_more_held w x y s info image row before held held_after n at h more =
     let same : n + 1 ≡ suc n = omega arith in
     subst (λ (t : List ℕ). HoldsBack w y t held_after)
-    (append_assoc before (rows_text s look image n) (row_text s row look.width)
-    ∙ ap (λ (t : List ℕ). before ++ (rows_text s look image n ++ row_text s t look.width)) at
-    ∙ ap (λ i. before ++ rows_text s look image i) (sym same))
-    (held_less w x y ((before ++ rows_text s look image n) ++ row_text s row look.width) (held ++ row_text s row look.width) held_after
-    (held_more w x (before ++ rows_text s look image n) held (row_text s row look.width) h) more)
+    (append_assoc before (rows_text s info image n) (row_text s row info.size_x)
+    ∙ ap (λ (t : List ℕ). before ++ (rows_text s info image n ++ row_text s t info.size_x)) at
+    ∙ ap (λ i. before ++ rows_text s info image i) (sym same))
+    (held_less w x y ((before ++ rows_text s info image n) ++ row_text s row info.size_x) (held ++ row_text s row info.size_x) held_after
+    (held_more w x (before ++ rows_text s info image n) held (row_text s row info.size_x) h) more)
 
 -- what lies behind a row
 pub next_row : (image rest : List ℕ) (n step : ℕ) → rest ≡ drop (n * step) image → drop step rest ≡ drop ((n + 1) * step) image

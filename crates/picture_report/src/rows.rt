@@ -8,8 +8,9 @@ ghost use Rattle.frame_pictures.specs.Pictures.{row_step, row_text, rows_text};
 ghost use Rattle.picture_report.specs.Writing.{HoldsBack};
 
 use crate::pixels::add_pixel;
-use frame_pictures::{Look, Samples, pixel_bytes};
+use frame_pictures::{Samples, pixel_bytes};
 use gev_links::{Failed, Sink, write_all};
+use gev_types::ImageInfo;
 
 /// Bytes of the piece from which a picture is written.
 pub(crate) const PIECE: usize = 65_536;
@@ -67,30 +68,30 @@ fn behind(bytes: &[u8], count: usize) -> &[u8]
 }
 
 /// How many bytes lie between the begin of one row and that of the next.
-fn row_step(samples: Samples, look: Look) -> usize
-    ensures { result ≡ row_step samples look }
+fn row_step(samples: Samples, info: ImageInfo) -> usize
+    ensures { result ≡ row_step samples info }
 {
-    look.width as usize * usize::from(pixel_bytes(samples)) + usize::from(look.padding)
+    info.size_x as usize * usize::from(pixel_bytes(samples)) + usize::from(info.padding_x)
 }
 
 /// Adds the rows of an image of these bytes, from the top, and writes the piece as often as it's full.
 pub(crate) fn write_rows<K: Sink>(
     samples: Samples,
-    look: Look,
+    info: ImageInfo,
     image: &[u8],
     piece: &mut Vec<u8>,
     sink: &mut K,
 ) -> Result<(), Failed>
     requires { 65536 ≤ vec_capacity piece.old }
-    ensures held { OnOk result (HoldsBack (K.written sink.old) (K.written sink.new) (piece.old.items ++ rows_text samples look image.now look.rows) piece.new.items) }
+    ensures held { OnOk result (HoldsBack (K.written sink.old) (K.written sink.new) (piece.old.items ++ rows_text samples info image.now info.rows) piece.new.items) }
     ensures no_fault { OnOk result (K.faults sink.new ≡ K.faults sink.old) }
-    ensures front { OnErr result (WritesFront (K.written sink.old) (K.written sink.new) (piece.old.items ++ rows_text samples look image.now look.rows)) }
+    ensures front { OnErr result (WritesFront (K.written sink.old) (K.written sink.new) (piece.old.items ++ rows_text samples info image.now info.rows)) }
     ensures failed { OnErr result (Rose (K.faults sink.old) (K.faults sink.new)) }
 {
-    let step = row_step(samples, look);
+    let step = row_step(samples, info);
     let mut rest = image;
-    for _row in 0..look.rows {
-        write_row(samples, rest, look.width, piece, sink)?;
+    for _row in 0..info.rows {
+        write_row(samples, rest, info.size_x, piece, sink)?;
         rest = behind(rest, step);
     }
     Ok(())

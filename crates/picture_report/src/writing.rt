@@ -8,72 +8,72 @@ ghost use Rattle.picture_report.specs.Writing.{DrawsBy};
 use crate::head::add_head;
 use crate::rows::{PIECE, write_rows};
 use crate::stop::PictureStop;
-use frame_pictures::{Look, NoPicture, Samples, samples_of};
+use frame_pictures::{NoPicture, Samples, samples_of};
 use gev_links::{Failed, Sink, write_all};
-use gev_types::NoMemory;
+use gev_types::{ImageInfo, NoMemory};
 use std::alloc::Global;
 
 /// The piece, with the picture's head in it.
-fn begin(alloc: Global, samples: Samples, look: Look) -> Result<Vec<u8>, NoMemory>
-    ensures head { IfOk result (λ piece. piece.items ≡ head_text samples look.width look.rows) }
+fn begin(alloc: Global, samples: Samples, info: ImageInfo) -> Result<Vec<u8>, NoMemory>
+    ensures head { IfOk result (λ piece. piece.items ≡ head_text samples info.size_x info.rows) }
     ensures capacity { IfOk result (λ piece. 65536 ≤ vec_capacity piece) }
 {
     let mut piece = Vec::with_capacity(alloc, PIECE)?;
-    add_head(samples, look.width, look.rows, &mut piece)?;
+    add_head(samples, info.size_x, info.rows, &mut piece)?;
     Ok(piece)
 }
 
 /// Writes what the piece holds, and the rows behind it.
 fn write_drawing<K: Sink>(
     samples: Samples,
-    look: Look,
+    info: ImageInfo,
     image: &[u8],
     piece: &mut Vec<u8>,
     sink: &mut K,
 ) -> Result<(), Failed>
-    requires head { piece.old.items ≡ head_text samples look.width look.rows }
+    requires head { piece.old.items ≡ head_text samples info.size_x info.rows }
     requires capacity { 65536 ≤ vec_capacity piece.old }
-    ensures written { OnOk result (Appends (K.written sink.old) (K.written sink.new) (drawing samples look image.now)) }
+    ensures written { OnOk result (Appends (K.written sink.old) (K.written sink.new) (drawing samples info image.now)) }
     ensures no_fault { OnOk result (K.faults sink.new ≡ K.faults sink.old) }
-    ensures front { OnErr result (WritesFront (K.written sink.old) (K.written sink.new) (drawing samples look image.now)) }
+    ensures front { OnErr result (WritesFront (K.written sink.old) (K.written sink.new) (drawing samples info image.now)) }
     ensures failed { OnErr result (Rose (K.faults sink.old) (K.faults sink.new)) }
 {
-    write_rows(samples, look, image, piece, sink)?;
+    write_rows(samples, info, image, piece, sink)?;
     write_all(sink, piece.as_slice())
 }
 
-/// Writes the picture with this look in a buffer of these bytes, of which the first `data_len` are the image's;
-/// what lies behind them counts as 0. It's a PNM file in its binary form.
+/// Writes the picture in a buffer with these bytes, of whose image the record tells this, and of which the first
+/// `data_len` are the image's; what lies behind them counts as 0. It's a PNM file in its binary form.
 ///
 /// All the memory that it takes, 64 KiB and no copy of the image, it takes before it writes.
 pub fn write_picture<K: Sink>(
     alloc: Global,
-    look: Option<Look>,
+    info: Option<ImageInfo>,
     data_len: u32,
     bytes: &[u8],
     sink: &mut K,
 ) -> Result<(), PictureStop>
-    ensures { DrawsBy result (picture look data_len bytes.now) (K.written sink.old) (K.written sink.new) (K.faults sink.old) (K.faults sink.new) }
+    ensures { DrawsBy result (picture info data_len bytes.now) (K.written sink.old) (K.written sink.new) (K.faults sink.old) (K.faults sink.new) }
 {
-    let look = match look {
-        Some(look) => look,
+    let info = match info {
+        Some(info) => info,
         None => return Err(PictureStop::NoPicture(NoPicture::NoLeader)),
     };
-    let samples = match samples_of(look.pixel) {
+    let samples = match samples_of(info.pixel) {
         Some(samples) => samples,
         None => {
-            return Err(PictureStop::NoPicture(NoPicture::PixelFormat(look.pixel)));
+            return Err(PictureStop::NoPicture(NoPicture::PixelFormat(info.pixel)));
         }
     };
-    if look.width == 0 || look.rows == 0 {
+    if info.size_x == 0 || info.rows == 0 {
         return Err(PictureStop::NoPicture(NoPicture::NoPixels));
     }
-    let mut piece = match begin(alloc, samples, look) {
+    let mut piece = match begin(alloc, samples, info) {
         Ok(piece) => piece,
         Err(NoMemory) => return Err(PictureStop::NoMemory),
     };
     let image = &bytes[..bytes.len().min(data_len as usize)];
-    match write_drawing(samples, look, image, &mut piece, sink) {
+    match write_drawing(samples, info, image, &mut piece, sink) {
         Ok(()) => Ok(()),
         Err(Failed) => Err(PictureStop::WriteFault),
     }

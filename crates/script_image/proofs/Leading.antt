@@ -1,6 +1,7 @@
--- The lines of a script that was run lead to its trace.
-use Rattle.std.proofs.Common.{◌≡◌, ℕ, ◌+◌, ◌≤◌, List, [], ◌∷◌, ◌++◌, sym, subst}
+-- The lines of a script that was run lead to its trace, and what waits in its output.
+use Rattle.std.proofs.Common.{◌≡◌, ℕ, ◌+◌, ◌≤◌, List, [], ◌∷◌, ◌++◌, length, take, drop, sym, subst}
 use Rattle.std.specs.List.{AllByRecursion}
+use Rattle.std.proofs.lemmas.List.{take-append-drop}
 use Rattle.hex.specs.Hex.{encode_lower}
 use Rattle.gev_script.specs.Lines as line
 use Rattle.gev_script.specs.Lines.{ScriptLine, Config}
@@ -8,7 +9,7 @@ use Rattle.gev_script.specs.Spelling.{IsConfig}
 use Rattle.gev_script.proofs.Unspelled.{unspelled}
 use Rattle.script_runs.specs.Runs.{RunsLines, AreLines}
 use Rattle.acquisition_machine.specs.declared.config.AcqConfig.{AcqConfig}
-use Rattle.script_trace.specs.Trace.{Trace, Part, grown}
+use Rattle.script_trace.specs.Trace.{Trace, Part, grown, board}
 use Rattle.script_trace.specs.Adding.{Leads}
 use Rattle.script_trace.specs.BoardLines.{TakesBuffer}
 use Rattle.script_trace.specs.Opening.{opening}
@@ -16,9 +17,13 @@ use Rattle.script_trace.specs.Wide.{Wide, nothing_wide, Meaning, itself, wider, 
 use Rattle.script_trace.specs.Standing.{first, running, config_of, ReplayRuns}
 use Rattle.script_trace.proofs.BlockFills.{IsByOther}
 use Rattle.script_trace.proofs.Promises.{by_other, traces_keep_by}
+use Rattle.script_trace.proofs.Handing.{leads_empty, opening_empty, filled_all}
+use Rattle.script_trace.specs.Fills.{IsRetired, IsHandedSo}
+use Rattle.script_trace.specs.Laws.{KeepsPromises}
+use Rattle.acquisition_machine.proofs.Order.{all_back}
 use Rattle.board_machine.specs.Machine.{item}
-use Rattle.script_pictures.specs.Places.{IsTakenSo}
-use Rattle.script_pictures.proofs.Taken.{taken_kept}
+use Rattle.board_machine.specs.Handout.{filled, removed}
+use Rattle.board_machine.proofs.Handouts.{run_out}
 
 -- Lines of which no step is the acquisition's lead from one trace to another.
 pub record LedOn (c : AcqConfig) (t to : Trace) : Type 0 where
@@ -82,9 +87,29 @@ runs_lead c w t (l ∷ lines) text (no_feed, short, are) (mid, front, rest, runs
       some = subst (λ (k : AcqConfig). 1 ≤ k.window) (sym led.1) is.window_from;
     }
 
--- So what a `take` line gets behind lines that were run has its block's look, and its picture shows the block.
-pub taken_so : (c : AcqConfig) (w : Wide) (t : Trace) (lines : List (List ℕ)) (text : List ℕ) (moment : ℕ) (part : Part) → AreLines lines → RunsLines ReplayRuns first 0 lines text (running c w t)
-    → (takes : TakesBuffer t moment part) → IsTakenSo c t (item takes.place takes.filling)
-taken_so c w t lines text moment part are runs takes =
+-- ---- what waits in the output
+
+all_behind : {X : Type 0} (P : X → Type 0) (n : ℕ) (xs : List X) → AllByRecursion P xs → AllByRecursion P (drop n xs)
+all_behind P n xs a = all_back P (take n xs) (drop n xs) (subst (λ l. AllByRecursion P l) (sym (take-append-drop n xs)) a)
+
+-- Each was filled with a retired block, or has the empty record.
+waits_so : (c : AcqConfig) (lines : List ScriptLine) (t : Trace) → KeepsPromises c t → Leads c opening lines t → AllByRecursion (IsHandedSo c t.inputs) (board t).out
+waits_so c lines t keeps leads =
+    subst (λ xs. AllByRecursion (IsHandedSo c t.inputs) xs) (sym (run_out t.entries keeps.run))
+    (all_behind (IsHandedSo c t.inputs) (length (removed t.entries)) (filled t.entries)
+    (filled_all (IsRetired c t.inputs) t.entries (leads_empty c opening lines t leads opening_empty) keeps.blocks))
+
+-- So it is behind lines that were run.
+pub waits_run : (c : AcqConfig) (w : Wide) (t : Trace) (lines : List (List ℕ)) (text : List ℕ) → AreLines lines → RunsLines ReplayRuns first 0 lines text (running c w t)
+    → AllByRecursion (IsHandedSo c t.inputs) (board t).out
+waits_run c w t lines text are runs =
     let led = runs_lead c w t lines text are runs in
-    taken_kept c led.led.lines t moment part led.some (traces_keep_by c led.led.lines t led.some led.led.are led.led.leads) led.led.leads takes
+    let keeps = traces_keep_by c led.led.lines t led.some led.led.are led.led.leads in
+    waits_so c led.led.lines t keeps led.led.leads
+
+-- What a `take` line gets is the first of it.
+pub taken_so : (c : AcqConfig) (w : Wide) (t : Trace) (lines : List (List ℕ)) (text : List ℕ) (moment : ℕ) (part : Part) → AreLines lines → RunsLines ReplayRuns first 0 lines text (running c w t)
+    → (takes : TakesBuffer t moment part) → IsHandedSo c t.inputs (item takes.place takes.filling)
+taken_so c w t lines text moment part are runs takes =
+    let all = subst (λ xs. AllByRecursion (IsHandedSo c t.inputs) xs) takes.first (waits_run c w t lines text are runs) in
+    all.0

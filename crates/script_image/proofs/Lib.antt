@@ -1,11 +1,11 @@
-pub mod Looping
 pub mod Finding
 pub mod Leading
 pub mod Drawn
-pub mod Ending
-pub mod Exact
 pub mod Going
 pub mod Passing
 pub mod Stepping
-pub mod Finished
+pub mod Shows
+pub mod Coming
+pub mod Looping
+pub mod Exact
 pub mod Promised

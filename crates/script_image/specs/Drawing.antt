@@ -1,15 +1,13 @@
 -- What was drawn of a buffer that was taken, by the answer.
-use Rattle.std.specs.Prelude.{◌≡◌, ℕ, List, Option, Some, None, Result, Ok, Err, if◌then◌else◌}
+use Rattle.std.specs.Prelude.{◌≡◌, ℕ, List, Option, Some, Result, Ok, Err}
 use Rattle.gev_types.specs.Filling.{Filling}
 use Rattle.gev_links.specs.Faults.{Rose}
-use Rattle.board_machine.specs.Machine.{item}
 use Rattle.board_model.specs.Plain.{PlainState, content_at}
-use Rattle.frame_pictures.specs.declared.look.Look.{Look}
 use Rattle.frame_pictures.specs.declared.no_picture.NoPicture.{NoPicture}
+use Rattle.frame_pictures.specs.Pictures.{picture_of}
 use Rattle.picture_report.specs.Writing.{Draws, DrawsFront}
 use Rattle.picture_report.specs.declared.stop.PictureStop.{PictureStop}
 use Rattle.picture_report.specs.declared.stop.PictureStop.TheVariants as stops
-use Rattle.script_pictures.specs.Laws.{item_picture}
 use Rattle.script_image.specs.declared.image_end.ImageEnd.{ImageEnd}
 use Rattle.script_image.specs.declared.image_end.ImageEnd.TheVariants as ends
 
@@ -29,8 +27,8 @@ end_by (Err (stops.NoPicture why)) = ends.NoPicture why
 end_by (Err stops.WriteFault) = ends.WriteFault
 end_by (Err stops.NoMemory) = ends.NoMemory
 
--- The buffer at this place was drawn, with the look that its place has, where its record says that a leader was kept.
-pub record DrawsThere (end : ImageEnd) (s : PlainState) (there : Option Look) (place : ℕ) (written written_after : Option (List ℕ)) (writes writes_after : ℕ) : Type 0 where
+-- The buffer at this place was drawn.
+pub record DrawsThere (end : ImageEnd) (s : PlainState) (place : ℕ) (written written_after : Option (List ℕ)) (writes writes_after : ℕ) : Type 0 where
   pub filling : Filling
   pub lies : content_at s place ≡ Some filling
-  pub drawn : DrawsTo end (item_picture (item place filling) (if filling.rec.has_leader then there else None)) written written_after writes writes_after
+  pub drawn : DrawsTo end (picture_of filling) written written_after writes writes_after

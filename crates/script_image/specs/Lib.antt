@@ -1,10 +1,8 @@
 pub mod Taking
 pub mod Ends
-pub mod Stopping
 pub mod Found
 pub mod Drawing
 pub mod Lines
-pub mod Imaging
-pub mod Finishing
+pub mod Showing
 pub mod Steps
 pub mod Laws

@@ -1,40 +1,36 @@
-//! A line behind the first, with the looks of the blocks that retire.
+//! A line behind the first.
 
-ghost use Rattle.std.specs.Prelude.{◌≡◌, ◌≤◌, ℕ, List, Option, [], length, Ok, MatchResult};
-ghost use Rattle.frame_pictures.specs.declared.look.Look.{Look};
-ghost use Rattle.gev_script.specs.Lines.{ScriptLine};
-ghost use Rattle.gev_script.specs.Grammar.{line_of};
+ghost use Rattle.std.specs.Prelude.{◌≡◌, ◌≤◌, [], length, IfOk, MatchResult};
+ghost use Rattle.gev_script.specs.Lines.{view};
 ghost use Rattle.script_runs.specs.Runs.{IfRefused};
-ghost use Rattle.script_replay.specs.Replays.{IsReplaying, RefusedBy};
-ghost use Rattle.script_image.specs.Lines.{IsQuiet, CameBy, came_of};
+ghost use Rattle.script_replay.specs.Replays.{IsReplaying, IsLaterIn, RefusedBy};
+ghost use Rattle.script_image.specs.Lines.{IsNoTake, CameAs, CameBy, came_of};
 
 use crate::came::Came;
 use crate::taking::take;
 use gev_script::{Line, ScriptKind, first_name, parse_line};
-use picture_lines::{Looks, datagram, stop, tick};
-use script_replay::{DatagramRooms, Script, is_out_of_place, later_line};
+use gev_types::NoMemory;
+use script_replay::{DatagramRooms, ROOM, Script, is_out_of_place, run_said};
 use script_runs::{Ran, Stop};
 use std::alloc::Global;
 
-/// Runs a line by which no block retires and no buffer is taken, and adds its report to the empty `out`.
-fn quiet_line(
+/// Runs what a line other than `take` says, and adds its report to the empty `out`.
+fn run_other(
     alloc: Global,
     script: &mut Script,
     rooms: &mut DatagramRooms,
-    line: &[u8],
+    says: Line<'_>,
     out: &mut Vec<u8>,
-) -> Result<Came, Stop>
+) -> Result<Came, NoMemory>
     requires keeps { IsReplaying script.old.running }
-    requires short { length line.now ≤ 20000 }
+    requires run { IsLaterIn ROOM (view says) }
     requires empty { out.old.items ≡ [] }
-    requires quiet { (l : ScriptLine) → line_of line.now ≡ Ok l → IsQuiet l }
-    ensures { (places : List (Option Look)) → MatchResult result (λ came. CameBy came line.now script.old places script.new places)
-        (λ stop. IfRefused stop (λ kind. RefusedBy line.now kind script.old script.new)) }
+    requires other { IsNoTake (view says) }
+    ensures { IfOk result (λ came. CameAs came (view says.entry) script.old script.new) }
 {
-    match later_line(alloc, script, rooms, line, out) {
-        Ok(Ran::GoesOn) => Ok(Came::On),
-        Ok(Ran::Ended) => Ok(Came::End),
-        Err(stop) => Err(stop),
+    match run_said(alloc, script, rooms, says, out)? {
+        Ran::GoesOn => Ok(Came::On),
+        Ran::Ended => Ok(Came::End),
     }
 }
 
@@ -53,7 +49,6 @@ fn came_of(got: Option<u8>) -> Came
 pub(crate) fn run_later(
     alloc: Global,
     script: &mut Script,
-    looks: &mut Looks,
     rooms: &mut DatagramRooms,
     line: &[u8],
     out: &mut Vec<u8>,
@@ -61,7 +56,7 @@ pub(crate) fn run_later(
     requires keeps { IsReplaying script.old.running }
     requires short { length line.now ≤ 20000 }
     requires empty { out.old.items ≡ [] }
-    ensures { MatchResult result (λ came. CameBy came line.now script.old looks.old script.new looks.new)
+    ensures { MatchResult result (λ came. CameBy came line.now script.old script.new)
         (λ stop. IfRefused stop (λ kind. RefusedBy line.now kind script.old script.new)) }
 {
     if is_out_of_place(first_name(line)) {
@@ -69,19 +64,10 @@ pub(crate) fn run_later(
     }
     match parse_line(line) {
         Err(kind) => Err(Stop::Refused(kind)),
-        Ok(Line::Datagram { hex }) => {
-            datagram(script, hex, rooms, looks);
-            Ok(Came::On)
-        }
-        Ok(Line::Tick { moment }) => {
-            tick(script, moment, looks);
-            Ok(Came::On)
-        }
-        Ok(Line::Stop { flags }) => {
-            stop(script, flags, looks);
-            Ok(Came::On)
-        }
         Ok(Line::Take) => Ok(came_of(take(script))),
-        Ok(_other) => quiet_line(alloc, script, rooms, line, out),
+        Ok(says) => match run_other(alloc, script, rooms, says, out) {
+            Ok(came) => Ok(came),
+            Err(NoMemory) => Err(Stop::NoMemory),
+        },
     }
 }

@@ -1,106 +1,113 @@
-//! The loop that runs lines up to an end, and writes nothing.
+//! The loop over the lines.
 
-ghost use Rattle.std.specs.Prelude.{◌≡◌, ◌≢◌, [], None, Some};
-ghost use Rattle.script_image.specs.Stopping.{Turn, RunStops, end_of};
+ghost use Rattle.std.specs.Prelude.{◌≡◌, ◌≢◌, ◌≤◌, ℕ, List, Option, [], None, Some};
+ghost use Rattle.gev_links.specs.Told.{Appends};
+ghost use Rattle.script_image.specs.declared.wanted.Wanted.{Wanted};
+ghost use Rattle.script_image.specs.Taking.{Taking, beginning};
+ghost use Rattle.script_image.specs.Ends.{ImageEnds};
+ghost use Rattle.script_image.specs.Showing.{IsShowing, IsShowingSome, WaitsSo, Turn, unread_end};
 
-use crate::lines_end::LinesEnd;
-use gev_links::Source;
+use crate::image_end::ImageEnd;
+use crate::showing::{Showing, show_line};
+use gev_links::{Sink, Source};
 use gev_script::{LineEnd, Lines, ScriptKind};
 use gev_types::NoMemory;
-use script_runs::{Machine, Ran, Stop};
 use std::alloc::Global;
 
 /// The end of a script whose next line can't be read, after `given` others.
-fn end_of(given: u32, end: LineEnd) -> LinesEnd
-    ensures { result ≡ end_of given end }
+fn unread_end(given: u32, end: LineEnd) -> ImageEnd
+    ensures { result ≡ unread_end given end }
 {
     let line = u64::from(given) + 1;
     match end {
-        LineEnd::Long => LinesEnd::BadLine {
+        LineEnd::Long => ImageEnd::BadLine {
             line,
             kind: ScriptKind::Long,
         },
-        LineEnd::NoEnd => LinesEnd::BadLine {
+        LineEnd::NoEnd => ImageEnd::BadLine {
             line,
             kind: ScriptKind::NoEnd,
         },
-        LineEnd::Many => LinesEnd::BadLine {
+        LineEnd::Many => ImageEnd::BadLine {
             line,
             kind: ScriptKind::Many,
         },
-        LineEnd::ReadFault => LinesEnd::ReadFault,
+        LineEnd::ReadFault => ImageEnd::ReadFault,
     }
 }
 
-/// Takes one line and runs it, and answers the end, if the script doesn't go on. The line's report is let go.
-fn run_next<S: Source, M: Machine>(
+/// Takes one line, runs it and shows what it gets, and answers the end, if the script doesn't go on.
+fn run_next<S: Source, K: Sink>(
     alloc: Global,
     source: &mut S,
-    machine: &mut M,
+    sink: &mut K,
+    showing: &mut Showing,
     lines: &mut Lines,
     report: &mut Vec<u8>,
-) -> Option<LinesEnd>
-    requires { lines.old.refusal ≡ None }
-    ensures turn { Turn M.runs M.refuses result machine.old machine.new lines.old lines.new
-        (S.left source.old) (S.left source.new) (S.faults source.old) (S.faults source.new) }
-    ensures steady { result ≢ Some LinesEnd.ReadFault → S.faults source.new ≡ S.faults source.old }
+) -> Option<ImageEnd>
+    requires refusal { lines.old.refusal ≡ None }
+    requires stands { IsShowingSome showing.old }
+    ensures turn { (w : Wanted) (shown : List ℕ) (s : Taking) (begun : Option (List ℕ)) → IsShowing w shown showing.old s → WaitsSo s.standing
+        → Appends begun (K.written sink.old) shown
+        → Turn w result shown s showing.new lines.old lines.new (S.left source.old) (S.left source.new) (S.faults source.old) (S.faults source.new)
+        begun (K.written sink.old) (K.written sink.new) (K.faults sink.old) (K.faults sink.new) }
+    ensures reads_steady { result ≢ Some ImageEnd.ReadFault → S.faults source.new ≡ S.faults source.old }
+    ensures writes_steady { result ≢ Some ImageEnd.WriteFault → K.faults sink.new ≡ K.faults sink.old }
 {
     let number = match lines.next(source) {
         Ok(number) => number,
-        Err(end) => return Some(end_of(lines.given(), end)),
+        Err(end) => return Some(unread_end(lines.given(), end)),
     };
     report.clear();
-    match machine.run_line(alloc, number, lines.line(), report) {
-        Ok(Ran::GoesOn) => None,
-        Ok(Ran::Ended) => Some(LinesEnd::Last),
-        Err(Stop::Refused(kind)) => Some(LinesEnd::BadLine {
-            line: u64::from(number),
-            kind,
-        }),
-        Err(Stop::NoMemory) => Some(LinesEnd::NoMemory),
-    }
+    show_line(alloc, showing, number, lines.line(), report, sink)
 }
 
 /// Runs the lines that are left, up to an end.
-fn run_lines<S: Source, M: Machine>(
+fn run_lines<S: Source, K: Sink>(
     alloc: Global,
     source: &mut S,
-    machine: &mut M,
+    sink: &mut K,
+    showing: &mut Showing,
     lines: &mut Lines,
     report: &mut Vec<u8>,
-) -> LinesEnd
+) -> ImageEnd
     requires refusal { lines.old.refusal ≡ None }
     requires given { lines.old.given ≡ 0 }
     requires held { lines.old.held ≡ [] }
-    ensures stops { RunStops M.runs M.refuses machine.old machine.new result
-        (S.left source.old) (S.left source.new) (S.faults source.old) (S.faults source.new) }
-    ensures steady { result ≢ LinesEnd.ReadFault → S.faults source.new ≡ S.faults source.old }
+    requires stands { IsShowing showing.old.wanted [] showing.old beginning }
+    ensures ends { ImageEnds showing.old.wanted result (S.left source.old) (S.left source.new) (S.faults source.old) (S.faults source.new)
+        (K.written sink.old) (K.written sink.new) (K.faults sink.old) (K.faults sink.new) }
+    ensures reads_steady { result ≢ ImageEnd.ReadFault → S.faults source.new ≡ S.faults source.old }
+    ensures writes_steady { result ≢ ImageEnd.WriteFault → K.faults sink.new ≡ K.faults sink.old }
 {
     'turns: loop {
-        match run_next(alloc, source, machine, lines, report) {
+        match run_next(alloc, source, sink, showing, lines, report) {
             Some(end) => return end,
             None => continue 'turns,
         }
     }
 }
 
-/// Runs the lines that the source gives up to an end, and leaves the machine as the last line left it. The source is
-/// read only where no whole line is held.
-#[tactic(auto, using(crate::proofs::Looping::stops_none))]
-pub(crate) fn run_to_end<S: Source, M: Machine>(
+/// Runs the lines that the source gives up to an end, and writes what is shown of them. The source is read only where
+/// no whole line is held.
+#[tactic(auto, using(crate::proofs::Looping::image_begun))]
+pub(crate) fn run_to_end<S: Source, K: Sink>(
     alloc: Global,
     source: &mut S,
-    machine: &mut M,
-) -> LinesEnd
-    ensures stops { RunStops M.runs M.refuses machine.old machine.new result
-        (S.left source.old) (S.left source.new) (S.faults source.old) (S.faults source.new) }
-    ensures steady { result ≢ LinesEnd.ReadFault → S.faults source.new ≡ S.faults source.old }
+    sink: &mut K,
+    showing: &mut Showing,
+) -> ImageEnd
+    requires stands { IsShowing showing.old.wanted [] showing.old beginning }
+    ensures ends { ImageEnds showing.old.wanted result (S.left source.old) (S.left source.new) (S.faults source.old) (S.faults source.new)
+        (K.written sink.old) (K.written sink.new) (K.faults sink.old) (K.faults sink.new) }
+    ensures reads_steady { result ≢ ImageEnd.ReadFault → S.faults source.new ≡ S.faults source.old }
+    ensures writes_steady { result ≢ ImageEnd.WriteFault → K.faults sink.new ≡ K.faults sink.old }
 {
     match Lines::new(alloc) {
         Ok(mut lines) => {
             let mut report = Vec::new(alloc);
-            run_lines(alloc, source, machine, &mut lines, &mut report)
+            run_lines(alloc, source, sink, showing, &mut lines, &mut report)
         }
-        Err(NoMemory) => LinesEnd::NoMemory,
+        Err(NoMemory) => ImageEnd::NoMemory,
     }
 }

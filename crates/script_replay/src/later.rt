@@ -69,8 +69,9 @@ fn add_end(alloc: Global, script: &Script, out: &mut Vec<u8>) -> Result<(), NoMe
     line_end(alloc, &all, out)
 }
 
-/// Runs what a line says, and adds its report to the empty `out`.
-fn run_said(
+/// Runs what a line behind the first says, and adds its report to the empty `out`. The line may be parsed by the caller,
+/// who then knows what it says.
+pub fn run_said(
     alloc: Global,
     script: &mut Script,
     rooms: &mut DatagramRooms,

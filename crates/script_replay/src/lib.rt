@@ -34,7 +34,7 @@ pub use datagram_rooms::{DatagramRooms, ROOM, WIDE_ROOM};
 pub use fill_counts::FillCounts;
 pub use got::Got;
 pub use hex_digits::decode;
-pub use later::{is_out_of_place, later_line};
+pub use later::{is_out_of_place, later_line, run_said};
 pub use replay::Replay;
 pub use retired::{fill_one, fill_retired, give_claimed};
 pub use running::Running;
