@@ -28,8 +28,9 @@ fn laws_can_be_called(_rt: HostRuntime) {
     block_assembly::packet_ids_are_those();
     frame_pictures::laws::pixels_are_as_wide_as_their_format();
     frame_pictures::laws::plain_frames_are_their_pixels();
-    frame_pictures::laws::complete_pictures_show_frames();
-    frame_pictures::laws::pictures_show_what_came();
+    frame_pictures::laws::pictures_are_their_pixels();
+    frame_pictures::laws::held_frames_are_shown();
+    frame_pictures::laws::bytes_in_place_are_shown();
     frame_pictures::laws::pictures_are_worked();
     acquisition_machine::runs_are_joined();
     acquisition_machine::steps_keep_order();

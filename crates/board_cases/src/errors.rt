@@ -61,6 +61,7 @@ pub fn record_info(words: &[&str]) -> Option<Answer> {
         has_leader: true,
         data_len: filled,
         filled,
+        image: None,
     };
     Some(Answer::value(loan_info(record, long(words, 5)?)))
 }

@@ -16,5 +16,6 @@ pub fn write_image(buf: &mut Buf, block: u8)
         has_leader: false,
         data_len: 0,
         filled: 0,
+        image: None,
     });
 }

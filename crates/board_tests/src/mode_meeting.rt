@@ -41,6 +41,7 @@ fn fill_block<R: Wait>(rt: &R, board: &Board, pass: &mut Pass, block: u64, did: 
         has_leader: false,
         data_len: 0,
         filled: 0,
+        image: None,
     });
     let (end, dropped) = fill_for(rt, board, pass, mode, place, buf);
     match end {

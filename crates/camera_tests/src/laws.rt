@@ -48,9 +48,11 @@ fn laws_can_be_called() {
     camera_trace::lines_are_events();
     camera_trace::reports_are_told();
     camera_trace::scripts_are_worked();
+    camera_trace::scripts_tell();
     client_machine::numbers_are_the_defined_ones();
     client_machine::the_setup_may_be_submitted();
     client_machine::a_client_is_new_until_a_submission();
+    client_machine::a_client_keeps_its_limit();
     client_machine::no_answer_comes_after_three_sends();
     client_machine::outcomes_that_end_a_command_are_exact();
     control_session::commands_act_once();

@@ -18,6 +18,8 @@ use Rattle.capture_script.specs.Script.{capture_script, begun_script}
 use Rattle.gev_top.specs.Capturing.{IfCaptured}
 use Rattle.gev_top.specs.Explained.{Explains}
 use Rattle.gev_top.specs.Imaging.{Images}
+use Rattle.script_image.specs.declared.wanted.Wanted.{Wanted}
+use Rattle.script_image.specs.declared.wanted.Wanted.TheVariants.{One, All}
 use Rattle.gev_top.specs.Usage.{Said}
 use Rattle.gev_top.specs.Answers.{Replays, Serves, Writes, Answers, IsDecided}
 use Rattle.gev_top.specs.Completeness.{NoneRose, EndsScript, EndsImage, EndsCapture, EndsText, EndsWorld, IsComplete, Completes}
@@ -52,14 +54,16 @@ explained (TurnsSpent turns frames) left left_after reads reads_after written wr
 explained (BadCapture number kind) left left_after reads reads_after written written_after writes writes_after h none none_written = h
 explained (NoPicture why) left left_after reads reads_after written written_after writes writes_after h none none_written = h
 
-shown : (wanted : ℕ) (status : Status) (left left_after : Option (List ℕ)) (reads reads_after : ℕ) (written written_after : Option (List ℕ)) (writes writes_after : ℕ)
+shown : (wanted : Wanted) (status : Status) (left left_after : Option (List ℕ)) (reads reads_after : ℕ) (written written_after : Option (List ℕ)) (writes writes_after : ℕ)
     → Images wanted status left left_after reads reads_after written written_after writes writes_after → NoneRose reads reads_after → NoneRose writes writes_after → EndsImage status
 shown wanted Done left left_after reads reads_after written written_after writes writes_after h none none_written = tt
 shown wanted (NoPicture why) left left_after reads reads_after written written_after writes writes_after h none none_written = tt
 shown wanted (BadScript line kind) left left_after reads reads_after written written_after writes writes_after h none none_written = tt
 shown wanted NoMemory left left_after reads reads_after written written_after writes writes_after h none none_written = tt
-shown wanted ReadFault left left_after reads reads_after written written_after writes writes_after h none none_written = none h.holds.ends.0
-shown wanted WriteFault left left_after reads reads_after written written_after writes writes_after h none none_written = none_written h.holds.ends.0
+shown (One k) ReadFault left left_after reads reads_after written written_after writes writes_after h none none_written = none h.holds.ends.0
+shown All ReadFault left left_after reads reads_after written written_after writes writes_after h none none_written = none h.holds.0
+shown (One k) WriteFault left left_after reads reads_after written written_after writes writes_after h none none_written = none_written h.holds.ends.0
+shown All WriteFault left left_after reads reads_after written written_after writes writes_after h none none_written = none_written h.holds.0
 shown wanted (Usage place) left left_after reads reads_after written written_after writes writes_after h none none_written = h
 shown wanted (NoAnswer req) left left_after reads reads_after written written_after writes writes_after h none none_written = h
 shown wanted (Refused status) left left_after reads reads_after written written_after writes writes_after h none none_written = h

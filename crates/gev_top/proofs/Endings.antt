@@ -13,20 +13,20 @@ use Rattle.gev_status.specs.declared.status.Status.TheVariants as statuses
 use Rattle.gev_top.specs.Scripts.{RunsWell, Ends, IfEnded, status_of, AnswersContent}
 use Rattle.gev_top.proofs.Keeping.{IsKept, lines_well, last_well}
 
-ends_at_well : {M : Type 0} (moves : Running M) (refuses : Refusing M) (Keeps : M → Type 0) (Says : List ℕ → M → Type 0) (first : M) → IsKept moves Keeps Says first
+ends_at_well : {M : Type 0} (moves more : Running M) (refuses : Refusing M) (Keeps : M → Type 0) (Says : List ℕ → M → Type 0) (first : M) → IsKept moves more Keeps Says first
     → (lines : List (List ℕ)) (text : List ℕ) (now : M) (rest : List ℕ) (ending : Ending) (left : Option (List ℕ)) (a b c d : ℕ) (Wrote : List ℕ → Type 0) → AreLines lines → RunsLines moves first 0 lines text now
-    → EndsAt moves refuses now (length lines) rest ending left a b c d Wrote → EndsAt (RunsWell moves Keeps) refuses now (length lines) rest ending left a b c d Wrote
-ends_at_well moves refuses Keeps Says first kept lines text now rest endings.Done left a b c d Wrote are led h = last_well moves Keeps Says first kept lines text now Ended rest Wrote are led h
-ends_at_well moves refuses Keeps Says first kept lines text now rest (endings.BadLine line kind) left a b c d Wrote are led h = h
-ends_at_well moves refuses Keeps Says first kept lines text now rest endings.ReadFault left a b c d Wrote are led h = h
-ends_at_well moves refuses Keeps Says first kept lines text now rest endings.WriteFault left a b c d Wrote are led h = (h.0, (h.1.0, last_well moves Keeps Says first kept lines text now h.1.0 rest _ are led h.1.1))
-ends_at_well moves refuses Keeps Says first kept lines text now rest endings.NoMemory left a b c d Wrote are led h = h
+    → EndsAt moves refuses now (length lines) rest ending left a b c d Wrote → EndsAt (RunsWell more Keeps) refuses now (length lines) rest ending left a b c d Wrote
+ends_at_well moves more refuses Keeps Says first kept lines text now rest endings.Done left a b c d Wrote are led h = last_well moves more Keeps Says first kept lines text now Ended rest Wrote are led h
+ends_at_well moves more refuses Keeps Says first kept lines text now rest (endings.BadLine line kind) left a b c d Wrote are led h = h
+ends_at_well moves more refuses Keeps Says first kept lines text now rest endings.ReadFault left a b c d Wrote are led h = h
+ends_at_well moves more refuses Keeps Says first kept lines text now rest endings.WriteFault left a b c d Wrote are led h = (h.0, (h.1.0, last_well moves more Keeps Says first kept lines text now h.1.0 rest _ are led h.1.1))
+ends_at_well moves more refuses Keeps Says first kept lines text now rest endings.NoMemory left a b c d Wrote are led h = h
 
-pub ends_well : {M : Type 0} (moves : Running M) (refuses : Refusing M) (Keeps : M → Type 0) (Says : List ℕ → M → Type 0) (first : M) → IsKept moves Keeps Says first
+pub ends_well : {M : Type 0} (moves more : Running M) (refuses : Refusing M) (Keeps : M → Type 0) (Says : List ℕ → M → Type 0) (first : M) → IsKept moves more Keeps Says first
     → (ending : Ending) (left left_after : Option (List ℕ)) (reads reads_after : ℕ) (written written_after : Option (List ℕ)) (writes writes_after : ℕ)
     → RunEnds moves refuses first ending left left_after reads reads_after written written_after writes writes_after
-    → Ends moves refuses Keeps Says first ending left left_after reads reads_after written written_after writes writes_after
-ends_well moves refuses Keeps Says first kept ending left left_after reads reads_after written written_after writes writes_after h = record {
+    → Ends more refuses Keeps Says first ending left left_after reads reads_after written written_after writes writes_after
+ends_well moves more refuses Keeps Says first kept ending left left_after reads reads_after written written_after writes writes_after h = record {
   now = h.now;
   lines = h.lines;
   rest = h.rest;
@@ -35,11 +35,11 @@ ends_well moves refuses Keeps Says first kept ending left left_after reads reads
   are = h.are;
   counted = h.counted;
   few = h.few;
-  ran = lines_well moves Keeps Says first kept h.lines h.text h.now h.are h.ran;
+  ran = lines_well moves more Keeps Says first kept h.lines h.text h.now h.are h.ran;
   holds = record {
     keeps = kept.so_far h.lines h.text h.now h.are h.ran;
     said = kept.said h.lines h.text h.now h.ran;
-    ends = ends_at_well moves refuses Keeps Says first kept h.lines h.text h.now h.rest ending left_after reads reads_after writes writes_after _ h.are h.ran h.holds;
+    ends = ends_at_well moves more refuses Keeps Says first kept h.lines h.text h.now h.rest ending left_after reads reads_after writes writes_after _ h.are h.ran h.holds;
   };
 }
 
@@ -88,10 +88,10 @@ run_unbegun moves refuses first left reads written writes = record {
   holds = appends_none written;
 }
 
-pub unbegun : {M : Type 0} (moves : Running M) (refuses : Refusing M) (Keeps : M → Type 0) (Says : List ℕ → M → Type 0) (first : M) → IsKept moves Keeps Says first
-    → (left : Option (List ℕ)) (reads : ℕ) (written : Option (List ℕ)) (writes : ℕ) → Ends moves refuses Keeps Says first endings.NoMemory left left reads reads written written writes writes
-unbegun moves refuses Keeps Says first kept left reads written writes =
-    ends_well moves refuses Keeps Says first kept endings.NoMemory left left reads reads written written writes writes (run_unbegun moves refuses first left reads written writes)
+pub unbegun : {M : Type 0} (moves more : Running M) (refuses : Refusing M) (Keeps : M → Type 0) (Says : List ℕ → M → Type 0) (first : M) → IsKept moves more Keeps Says first
+    → (left : Option (List ℕ)) (reads : ℕ) (written : Option (List ℕ)) (writes : ℕ) → Ends more refuses Keeps Says first endings.NoMemory left left reads reads written written writes writes
+unbegun moves more refuses Keeps Says first kept left reads written writes =
+    ends_well moves more refuses Keeps Says first kept endings.NoMemory left left reads reads written written writes writes (run_unbegun moves refuses first left reads written writes)
 
 answers : (ending : Ending) (found : Outcome) → runs.AnswersContent ending found → AnswersContent (status_of ending) found
 answers endings.Done whole h = h

@@ -95,8 +95,12 @@ said lines text new ran =
     let h : HoldsReport lines text new = explanations_hold_reports.so_far lines text new ran in
     record { said = h.said; leaves = h.leaves; has = runs_keep.said lines h.said new.standing h.replays }
 
-explain_kept : IsKept ExplainRuns StandsExplained HasTold untold
-explain_kept = record { so_far = so_far; last = last; said = said }
+explain_kept : IsKept ExplainRuns ExplainRuns StandsExplained HasTold untold
+explain_kept = record {
+  so_far = so_far;
+  last = λ lines text line report ran now new are short led one. record { runs = one; keeps = last lines text line report ran now new are short led one };
+  said = said;
+}
 
 -- ---- runs
 
@@ -124,7 +128,7 @@ ends_explained ending left left_after reads reads_after written written_after wr
       says = λ text m says. says;
     })
     ExplainRefuses untold ending left left_after reads reads_after written written_after writes writes_after
-    (ends_well ExplainRuns ExplainRefuses StandsExplained HasTold untold explain_kept ending left left_after reads reads_after written written_after writes writes_after h))
+    (ends_well ExplainRuns ExplainRuns ExplainRefuses StandsExplained HasTold untold explain_kept ending left left_after reads reads_after written written_after writes writes_after h))
 
 pub explains : (status : Status) (left left_after : Option (List ℕ)) (reads reads_after : ℕ) (written written_after : Option (List ℕ)) (writes writes_after : ℕ)
     → IfEnded (λ ending. RunEnds ExplainRuns ExplainRefuses untold ending left left_after reads reads_after written written_after writes writes_after) status

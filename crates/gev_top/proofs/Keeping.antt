@@ -6,15 +6,15 @@ use Rattle.script_runs.specs.Runs.{Running, RunsLines, AreLines}
 use Rattle.script_runs.specs.Outcomes.{RunsLast}
 use Rattle.gev_top.specs.Scripts.{RunsWell}
 
--- However far a script was run from its start, with the last line that was run too, it stands well; and its
--- report is what its state says.
-pub record IsKept {M : Type 0} (runs : Running M) (Keeps : M → Type 0) (Says : List ℕ → M → Type 0) (first : M) : Type 0 where
+-- However far a script was run from its start, with the last line that was run too, it stands well, and so much is said of
+-- that line; and its report is what its state says.
+pub record IsKept {M : Type 0} (runs more : Running M) (Keeps : M → Type 0) (Says : List ℕ → M → Type 0) (first : M) : Type 0 where
   pub so_far :
       (lines : List (List ℕ)) (text : List ℕ) (new : M) → AreLines lines
       → RunsLines runs first 0 lines text new → Keeps new
   pub last :
       (lines : List (List ℕ)) (text line report : List ℕ) (ran : Ran) (now new : M) → AreLines lines → length line ≤ 20000
-      → RunsLines runs first 0 lines text now → runs now (length lines + 1) line ran report new → Keeps new
+      → RunsLines runs first 0 lines text now → runs now (length lines + 1) line ran report new → RunsWell more Keeps now (length lines + 1) line ran report new
   pub said :
       (lines : List (List ℕ)) (text : List ℕ) (new : M)
       → RunsLines runs first 0 lines text new → Says text new
@@ -39,38 +39,38 @@ length_more [] line = refl
 length_more (l ∷ lines) line = let h : length (lines ++ line ∷ []) ≡ length lines + 1 = length_more lines line in omega (arith, h)
 
 -- The lines before lead from the start to m, and so the others are run well from there.
-well_from : {M : Type 0} (runs : Running M) (Keeps : M → Type 0) (Says : List ℕ → M → Type 0) (first : M) → IsKept runs Keeps Says first
+well_from : {M : Type 0} (runs more : Running M) (Keeps : M → Type 0) (Says : List ℕ → M → Type 0) (first : M) → IsKept runs more Keeps Says first
     → (before : List (List ℕ)) (said : List ℕ) (m : M) → AreLines before → RunsLines runs first 0 before said m
-    → (n : ℕ) → length before ≡ n → (lines : List (List ℕ)) (text : List ℕ) (new : M) → AreLines lines → RunsLines runs m n lines text new → RunsLines (RunsWell runs Keeps) m n lines text new
-well_from runs Keeps Says first kept before said m are led n at [] text new more run = run
-well_from runs Keeps Says first kept before said m are led n at (line ∷ lines) text new (no_feed, short, more) (mid, front, rest, one, later, parts) =
+    → (n : ℕ) → length before ≡ n → (lines : List (List ℕ)) (text : List ℕ) (new : M) → AreLines lines → RunsLines runs m n lines text new → RunsLines (RunsWell more Keeps) m n lines text new
+well_from runs more Keeps Says first kept before said m are led n at [] text new rest_are run = run
+well_from runs more Keeps Says first kept before said m are led n at (line ∷ lines) text new (no_feed, short, rest_are) (mid, front, rest, one, later, parts) =
     let here : runs m (length before + 1) line GoesOn front mid = subst (λ k. runs m (k + 1) line GoesOn front mid) (sym at) one in
-    let keeps : Keeps mid = kept.last before said line front GoesOn m mid are short led here in
+    let well : RunsWell more Keeps m (length before + 1) line GoesOn front mid = kept.last before said line front GoesOn m mid are short led here in
     let from : 0 + length before + 1 ≡ length before + 1 = omega arith in
     let led_more : RunsLines runs first 0 (before ++ line ∷ []) (said ++ front) mid = lines_more runs first m mid 0 (length before + 1) before said line front from led here in
     let at_more : length (before ++ line ∷ []) ≡ n + 1 = length_more before line ∙ ap (λ k. k + 1) at in (
       mid,
       front,
       rest,
-      record { runs = one; keeps = keeps },
-      well_from runs Keeps Says first kept (before ++ line ∷ []) (said ++ front) mid (are_more before line are (no_feed, short, tt)) led_more (n + 1) at_more lines rest new more later,
+      subst (λ k. RunsWell more Keeps m (k + 1) line GoesOn front mid) at well,
+      well_from runs more Keeps Says first kept (before ++ line ∷ []) (said ++ front) mid (are_more before line are (no_feed, short, tt)) led_more (n + 1) at_more lines rest new rest_are later,
       parts,
     )
 
-pub lines_well : {M : Type 0} (runs : Running M) (Keeps : M → Type 0) (Says : List ℕ → M → Type 0) (first : M) → IsKept runs Keeps Says first
-    → (lines : List (List ℕ)) (text : List ℕ) (new : M) → AreLines lines → RunsLines runs first 0 lines text new → RunsLines (RunsWell runs Keeps) first 0 lines text new
-lines_well runs Keeps Says first kept lines text new are run = well_from runs Keeps Says first kept [] [] first tt (refl, refl) 0 refl lines text new are run
+pub lines_well : {M : Type 0} (runs more : Running M) (Keeps : M → Type 0) (Says : List ℕ → M → Type 0) (first : M) → IsKept runs more Keeps Says first
+    → (lines : List (List ℕ)) (text : List ℕ) (new : M) → AreLines lines → RunsLines runs first 0 lines text new → RunsLines (RunsWell more Keeps) first 0 lines text new
+lines_well runs more Keeps Says first kept lines text new are run = well_from runs more Keeps Says first kept [] [] first tt (refl, refl) 0 refl lines text new are run
 
-pub last_well : {M : Type 0} (runs : Running M) (Keeps : M → Type 0) (Says : List ℕ → M → Type 0) (first : M) → IsKept runs Keeps Says first
+pub last_well : {M : Type 0} (runs more : Running M) (Keeps : M → Type 0) (Says : List ℕ → M → Type 0) (first : M) → IsKept runs more Keeps Says first
     → (lines : List (List ℕ)) (text : List ℕ) (now : M) (ran : Ran) (rest : List ℕ) (P : List ℕ → Type 0) → AreLines lines
-    → RunsLines runs first 0 lines text now → RunsLast runs now (length lines) ran rest P → RunsLast (RunsWell runs Keeps) now (length lines) ran rest P
-last_well runs Keeps Says first kept lines text now ran rest P are led h = record {
+    → RunsLines runs first 0 lines text now → RunsLast runs now (length lines) ran rest P → RunsLast (RunsWell more Keeps) now (length lines) ran rest P
+last_well runs more Keeps Says first kept lines text now ran rest P are led h = record {
   line = h.line;
   held = h.held;
   final = h.final;
   report = h.report;
   is_line = h.is_line;
   counted = h.counted;
-  run = record { runs = h.run; keeps = kept.last lines text h.line h.report ran now h.final are h.is_line.short led h.run };
+  run = kept.last lines text h.line h.report ran now h.final are h.is_line.short led h.run;
   holds = h.holds;
 }

@@ -6,7 +6,7 @@ use Rattle.script_runs.specs.Verdicts.{outcome}
 use Rattle.script_trace.specs.Standing as replay
 use Rattle.script_trace.specs.Laws.{StandsWell, HasSaid}
 use Rattle.camera_trace.specs.Standing as camera
-use Rattle.camera_trace.specs.Laws.{IsTold}
+use Rattle.camera_trace.specs.Laws.{IsTold, CameraTells, HasOnePrimary}
 use Rattle.gev_make.specs.MakeText.{make_text}
 use Rattle.gev_status.specs.declared.status.Status.{Status}
 use Rattle.gev_status.specs.declared.status.Status.TheVariants.{Done, Usage, BadScript, ReadFault, WriteFault, LinkFault, NoMemory, NoAnswer, Refused, TurnsSpent, BadCapture, NoPicture}
@@ -29,16 +29,13 @@ Replays status left left_after reads reads_after written written_after writes wr
     (λ ending. Ends replay.ReplayRuns replay.ReplayRefuses StandsWell HasSaid replay.first ending left left_after reads reads_after written written_after writes writes_after)
     status
 
--- of a camera's states nothing more is said than its report tells
-abbrev pub StandsAnyhow : camera.Standing → Type 0
-StandsAnyhow standing = ⊤
-
--- A camera script: the report of its lines is what events of one camera print, which are its acknowledges, the
--- numbers of its frames, and the packets that it gives.
+-- A camera script: each line comes to events of the camera that it finds, and its report is what they print, which is the
+-- camera's acknowledges, the numbers of its frames, and the packets that it gives. At most one peer has control of that
+-- camera.
 abbrev pub Serves : Status → Option (List ℕ) → Option (List ℕ) → ℕ → ℕ → Option (List ℕ) → Option (List ℕ) → ℕ → ℕ → Type 0
 Serves status left left_after reads reads_after written written_after writes writes_after =
     IfEnded
-    (λ ending. Ends camera.CameraRuns camera.CameraRefuses StandsAnyhow IsTold camera.first ending left left_after reads reads_after written written_after writes writes_after)
+    (λ ending. Ends CameraTells camera.CameraRefuses HasOnePrimary IsTold camera.first ending left left_after reads reads_after written written_after writes writes_after)
     status
 
 -- Of a text that is made, the whole or a front was written, by the answer.
@@ -91,7 +88,7 @@ ReadsSteady (Soak seed frames rates short) status reads reads_after = status ≢
 abbrev pub IsDecided : Command → Status → List ℕ → Type 0
 IsDecided Replay status content = AnswersContent status (outcome replay.replay_verdict content)
 IsDecided Explain status content = AnswersContent status (outcome replay.replay_verdict content)
-IsDecided (Image wanted) status content = AnswersImage status (outcome replay.replay_verdict content)
+IsDecided (Image wanted) status content = AnswersImage wanted status (outcome replay.replay_verdict content)
 IsDecided Streams status content = AnswersCapture status content
 IsDecided (Capture port p bytes) status content = AnswersCapture status content
 IsDecided Camera status content = AnswersContent status (outcome camera.camera_verdict content)

@@ -3,6 +3,7 @@ use Rattle.std.specs.Prelude.{ℕ, List, Option}
 use Rattle.script_runs.specs.Verdicts.{Outcome}
 use Rattle.script_image.specs.declared.image_end.ImageEnd.{ImageEnd}
 use Rattle.script_image.specs.declared.image_end.ImageEnd.TheVariants as ends
+use Rattle.script_image.specs.declared.wanted.Wanted.{Wanted}
 use Rattle.script_image.specs.Ends.{ImageEnds, AnswersContent}
 use Rattle.gev_status.specs.declared.status.Status.{Status}
 use Rattle.gev_status.specs.declared.status.Status.TheVariants.{Done, Usage, BadScript, ReadFault, WriteFault, LinkFault, NoMemory, NoAnswer, Refused, TurnsSpent, BadCapture, NoPicture}
@@ -31,13 +32,13 @@ IfImaged P LinkFault = ⊥
 IfImaged P (TurnsSpent turns frames) = ⊥
 IfImaged P (BadCapture number kind) = ⊥
 
--- The picture of the buffer with this number, of those that a script's `take` lines get: it was written, or a front
--- of it, or there is none, by the answer.
-abbrev pub Images : ℕ → Status → Option (List ℕ) → Option (List ℕ) → ℕ → ℕ → Option (List ℕ) → Option (List ℕ) → ℕ → ℕ → Type 0
+-- The pictures that are wanted of the buffers that a script's `take` lines get: they were written, or a front of them, or
+-- there is none, by the answer.
+abbrev pub Images : Wanted → Status → Option (List ℕ) → Option (List ℕ) → ℕ → ℕ → Option (List ℕ) → Option (List ℕ) → ℕ → ℕ → Type 0
 Images wanted status left left_after reads reads_after written written_after writes writes_after =
     IfImaged (λ ending. ImageEnds wanted ending left left_after reads reads_after written written_after writes writes_after) status
 
 -- The answer to bytes that are this as a script: a line that is refused is the first of them, and where too few
--- buffers were taken the script is whole.
-abbrev pub AnswersImage : Status → Outcome → Type 0
-AnswersImage status found = IfImaged (λ ending. AnswersContent ending found) status
+-- buffers were taken, or all pictures were written, the script is whole.
+abbrev pub AnswersImage : Wanted → Status → Outcome → Type 0
+AnswersImage wanted status found = IfImaged (λ ending. AnswersContent wanted ending found) status

@@ -7,6 +7,9 @@ use Rattle.lossy_queue.specs.declared.rates.Rates.{Rates}
 use Rattle.gev_top.specs.declared.command.Command.{Command}
 use Rattle.gev_top.specs.declared.command.Command.TheVariants.{Replay, Explain, Image, Streams, Capture, Camera, Make, Soak}
 use Rattle.gev_top.specs.declared.numbers.Numbers.{Numbers}
+use Rattle.script_image.specs.declared.wanted.Wanted.{Wanted}
+use Rattle.script_image.specs.declared.wanted.Wanted.TheVariants.{One, All}
+use Rattle.script_image.specs.Ends.{IsInRange as IsWantedInRange}
 
 -- What words say, or the place of the first word with which no command line goes on, from 0. Where more
 -- words are wanted it is their number.
@@ -59,10 +62,28 @@ explain_of words = do
   done ← none_at 1 words
   Ok Explain
 
--- `image <k>`: the k-th buffer that is taken
+-- just this word stands there
+abbrev pub is_word : List ℕ → Option (List ℕ) → Bool
+is_word wanted None = false
+is_word wanted (Some word) = bytes_eq word wanted
+
+abbrev pub is_word_at : List ℕ → ℕ → List (List ℕ) → Bool
+is_word_at wanted place words = is_word wanted (slice_get words place)
+
+-- the buffer with this number
+abbrev pub one_at : ℕ → List (List ℕ) → Said Wanted
+one_at place words = do
+  number ← number_at 1 4294967295 place words
+  Ok (One number)
+
+-- a number, or the word `all`
+abbrev pub wanted_at : ℕ → List (List ℕ) → Said Wanted
+wanted_at place words = if is_word_at (codes "all") place words then Ok All else one_at place words
+
+-- `image <k|all>`: the k-th buffer that is taken, or each
 abbrev pub image_of : List (List ℕ) → Said Command
 image_of words = do
-  wanted ← number_at 1 4294967295 1 words
+  wanted ← wanted_at 1 words
   done ← none_at 2 words
   Ok (Image wanted)
 
@@ -129,7 +150,7 @@ pub record HasSizes (p bytes : ℕ) : Type 0 where
 abbrev pub IsInRange : Command → Type 0
 IsInRange Replay = ⊤
 IsInRange Explain = ⊤
-IsInRange (Image wanted) = 1 ≤ wanted
+IsInRange (Image wanted) = IsWantedInRange wanted
 IsInRange Streams = ⊤
 IsInRange (Capture port p bytes) = HasSizes p bytes
 IsInRange Camera = ⊤

@@ -1,4 +1,5 @@
 use lossy_queue::Rates;
+use script_image::Wanted;
 
 /// What the words of the command line ask for.
 #[derive(Clone, Copy, Debug, PartialEq, Eq)]
@@ -8,10 +9,10 @@ pub enum Command {
     /// Run a replay script, and write its report with notes: which frames were lost, why each incomplete one is as it
     /// is, and what became of each datagram that is in no image.
     Explain,
-    /// Write a picture of a buffer that a replay script takes.
+    /// Write pictures of buffers that a replay script takes.
     Image {
-        /// Which of the buffers that its `take` lines get, from 1.
-        wanted: u32,
+        /// Which of the buffers that its `take` lines get: one by its number, from 1, or all.
+        wanted: Wanted,
     },
     /// List the image streams in a capture.
     Streams,

@@ -27,7 +27,7 @@ use std::alloc::Global;
 /// lost frames and of datagrams that are in no image, in lines that begin with `# `.
 ///
 /// `image` with a number k runs the same script up to the k-th buffer that its `take` lines get, and writes a picture of
-/// that one in place of the report.
+/// that one in place of the report; with `all` it runs it to its end, and writes the pictures of all that have one.
 ///
 /// `streams` reads a capture of a network, a pcap or a pcapng file, and writes a line for each image stream in
 /// it, and an end line.
@@ -61,7 +61,7 @@ pub fn plain_top<S: Source, K: Sink>(
     // of faults rose. The bytes that a replay writes are the report of one trace, which keeps its promises:
     // under each map of frames from which the datagrams were sent, an image that is marked complete is its
     // block's frame. Those that an explanation writes are such a report with notes between its lines, which account
-    // for each datagram and each block. A picture is that of the buffer which is taken, by the block that filled it.
+    // for each datagram and each block. A picture is that of the buffer which is taken, by its record and bytes alone.
     // Those that a camera script writes are what events of one camera print. Of a script that
     // is made: it was written whole, or a front of it. Of a capture: the text that lists the streams of its
     // packets, or the script of those to one port, was written, up to the record that is refused, if one is. Of a

@@ -1,12 +1,14 @@
 ghost use Rattle.std.specs.Prelude.{◌≡◌, ◌≤◌, map, IfOk};
 ghost use Rattle.std.specs.String.{string_bytes};
 ghost use Rattle.std.specs.Str.{bytes_eq};
-ghost use Rattle.gev_top.specs.Usage.{number_at, none_at, short_at, rates_of, replay_of, explain_of, image_of, streams_of, capture_of, camera_of, make_of, soak_of, numbers_of, named, command_of, IsInRange};
+ghost use Rattle.gev_top.specs.Usage.{number_at, none_at, short_at, wanted_at, rates_of, replay_of, explain_of, image_of, streams_of, capture_of, camera_of, make_of, soak_of, numbers_of, named, command_of, is_word_at, IsInRange};
+ghost use Rattle.script_image.specs.Ends.{IsInRange as IsWantedInRange};
 
 use crate::command::Command;
 use crate::numbers::Numbers;
 use gev_script::number_in;
 use lossy_queue::Rates;
+use script_image::Wanted;
 
 /// The command that the words are, or the place, from 0, of the first word with which no command line
 /// goes on. Where more words are wanted it is their number.
@@ -70,14 +72,36 @@ fn read_explain(words: &[String]) -> Result<Command, u32>
     Ok(Command::Explain)
 }
 
-/// The number of a buffer follows `image`.
+/// The number of a buffer follows `image`, or the word `all`.
 fn read_image(words: &[String]) -> Result<Command, u32>
     ensures said { result ≡ image_of (map (λ word. string_bytes word) words.now) }
     ensures within { IfOk result (λ command. IsInRange command) }
 {
-    let wanted = number_at(1, 4_294_967_295, 1, words)? as u32;
+    let wanted = wanted_at(1, words)?;
     none_at(2, words)?;
     Ok(Command::Image { wanted })
+}
+
+/// Which buffers the word at this place says: the one with this number, from 1, or `all`.
+fn wanted_at(place: u32, words: &[String]) -> Result<Wanted, u32>
+    ensures said { result ≡ wanted_at place (map (λ word. string_bytes word) words.now) }
+    ensures within { IfOk result (λ wanted. IsWantedInRange wanted) }
+{
+    if is_at(place, words, b"all") {
+        return Ok(Wanted::All);
+    }
+    let number = number_at(1, 4_294_967_295, place, words)? as u32;
+    Ok(Wanted::One(number))
+}
+
+/// Whether just this word stands at this place.
+fn is_at(place: u32, words: &[String], wanted: &[u8]) -> bool
+    ensures { result ≡ is_word_at wanted.now place (map (λ word. string_bytes word) words.now) }
+{
+    match words.get(place as usize) {
+        Some(word) => is(word.as_bytes(), wanted),
+        None => false,
+    }
 }
 
 /// No word follows `streams`.

@@ -13,9 +13,11 @@ gevacq explain
     of lost frames and of datagrams that are in no image: why each incomplete
     image is as it is, in lines that begin with `# `.
 
-gevacq image <k>
+gevacq image <k|all>
     Runs the same script up to the k-th buffer that its `take` lines get, and
-    writes a picture of that one in place of the report: a PGM or PPM file.
+    writes a picture of that one in place of the report: a PGM or PPM file. With
+    `all` it writes the pictures of all of them that have one, one after the
+    other.
 
 gevacq streams
     Lists the image streams in a capture: reads a pcap or pcapng file from standard
@@ -78,7 +80,7 @@ docs/FORMATS.md.
 pub(crate) const USAGE: &str = "\
 usage: gevacq replay
 usage: gevacq explain
-usage: gevacq image <k>
+usage: gevacq image <k|all>
 usage: gevacq streams
 usage: gevacq capture <port> <p> <bytes>
 usage: gevacq camera

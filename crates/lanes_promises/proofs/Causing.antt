@@ -1,5 +1,5 @@
 -- A reader that ends with NoAnswer sent its command three times.
-use Rattle.std.proofs.Common.{◌≡◌, ◌≢◌, ℕ, List, [], ◌∷◌, ◌++◌, Option, Some, None, refl, ap, sym, ◌∙◌, inl, inr, subst}
+use Rattle.std.proofs.Common.{◌≡◌, ◌≢◌, ◌<◌, ℕ, List, [], ◌∷◌, ◌++◌, Option, Some, None, refl, ap, sym, ◌∙◌, inl, inr, subst}
 use Rattle.std.proofs.lemmas.List.{append-nil}
 use Rattle.std.specs.Prelude.{⊤}
 use Rattle.board_machine.specs.declared.events.Event.{Event as Act}
@@ -24,7 +24,7 @@ use Rattle.lane_crew.specs.Reader.{EndsAfter, ReadsOn}
 use Rattle.gev_causes.specs.Moves.{Move, hears, sends_all, hears_of, setup_moves, moves_sent, moves_heard, datagrams, later_moves}
 use Rattle.gev_causes.specs.Causes.{IsUnanswered}
 use Rattle.gev_causes.proofs.Keeping.{Kept, Due, TickCame, later-append, kept_sends, take_kept, tick_kept, receive_kept}
-use Rattle.gev_causes.proofs.Turns.{CameTo, GoesOnOrStops, setup_goes_on, setup_gives_up}
+use Rattle.gev_causes.proofs.Turns.{CameTo, KeptOf, GoesOnOrStops, setup_goes_on, setup_gives_up}
 use Rattle.gev_causes.proofs.Links.{sent-append, heard-append, datagrams-append, setup_sent_is, setup_heard_is}
 use Rattle.live_promises.specs.Causes.{HadNoAnswer}
 use Rattle.lanes_promises.specs.Causes.{turn_moves, reader_moves}
@@ -201,35 +201,35 @@ after_last : (stream : Address) (s : SetUp) (before : List SetupTurned) (last : 
 after_last stream s [] last = refl
 after_last stream s (t ∷ ts) last = after_last stream (setup_turn stream s t).state ts last
 
-setup_kept : (stream : Address) (s : SetUp) (ts : List SetupTurned) (ms : List Move) → SetupGoesOn stream s ts → Kept s.client.asked ms
-    → Kept (setup_after stream s ts).client.asked (later_moves ms (setup_moves stream s ts))
+setup_kept : (stream : Address) (s : SetUp) (ts : List SetupTurned) (ms : List Move) → SetupGoesOn stream s ts → KeptOf s.client ms
+    → KeptOf (setup_after stream s ts).client (later_moves ms (setup_moves stream s ts))
 setup_kept stream s [] ms on kept = kept
 setup_kept stream s (t ∷ ts) ms on kept =
     let here : List Move = sends_all (sent_if_heard t.heard (setup_turn stream s t).send) ++ hears_of t.heard in
-    subst (Kept (setup_after stream (setup_turn stream s t).state ts).client.asked)
+    subst (KeptOf (setup_after stream (setup_turn stream s t).state ts).client)
     (sym (later-append ms here (setup_moves stream (setup_turn stream s t).state ts)))
     (setup_kept stream (setup_turn stream s t).state ts (later_moves ms here) on.1
     (setup_goes_on stream s t ms (subst GoesOnOrStops (sym on.0) tt) kept))
 
 -- the client after a setup that stopped
-stopped_kept : (stream : Address) (s u : Client) (made : List SetupTurned) → Kept s.asked [] → IsSetUp stream s made how.Stopped u
+stopped_kept : (stream : Address) (s u : Client) (made : List SetupTurned) → KeptOf s [] → IsSetUp stream s made how.Stopped u
     → Kept u.asked (later_moves [] (setup_moves stream (set_up s 0) made))
 stopped_kept stream s u made kept set =
     let there : SetUp = setup_after stream (set_up s 0) set.before in
-    let last : Kept (setup_turn stream there set.last).state.client.asked (later_moves (later_moves [] (setup_moves stream (set_up s 0) set.before))
+    let last : KeptOf (setup_turn stream there set.last).state.client (later_moves (later_moves [] (setup_moves stream (set_up s 0) set.before))
     (sends_all (sent_if_heard set.last.heard (setup_turn stream there set.last).send) ++ hears_of set.last.heard)) =
     setup_goes_on stream there set.last (later_moves [] (setup_moves stream (set_up s 0) set.before)) (subst GoesOnOrStops (sym set.ended) tt)
     (setup_kept stream (set_up s 0) set.before [] set.on kept)
     in
-    let whole : Kept (setup_turn stream there set.last).state.client.asked (later_moves [] (setup_moves stream (set_up s 0) made)) =
-    subst (Kept (setup_turn stream there set.last).state.client.asked)
+    let whole : KeptOf (setup_turn stream there set.last).state.client (later_moves [] (setup_moves stream (set_up s 0) made)) =
+    subst (KeptOf (setup_turn stream there set.last).state.client)
     (sym (ap (λ l. later_moves [] (setup_moves stream (set_up s 0) l)) set.is ∙ last_moves stream (set_up s 0) set.before set.last [])) last
     in
     subst (λ (k : Client). Kept k.asked (later_moves [] (setup_moves stream (set_up s 0) made)))
-    (sym (set.client ∙ ap (λ x. x.client) (ap (setup_after stream (set_up s 0)) set.is ∙ after_last stream (set_up s 0) set.before set.last))) whole
+    (sym (set.client ∙ ap (λ x. x.client) (ap (setup_after stream (set_up s 0)) set.is ∙ after_last stream (set_up s 0) set.before set.last))) whole.1
 
 -- a setup without an answer
-setup_unanswered : (stream : Address) (s u : Client) (made : List SetupTurned) (req : ℕ) → Kept s.asked [] → IsSetUp stream s made (how.NoAnswer req) u
+setup_unanswered : (stream : Address) (s u : Client) (made : List SetupTurned) (req : ℕ) → KeptOf s [] → IsSetUp stream s made (how.NoAnswer req) u
     → IsUnanswered req (later_moves [] (setup_moves stream (set_up s 0) made))
 setup_unanswered stream s u made req kept set =
     subst (IsUnanswered req)
@@ -261,7 +261,7 @@ record Shown (stream : Address) (s u v : Client) (setup : List SetupTurned) (mad
   unanswered : IsUnanswered req (later_moves [] (setup_moves stream (set_up s 0) setup ++ reader_moves u made))
   fine : NoneFails made
 
-from_turns : (stream : Address) (s u v : Client) (setup : List SetupTurned) (made : List ReaderTurn) (req : ℕ) → Kept s.asked []
+from_turns : (stream : Address) (s u v : Client) (setup : List SetupTurned) (made : List ReaderTurn) (req : ℕ) → KeptOf s []
     → IsSetUp stream s setup how.Stopped u → EndsIn (ends.NoAnswer req) made → ControlEach u made v → Shown stream s u v setup made req
 from_turns stream s u v setup made req kept set ended each = record {
   unanswered =
@@ -272,7 +272,7 @@ from_turns stream s u v setup made req kept set ended each = record {
   fine = subst NoneFails (sym ended.is) (none_fails ended.before ended.last req ended.on ended.ended);
 }
 
-from_setup : (stream : Address) (s u v : Client) (setup : List SetupTurned) (made : List ReaderTurn) (req : ℕ) → Kept s.asked []
+from_setup : (stream : Address) (s u v : Client) (setup : List SetupTurned) (made : List ReaderTurn) (req : ℕ) → KeptOf s []
     → IsSetUp stream s setup (how.NoAnswer req) u → made ≡ [] → Shown stream s u v setup made req
 from_setup stream s u v setup made req kept set none_made = record {
   unanswered =
@@ -283,7 +283,7 @@ from_setup stream s u v setup made req kept set none_made = record {
 }
 
 by_setup_end : (stream : Address) (s u v : Client) (setup : List SetupTurned) (made : List ReaderTurn) (turns req : ℕ) (setup_end : AcqEnd)
-    → Kept s.asked [] → IsSetUp stream s setup setup_end u → EndsAfter setup_end (how.NoAnswer req) turns made → ControlEach u made v
+    → KeptOf s [] → IsSetUp stream s setup setup_end u → EndsAfter setup_end (how.NoAnswer req) turns made → ControlEach u made v
     → Shown stream s u v setup made req
 by_setup_end stream s u v setup made turns req how.Stopped kept set after each = from_turns stream s u v setup made req kept set after.1 each
 by_setup_end stream s u v setup made turns req how.Spent kept set after each = let bad : ⊥ = cc in absurd bad
@@ -296,12 +296,12 @@ by_setup_end stream s u v setup made turns req (how.NoAnswer found) kept set aft
     number e = cc
 by_setup_end stream s u v setup made turns req (how.Refused status) kept set after each = let bad : ⊥ = cc in absurd bad
 
-pub given_up : (camera stream : Address) (o n : Outside) (turns : ℕ) (end : AcqEnd) (made : List ReaderTurn) (last : List Act) (on : ReadsOn camera stream o n turns end made last) → HasSubmittedNone o.client → (req : ℕ) → end ≡ how.NoAnswer req
+pub given_up : (camera stream : Address) (o n : Outside) (turns : ℕ) (end : AcqEnd) (made : List ReaderTurn) (last : List Act) (on : ReadsOn camera stream o n turns end made last) → HasSubmittedNone o.client → 0 < o.client.limit → (req : ℕ) → end ≡ how.NoAnswer req
     → HadNoAnswer req (setup_moves stream (set_up o.client 0) on.setup ++ reader_moves on.client made)
     (setup_sent stream (set_up o.client 0) on.setup ++ sends_in made) (datagrams (setup_heards on.setup ++ heards_in made))
-given_up camera stream o n turns end made last on new req is =
+given_up camera stream o n turns end made last on new some req is =
     let shown : Shown stream o.client on.client n.client on.setup made req =
-    by_setup_end stream o.client on.client n.client on.setup made turns req on.setup_end (subst (λ (k : Client). Kept k.asked []) (sym new) tt)
+    by_setup_end stream o.client on.client n.client on.setup made turns req on.setup_end (some, subst (λ (k : Client). Kept k.asked []) (sym new) tt)
     on.set_up_by (subst (λ x. EndsAfter on.setup_end x turns made) is on.ends) on.controlled
     in
     record {

@@ -18,6 +18,7 @@ use Rattle.gev_lanes.specs.Sides.{LaneEnd}
 use Rattle.lane_turns.specs.Turns.{ReaderTurn}
 use Rattle.lane_reader.specs.Reads.{answers_in}
 use Rattle.lane_worker.specs.Cells.{inputs_in}
+use Rattle.client_machine.specs.Times.{SEND_LIMIT}
 use Rattle.client_machine.specs.Machine.{new_client}
 use Rattle.gev_live.specs.Told.{Told, live_config, reader_side}
 use Rattle.gev_live.specs.LiveRun.{Numbers}
@@ -58,8 +59,8 @@ run_keeps n lanes camera stream answer o e written written_after faults faults_a
       all_weaker (IsBlockOf live_config (lanes_of run)) (HoldsUnderOne frames live_config (lanes_of run))
       (λ x its. one_framed n.mode frames live_config lanes 0 run.crew.lanes run.reader_part.made run.reader_part.sides_after run.reader_part.ends h run.shares sent x its) (handed_items h) handed;
   causes = record {
-    unanswered = given_up camera stream (reader_side o new_client) (reader_side e run.reader_part.client) n.turns run.read run.reader_part.made run.reader_part.last run.reader_part.on refl;
-    refused = refused_read camera stream (reader_side o new_client) (reader_side e run.reader_part.client) n.turns run.read run.reader_part.made run.reader_part.last run.reader_part.on;
+    unanswered = given_up camera stream (reader_side o (new_client SEND_LIMIT)) (reader_side e run.reader_part.client) n.turns run.read run.reader_part.made run.reader_part.last run.reader_part.on refl (omega arith);
+    refused = refused_read camera stream (reader_side o (new_client SEND_LIMIT)) (reader_side e run.reader_part.client) n.turns run.read run.reader_part.made run.reader_part.last run.reader_part.on;
   };
 }
   where

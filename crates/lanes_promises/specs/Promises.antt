@@ -18,6 +18,7 @@ use Rattle.gev_lanes.specs.Sides.{LaneEnd}
 use Rattle.lane_turns.specs.Turns.{ReaderTurn}
 use Rattle.lane_reader.specs.Reads.{answers_in}
 use Rattle.lane_worker.specs.Cells.{inputs_in}
+use Rattle.client_machine.specs.Times.{SEND_LIMIT}
 use Rattle.client_machine.specs.Machine.{new_client}
 use Rattle.gev_live.specs.Acquirers.{handed_out}
 use Rattle.gev_live.specs.Told.{Told, live_config, reader_side}
@@ -60,7 +61,7 @@ pub record KeepsRun {n : Numbers} {lanes : ℕ} {camera stream : Address} {answe
   pub handed : AllByRecursion (IsBlockOf live_config (lanes_of run)) (handed_items h)
   pub framed : (frames : ℕ → Option Frame) → AreSent frames live_config.p (packets_among (answers_in run.reader_part.made))
       → AllByRecursion (HoldsUnderOne frames live_config (lanes_of run)) (handed_items h)
-  pub causes : HasCauses camera stream (reader_side o new_client) (reader_side e run.reader_part.client) n.turns run.read run.reader_part.made run.reader_part.last run.reader_part.on
+  pub causes : HasCauses camera stream (reader_side o (new_client SEND_LIMIT)) (reader_side e run.reader_part.client) n.turns run.read run.reader_part.made run.reader_part.last run.reader_part.on
 
 -- So it is of a live run with lanes. Where its workers never began nobody filled or took a buffer.
 abbrev pub KeepsLanesPromises : {n : Numbers} {lanes : ℕ} {camera stream : Address} {answer : Status} {o e : Told} {written written_after : Option (List ℕ)} {faults faults_after : ℕ} {h : List Entry}

@@ -65,7 +65,7 @@ pub fn acquire_some<R: Wait>(rt: &HostRuntime, handles: &R, case: &Case<'_>) -> 
     )?;
     print!(rt; "\n  stream's faults {}", stream.fault_count())?;
     print_sent(rt, &control)?;
-    let mut out = [0; 32];
+    let mut out = [0; 9000];
     print!(rt;
         "\n  hears {}",
         control.recv(&mut out).is_ok_and(|came| came.is_some())

@@ -29,6 +29,7 @@ fn whole(alloc: Global) -> Result<Buf> {
         has_leader: true,
         data_len: 3,
         filled: 3,
+        image: None,
     });
     Ok(buf)
 }

@@ -37,7 +37,7 @@ pub fn write_turns(rt: &HostRuntime, case: &Case<'_>) -> Result<()> {
 
 /// A tape that has made so many receives.
 fn hear_all(mut tape: Tape<DiscardingLink<'_>>, count: usize) -> Tape<DiscardingLink<'_>> {
-    let mut out = [0; 2000];
+    let mut out = [0; 9000];
     for _turn in 0..count {
         tape.recv(&mut out).unwrap_or(None);
     }

@@ -51,7 +51,7 @@ pub fn serve_some(rt: &HostRuntime, case: &Case<'_>) -> Result<()> {
     );
     print!(rt; "{end:?} next {}", clock.now())?;
     print_sent(rt, &link)?;
-    let mut out = [0; 16];
+    let mut out = [0; 9000];
     print!(rt; "\n  hears {:?}", link.recv(&mut out))?;
     Ok(())
 }

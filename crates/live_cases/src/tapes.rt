@@ -17,7 +17,7 @@ pub fn hear_some(rt: &HostRuntime, case: &Case<'_>) -> Result<()> {
 
 /// The receives and the send of a tape.
 fn hear_on(rt: &HostRuntime, mut tape: Tape<MemoryLink<'_>>) -> Result<()> {
-    let mut out = [0; 2000];
+    let mut out = [0; 9000];
     print!(rt; "hears")?;
     for _ in 0..4 {
         print!(rt; "\n  {:?}", tape.recv(&mut out))?;

@@ -16,6 +16,7 @@ use Rattle.board_machine.proofs.Runs.{own_of-append, runs_rest}
 use Rattle.buffer_words.specs.Passes.{Token, own}
 use Rattle.buffer_words.specs.Several.{EntersEach}
 use Rattle.buffer_words.proofs.Several.{each_then}
+use Rattle.client_machine.specs.Times.{SEND_LIMIT}
 use Rattle.client_machine.specs.Machine.{new_client}
 use Rattle.gev_links.specs.Links.{Address}
 use Rattle.gev_report.specs.LiveLine.{live_line}
@@ -220,7 +221,7 @@ ran_lanes n lanes camera stream answer o e served read taken lines written writt
       (three_hosts s r.one r.two r.three r.four r.home r.back u r.a r.worked_a r.b r.worked_b r.d r.worked_d (numbers_in r.tools) r.crew r.camera_works r.reader_works r.application_works))
       (lanes_stop_nothing n.mode (length r.tools) 0 r.reads.made r.reads.after r.tools u.seen did) ends.cause;
   means = answer_means served read n.frames n.turns (length r.reads.made) lines taken_part.made taken answer taken_part.told_lines
-      (spent_all r.reads.on.setup_end read n.turns r.reads.made (never_spent stream new_client r.reads.on.setup r.reads.on.setup_end r.reads.on.client r.reads.on.set_up_by) r.reads.on.ends) ends.cause;
+      (spent_all r.reads.on.setup_end read n.turns r.reads.made (never_spent stream (new_client SEND_LIMIT) r.reads.on.setup r.reads.on.setup_end r.reads.on.client r.reads.on.set_up_by) r.reads.on.ends) ends.cause;
 }
   where
     history : LanesHistory n.mode n.buffers (crew_of r.a r.b r.d r.tools) u.seen

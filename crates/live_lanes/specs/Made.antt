@@ -3,7 +3,8 @@ use Rattle.std.specs.Prelude.{◌≡◌, ⊤, ℕ, ◌≤◌, List, [], ◌∷�
 use Rattle.atomic_table.specs.Seated.{TableId}
 use Rattle.board_machine.specs.declared.events.Event.TheVariants.{Split}
 use Rattle.buffer_words.specs.Passes.{Token, own, IsEmptyHanded, Enters}
-use Rattle.client_machine.specs.Machine.{Client, HasSubmittedNone}
+use Rattle.client_machine.specs.Times.{SEND_LIMIT}
+use Rattle.client_machine.specs.Machine.{Client, HasSubmittedNone, new_client}
 use Rattle.camera_machine.specs.Camera.{Camera}
 use Rattle.acq_core.specs.Receiver.{config_of, buffers, Stands}
 use Rattle.acq_core.specs.declared.window.Window.{Window}
@@ -40,7 +41,8 @@ ends_of (p ∷ ps) = p.ends ∷ ends_of ps
 -- Camera, client and so many lanes are new.
 pub record AreNew (seed lanes : ℕ) (camera : Camera) (client : Client) (qs : List LaneQueues) (reader : List ReaderLane) (parts : List LaneParts) (tools : List LaneTools) (room : ℕ) (lines : List ℕ) : Type 0 where
   pub camera_is : camera ≡ live_camera seed
-  pub client_is : HasSubmittedNone client
+  pub client_is : client ≡ new_client SEND_LIMIT
+  pub unsubmitted : HasSubmittedNone client
   pub count : length qs ≡ lanes
   pub new : sides.AreNew 0 qs reader (ends_of parts)
   pub readers : AreReadersOf qs reader

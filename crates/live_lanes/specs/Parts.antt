@@ -9,6 +9,7 @@ use Rattle.board_machine.specs.Adding.{entries_of}
 use Rattle.acquisition_machine.specs.declared.config.AcqConfig.{AcqConfig}
 use Rattle.acquisition_machine.specs.Machine.{stop}
 use Rattle.block_fills.specs.Fills.{tried, retired_items}
+use Rattle.client_machine.specs.Times.{SEND_LIMIT}
 use Rattle.client_machine.specs.Machine.{Client, new_client}
 use Rattle.gev_links.specs.Links.{Address}
 use Rattle.gev_control.specs.declared.acq_end.AcqEnd.{AcqEnd}
@@ -39,7 +40,7 @@ pub record LanesReader (camera stream : Address) (o e : Told) (turns k : ℕ) (l
   pub client : Client
   pub made : List ReaderTurn
   pub last : List Event
-  pub on : ReadsOn camera stream (reader_side o new_client) (reader_side e client) turns end made last
+  pub on : ReadsOn camera stream (reader_side o (new_client SEND_LIMIT)) (reader_side e client) turns end made last
   pub answer : Result (Unit {0}) ℕ
   pub own : own_of k h ≡ entries_of k (looks_in made ++ (last ++ (joins_from lanes ++ Stop false answer ∷ [])))
   pub faults : FaultsOf (is_fault_end end) o.stream.faults e.stream.faults o.control.faults e.control.faults

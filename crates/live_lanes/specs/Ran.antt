@@ -6,6 +6,7 @@ use Rattle.board_machine.specs.Owners.{IsOwned}
 use Rattle.board_machine.specs.Handout.{IsLegal}
 use Rattle.buffer_words.specs.Passes.{Token}
 use Rattle.buffer_words.specs.Workers.{Works}
+use Rattle.client_machine.specs.Times.{SEND_LIMIT}
 use Rattle.client_machine.specs.Machine.{Client, new_client}
 use Rattle.camera_machine.specs.Camera.{Camera}
 use Rattle.mode_calls.specs.declared.mode.Mode.{Mode}
@@ -53,7 +54,7 @@ pub record RanLanes (mode : Mode) (lanes : ℕ) (new : Camera) (camera stream : 
   pub sides : List ReaderLane
   pub sides_new : AreNew 0 queues sides (ends_in tools)
   pub reader_works : Works is_lane_readers b worked_b
-  pub reads : ReadsByLanes mode camera stream (reader_side o new_client) (reader_side e client) sides tools turns read b worked_b
+  pub reads : ReadsByLanes mode camera stream (reader_side o (new_client SEND_LIMIT)) (reader_side e client) sides tools turns read b worked_b
   pub faults : FaultsOf (is_fault_end read) o.stream.faults e.stream.faults o.control.faults e.control.faults
   pub application_works : Works is_applications d worked_d
   pub applies : AppliesAndStops frames o.app_clock e.app_clock [] lines answer d worked_d

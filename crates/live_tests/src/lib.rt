@@ -9,6 +9,8 @@ mod clocks;
 #[cfg(test)]
 mod crews;
 #[cfg(test)]
+mod far_sockets;
+#[cfg(test)]
 mod gates;
 #[cfg(test)]
 mod queues;

@@ -58,7 +58,7 @@ fn send_all(alloc: Global, link: UdpLink, to: Peer) -> u32 {
     let mut link = link;
     let mut draws = Lcg::new(1);
     let mut sent = 0u32;
-    let mut out = [0u8; 16];
+    let mut out = [0u8; 9000];
     for number in 0..DATAGRAMS {
         let Ok(bytes) = next_datagram(alloc, &mut draws) else {
             return sent;

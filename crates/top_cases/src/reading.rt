@@ -63,8 +63,9 @@ fn print_matches(rt: &impl Print, matches: &ArgMatches<'_>) -> io::Result<()> {
     };
     print!(rt; " {name}")?;
     for (number, _, _) in numbers(name) {
-        let value = inner.get_one::<u64>(number).unwrap_or(0);
-        print!(rt; " {number}={value}")?;
+        if let Some(value) = inner.get_one::<u64>(number) {
+            print!(rt; " {number}={value}")?;
+        }
     }
     let further = inner.get_str("further").unwrap_or("-");
     println!(rt; " {further}")
@@ -88,12 +89,25 @@ fn found<'a>(alloc: Global, words: &'a [&'a str]) -> Result<ArgMatches<'a>, Erro
         .no_binary_name(true)
         .subcommand_required(true);
     for name in [
-        "replay", "explain", "image", "streams", "capture", "camera", "make", "soak", "live",
-        "record",
+        "replay", "explain", "streams", "capture", "camera", "make", "soak", "live", "record",
     ] {
         program = program.subcommand(command(alloc, name)?)?;
     }
+    program = program.subcommand(image(alloc, words)?)?;
     program.try_get_matches_from(words)
+}
+
+/// The command `image`, of a number or of the word `all`.
+fn image<'a>(alloc: Global, words: &[&str]) -> Result<Command<'a>, AllocError> {
+    if words.get(1).copied() != Some("all") {
+        return command(alloc, "image");
+    }
+    let parser = ValueParser::Names(["all"].as_slice());
+    Command::new(alloc, "image").arg(
+        Arg::new(alloc, "further")
+            .required(true)
+            .value_parser(parser),
+    )
 }
 
 /// The command of this name.

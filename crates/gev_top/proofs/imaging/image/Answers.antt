@@ -17,4 +17,4 @@ returns-clause-cause g c =
 
 pub returns-clause-exact : goal.returns-clause-exact
 returns-clause-exact g c =
-    image_told c.write_image.result c.status_for.result (g.S.Source.left c.args.source.now) (outcome replay_verdict) c.status_for.ensures c.write_image.ensures.exact
+    image_told c.args.wanted c.write_image.result c.status_for.result (g.S.Source.left c.args.source.now) (outcome replay_verdict) c.status_for.ensures c.write_image.ensures.exact
