@@ -8,6 +8,7 @@ use Rattle.board_machine.specs.Machine.{Board, Item, empty_board}
 use Rattle.acquisition_machine.specs.declared.config.AcqConfig.{AcqConfig}
 use Rattle.acquisition_machine.specs.Machine.{Input, datagram, claimed, tick, stop}
 use Rattle.acquisition_machine.specs.Runs.{first_state}
+use Rattle.acquisition_machine.specs.Worked.{seen}
 use Rattle.acquisition_notes.specs.Inputs.{notes_from}
 use Rattle.acquisition_notes.specs.Texts.{notes_text}
 
@@ -54,7 +55,7 @@ board_of_three = record empty_board {
 abbrev pub waited : ℕ → ℕ → Item
 waited place block = record {
   place = place;
-  filling = record { bytes = 97 ∷ 98 ∷ 99 ∷ []; rec = record { block = block; complete = true; larger = false; has_leader = true; data_len = 3; filled = 3 } };
+  filling = record { bytes = 97 ∷ 98 ∷ 99 ∷ []; rec = record { block = block; complete = true; larger = false; has_leader = true; data_len = 3; filled = 3; image = seen 3 1 } };
 }
 
 -- with these lists of what claims and fills dropped

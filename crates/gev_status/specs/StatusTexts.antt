@@ -35,6 +35,7 @@ capture_cause capture.Interface = codes "interface"
 -- why a buffer has no picture
 abbrev pub picture_cause : NoPicture → List ℕ
 picture_cause (picture.Taken count) = decimal count ++ codes " buffers were taken"
+picture_cause (picture.NoneOf count) = codes "none of " ++ (decimal count ++ codes " buffers has one")
 picture_cause picture.NoLeader = codes "no leader"
 picture_cause (picture.PixelFormat code) = codes "pixel format 0x" ++ hex_text 8 code
 picture_cause picture.NoPixels = codes "no pixels"
