@@ -4,6 +4,7 @@ use Rattle.board_machine.specs.declared.events.Entry.{Entry}
 use Rattle.board_machine.specs.declared.events.Event.TheVariants.{Pool, Claim, Fill, Take}
 use Rattle.board_machine.specs.declared.events.TakeEnd.TheVariants.{Taken, Empty}
 use Rattle.board_machine.specs.Machine.{Item, entry}
+use Rattle.acquisition_machine.specs.Worked.{seen}
 use Rattle.script_trace.specs.Trace.{caller, acquirer}
 use Rattle.script_notes.specs.Drops.{drops_from}
 
@@ -11,7 +12,7 @@ use Rattle.script_notes.specs.Drops.{drops_from}
 abbrev pub waiting : ℕ → ℕ → Item
 waiting place block = record {
   place = place;
-  filling = record { bytes = 97 ∷ []; rec = record { block = block; complete = true; larger = false; has_leader = true; data_len = 1; filled = 1 } };
+  filling = record { bytes = 97 ∷ []; rec = record { block = block; complete = true; larger = false; has_leader = true; data_len = 1; filled = 1; image = seen 1 1 } };
 }
 
 abbrev pub fills_with : Item → Entry
