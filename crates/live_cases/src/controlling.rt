@@ -37,7 +37,7 @@ pub fn make_turn(rt: &HostRuntime, case: &Case<'_>) -> Result<()> {
     let mut link = control_link(rt.alloc(), case, HOST)?;
     let mut client = new_client(true);
     let _sent = client.to_send();
-    let mut out = [0; 32];
+    let mut out = [0; 9000];
     let failed = case.number(1) == 1;
     let end = client_turn(
         &mut client,
