@@ -1,14 +1,14 @@
 -- The bytes of a capture's packets are some of its own: one lemma for each definition.
-use Rattle.std.proofs.Common.{◌≡◌, ℕ, zero, suc, ◌+◌, ◌-◌, List, [], ◌∷◌, length, take, drop, Bool, true, false, Option, Some, None, sym, subst}
+use Rattle.std.proofs.Common.{ℕ, zero, suc, ◌+◌, ◌-◌, List, [], ◌∷◌, length, take, drop, Bool, true, false, Option, Some, None, sym, subst}
 use Rattle.std.specs.Prelude.{⊤, ◌==◌, nat_le, nat_lt, slice_get, if◌then◌else◌}
 use Rattle.std.specs.List.{AllByRecursion}
 use Rattle.gev_capture.specs.declared.order.Order.{Order}
 use Rattle.gev_capture.specs.declared.order.Order.TheVariants.{Big}
 use Rattle.gev_capture.specs.declared.kind.CaptureKind.{CaptureKind}
 use Rattle.gev_capture.specs.declared.kind.CaptureKind.TheVariants.{Magic, Version, Length, Interface}
-use Rattle.gev_capture.specs.declared.form.Face.{Face}
+use Rattle.gev_capture.specs.declared.form.SectionInterface.{SectionInterface}
 use Rattle.gev_capture.specs.Numbers.{number}
-use Rattle.gev_capture.specs.Files.{Packet, Format, fresh, classic, section, Told, wants, refused, given, need, test, packet_at, classic_magic, classic_header, classic_time, classic_record, told_classic, byte_order, is_total, whole, face_block, block_time, on_face, counted_packet, packet_block, simple_count, simple_sized, simple_on, simple_block, body_told, sized_block, versioned, sized_section, told_section, section_type, begun_section, told_block, opens_as, told}
+use Rattle.gev_capture.specs.Files.{Packet, Format, fresh, classic, section, Told, wants, refused, given, need, test, packet_at, classic_magic, classic_header, classic_time, classic_record, told_classic, byte_order, is_total, whole, interface_block, block_time, on_interface, counted_packet, packet_block, simple_count, simple_on, simple_block, body_told, sized_block, versioned, told_section, section_type, begun_section, told_block, opens_as, told}
 use Rattle.gev_capture.specs.Captures.{Read, Refusal, AreRecords, with_packet, packets_in}
 use Rattle.gev_capture.specs.Laws.{AreBytes, HasBytes, PacketsHaveBytes}
 
@@ -65,41 +65,41 @@ whole_tells : (order : Order) (least total : ℕ) (bytes : List ℕ) (next : Tol
 whole_tells order least total bytes next t =
     test_tells (is_total least total) Length _ (need_tells total bytes _ (test_tells (number order (total - 4) 4 bytes == total) Length next t))
 
-face_tells : (order : Order) (faces : List Face) (time total : ℕ) (bytes : List ℕ) → TellsBytes (face_block order faces time total bytes)
-face_tells order faces time total bytes = test_tells (nat_le 20 total) Length _ (test_tells (nat_lt (length faces) 256) Interface _ tt)
+interface_tells : (order : Order) (interfaces : List SectionInterface) (time total : ℕ) (bytes : List ℕ) → TellsBytes (interface_block order interfaces time total bytes)
+interface_tells order interfaces time total bytes = test_tells (nat_le 20 total) Length _ (test_tells (nat_lt (length interfaces) 256) Interface _ tt)
 
-on_face_tells : (order : Order) (faces : List Face) (total n : ℕ) (face : Option Face) (bytes : List ℕ) → AreBytes bytes → TellsBytes (on_face order faces total n face bytes)
-on_face_tells order faces total n None bytes all = tt
-on_face_tells order faces total n (Some face) bytes all = packet_bytes (block_time order face.parts bytes) face.link 28 n bytes all
+on_interface_tells : (order : Order) (interfaces : List SectionInterface) (total n : ℕ) (interface : Option SectionInterface) (bytes : List ℕ) → AreBytes bytes → TellsBytes (on_interface order interfaces total n interface bytes)
+on_interface_tells order interfaces total n None bytes all = tt
+on_interface_tells order interfaces total n (Some interface) bytes all = packet_bytes (block_time order interface.parts bytes) interface.link 28 n bytes all
 
-counted_tells : (order : Order) (faces : List Face) (total i n : ℕ) (bytes : List ℕ) → AreBytes bytes → TellsBytes (counted_packet order faces total i n bytes)
-counted_tells order faces total i n bytes all =
-    test_tells (nat_le n 262144) Length _ (test_tells (nat_le (32 + n) total) Length _ (on_face_tells order faces total n (slice_get faces i) bytes all))
+counted_tells : (order : Order) (interfaces : List SectionInterface) (total i n : ℕ) (bytes : List ℕ) → AreBytes bytes → TellsBytes (counted_packet order interfaces total i n bytes)
+counted_tells order interfaces total i n bytes all =
+    test_tells (nat_le n 262144) Length _ (test_tells (nat_le (32 + n) total) Length _ (on_interface_tells order interfaces total n (slice_get interfaces i) bytes all))
 
-packet_tells : (order : Order) (faces : List Face) (total i : ℕ) (bytes : List ℕ) → AreBytes bytes → TellsBytes (packet_block order faces total i bytes)
-packet_tells order faces total i bytes all =
-    test_tells (nat_le 32 total) Length _ (counted_tells order faces total i (number order 20 4 bytes) bytes all)
+packet_tells : (order : Order) (interfaces : List SectionInterface) (total i : ℕ) (bytes : List ℕ) → AreBytes bytes → TellsBytes (packet_block order interfaces total i bytes)
+packet_tells order interfaces total i bytes all =
+    test_tells (nat_le 32 total) Length _ (counted_tells order interfaces total i (number order 20 4 bytes) bytes all)
 
-simple_on_tells : (order : Order) (faces : List Face) (time total : ℕ) (face : Option Face) (bytes : List ℕ) → AreBytes bytes → TellsBytes (simple_on order faces time total face bytes)
-simple_on_tells order faces time total None bytes all = tt
-simple_on_tells order faces time total (Some face) bytes all =
-    let n = simple_count face.most (number order 8 4 bytes) (total - 16) in
-    test_tells (nat_le n 262144) Length _ (packet_bytes time face.link 12 n bytes all)
+simple_on_tells : (order : Order) (interfaces : List SectionInterface) (time total : ℕ) (interface : Option SectionInterface) (bytes : List ℕ) → AreBytes bytes → TellsBytes (simple_on order interfaces time total interface bytes)
+simple_on_tells order interfaces time total None bytes all = tt
+simple_on_tells order interfaces time total (Some interface) bytes all =
+    let n = simple_count interface.most (number order 8 4 bytes) (total - 16) in
+    test_tells (nat_le n 262144) Length _ (packet_bytes time interface.link 12 n bytes all)
 
-simple_tells : (order : Order) (faces : List Face) (time total : ℕ) (bytes : List ℕ) → AreBytes bytes → TellsBytes (simple_block order faces time total bytes)
-simple_tells order faces time total bytes all =
-    test_tells (nat_le 16 total) Length _ (simple_on_tells order faces time total (slice_get faces 0) bytes all)
+simple_tells : (order : Order) (interfaces : List SectionInterface) (time total : ℕ) (bytes : List ℕ) → AreBytes bytes → TellsBytes (simple_block order interfaces time total bytes)
+simple_tells order interfaces time total bytes all =
+    test_tells (nat_le 16 total) Length _ (simple_on_tells order interfaces time total (slice_get interfaces 0) bytes all)
 
-body_tells : (order : Order) (faces : List Face) (time total type : ℕ) (bytes : List ℕ) → AreBytes bytes → TellsBytes (body_told order faces time total type bytes)
-body_tells order faces time total type bytes all =
-    if_tells (type == 1) _ _ (face_tells order faces time total bytes)
-    (if_tells (type == 6) _ _ (packet_tells order faces total (number order 8 4 bytes) bytes all)
-    (if_tells (type == 2) _ _ (packet_tells order faces total (number order 8 2 bytes) bytes all)
-    (if_tells (type == 3) _ _ (simple_tells order faces time total bytes all) tt)))
+body_tells : (order : Order) (interfaces : List SectionInterface) (time total type : ℕ) (bytes : List ℕ) → AreBytes bytes → TellsBytes (body_told order interfaces time total type bytes)
+body_tells order interfaces time total type bytes all =
+    if_tells (type == 1) _ _ (interface_tells order interfaces time total bytes)
+    (if_tells (type == 6) _ _ (packet_tells order interfaces total (number order 8 4 bytes) bytes all)
+    (if_tells (type == 2) _ _ (packet_tells order interfaces total (number order 8 2 bytes) bytes all)
+    (if_tells (type == 3) _ _ (simple_tells order interfaces time total bytes all) tt)))
 
-sized_tells : (order : Order) (faces : List Face) (time total : ℕ) (bytes : List ℕ) → AreBytes bytes → TellsBytes (sized_block order faces time total bytes)
-sized_tells order faces time total bytes all =
-    whole_tells order 12 total bytes (body_told order faces time total (number order 0 4 bytes) bytes) (body_tells order faces time total (number order 0 4 bytes) bytes all)
+sized_tells : (order : Order) (interfaces : List SectionInterface) (time total : ℕ) (bytes : List ℕ) → AreBytes bytes → TellsBytes (sized_block order interfaces time total bytes)
+sized_tells order interfaces time total bytes all =
+    whole_tells order 12 total bytes (body_told order interfaces time total (number order 0 4 bytes) bytes) (body_tells order interfaces time total (number order 0 4 bytes) bytes all)
 
 section_tells : (order : Option Order) (time : ℕ) (bytes : List ℕ) → TellsBytes (told_section order time bytes)
 section_tells None time bytes = tt
@@ -110,10 +110,10 @@ section_tells (Some order) time bytes =
 begun_tells : (time : ℕ) (bytes : List ℕ) → TellsBytes (begun_section time bytes)
 begun_tells time bytes = need_tells 12 bytes _ (section_tells (byte_order (number Big 8 4 bytes)) time bytes)
 
-block_tells : (order : Order) (faces : List Face) (time : ℕ) (bytes : List ℕ) → AreBytes bytes → TellsBytes (told_block order faces time bytes)
-block_tells order faces time bytes all =
+block_tells : (order : Order) (interfaces : List SectionInterface) (time : ℕ) (bytes : List ℕ) → AreBytes bytes → TellsBytes (told_block order interfaces time bytes)
+block_tells order interfaces time bytes all =
     need_tells 8 bytes _
-    (if_tells (number Big 0 4 bytes == section_type) _ _ (begun_tells time bytes) (sized_tells order faces time (number order 4 4 bytes) bytes all))
+    (if_tells (number Big 0 4 bytes == section_type) _ _ (begun_tells time bytes) (sized_tells order interfaces time (number order 4 4 bytes) bytes all))
 
 -- records
 
@@ -124,7 +124,7 @@ opens_tells None bytes = test_tells (number Big 0 4 bytes == section_type) Magic
 told_tells : (format : Format) (bytes : List ℕ) → AreBytes bytes → TellsBytes (told format bytes)
 told_tells fresh bytes all = need_tells 4 bytes _ (opens_tells (classic_magic (number Big 0 4 bytes)) bytes)
 told_tells (classic order parts link) bytes all = classic_tells order parts link bytes all
-told_tells (section order faces time) bytes all = block_tells order faces time bytes all
+told_tells (section order interfaces time) bytes all = block_tells order interfaces time bytes all
 
 with_has : (packet : Option Packet) (packets : List Packet) → HasIn packet → AllByRecursion HasBytes packets → AllByRecursion HasBytes (with_packet packet packets)
 with_has None packets h all = all

@@ -52,7 +52,7 @@ some_ends (suc more) format n bytes small =
 open_at_end : (format : Format) (bytes : List ℕ) → IsAtEnd format bytes → IsOpen format bytes
 open_at_end fresh bytes at_end = let may : false ≡ true = at_end.1 in absurd (cc)
 open_at_end (classic order parts link) bytes at_end = (16, ap (λ (bs : List ℕ). told (classic order parts link) bs) at_end.0)
-open_at_end (section order faces time) bytes at_end = (8, ap (λ (bs : List ℕ). told (section order faces time) bs) at_end.0)
+open_at_end (section order interfaces time) bytes at_end = (8, ap (λ (bs : List ℕ). told (section order interfaces time) bs) at_end.0)
 
 -- what is told is one thing
 not_both : (t : Told) (k : ℕ) (kind : CaptureKind) → t ≡ wants k → t ≡ refused kind → ⊥

@@ -8,9 +8,9 @@ use Rattle.gev_capture.specs.declared.order.Order.{Order}
 use Rattle.gev_capture.specs.declared.order.Order.TheVariants.{Big, Little}
 use Rattle.gev_capture.specs.declared.kind.CaptureKind.{CaptureKind}
 use Rattle.gev_capture.specs.declared.kind.CaptureKind.TheVariants.{Magic, Version, Length, Interface}
-use Rattle.gev_capture.specs.declared.form.Face.{Face}
+use Rattle.gev_capture.specs.declared.form.SectionInterface.{SectionInterface}
 use Rattle.gev_capture.specs.Numbers.{number}
-use Rattle.gev_capture.specs.Files.{Packet, Format, fresh, classic, section, Told, wants, given, need, test, packet_at, classic_magic, classic_header, classic_time, classic_record, told_classic, resolution, parts_of, options_in, face_in, byte_order, is_total, whole, face_block, block_time, on_face, counted_packet, packet_block, simple_count, simple_sized, simple_on, simple_block, body_told, sized_block, versioned, sized_section, told_section, section_type, begun_section, told_block, opens_as}
+use Rattle.gev_capture.specs.Files.{Packet, Format, fresh, classic, section, Told, wants, given, need, test, packet_at, classic_magic, classic_header, classic_time, classic_record, told_classic, resolution, parts_of, options_in, interface_in, byte_order, is_total, whole, interface_block, block_time, on_interface, counted_packet, packet_block, simple_count, simple_sized, simple_on, simple_block, body_told, sized_block, versioned, sized_section, told_section, section_type, begun_section, told_block, opens_as}
 use Rattle.gev_capture.specs.Laws.{Stays, PiecesTell}
 
 -- numbers and slices that are there
@@ -108,21 +108,21 @@ block_stays : (total : ℕ) (bytes : List ℕ) (x y : Told) (format : Format) (p
     → 1 ≤ total → total ≤ length bytes → Stays (length bytes) x y
 block_stays total bytes x y format packet e f some within = rw e (f, some, within)
 
-same_face : (order : Order) (total : ℕ) (bytes more : List ℕ) → 20 ≤ total → total ≤ length bytes → face_in order total (bytes ++ more) ≡ face_in order total bytes
-same_face order total bytes more some within =
-    ap (λ (l : ℕ). faced l (number order 12 4 (bytes ++ more)) (options_in total (bytes ++ more))) (same_number order 8 2 bytes more (omega arith))
-    ∙ ap (λ (m : ℕ). faced (number order 8 2 bytes) m (options_in total (bytes ++ more))) (same_number order 12 4 bytes more (omega arith))
-    ∙ ap (λ (os : List ℕ). faced (number order 8 2 bytes) (number order 12 4 bytes) os) (same_slice 16 (total - 4 - 16) bytes more (omega arith))
+same_interface : (order : Order) (total : ℕ) (bytes more : List ℕ) → 20 ≤ total → total ≤ length bytes → interface_in order total (bytes ++ more) ≡ interface_in order total bytes
+same_interface order total bytes more some within =
+    ap (λ (l : ℕ). of_interface l (number order 12 4 (bytes ++ more)) (options_in total (bytes ++ more))) (same_number order 8 2 bytes more (omega arith))
+    ∙ ap (λ (m : ℕ). of_interface (number order 8 2 bytes) m (options_in total (bytes ++ more))) (same_number order 12 4 bytes more (omega arith))
+    ∙ ap (λ (os : List ℕ). of_interface (number order 8 2 bytes) (number order 12 4 bytes) os) (same_slice 16 (total - 4 - 16) bytes more (omega arith))
   where
-    faced : ℕ → ℕ → List ℕ → Face
-    faced l m os = record { link = l; most = m; parts = parts_of (resolution (length os) order 6 os) }
+    of_interface : ℕ → ℕ → List ℕ → SectionInterface
+    of_interface l m os = record { link = l; most = m; parts = parts_of (resolution (length os) order 6 os) }
 
-face_block_stays : (order : Order) (faces : List Face) (time total : ℕ) (bytes more : List ℕ) → 12 ≤ total → total ≤ length bytes
-    → Stays (length bytes) (face_block order faces time total bytes) (face_block order faces time total (bytes ++ more))
-face_block_stays order faces time total bytes more some within =
+interface_block_stays : (order : Order) (interfaces : List SectionInterface) (time total : ℕ) (bytes more : List ℕ) → 12 ≤ total → total ≤ length bytes
+    → Stays (length bytes) (interface_block order interfaces time total bytes) (interface_block order interfaces time total (bytes ++ more))
+interface_block_stays order interfaces time total bytes more some within =
     test_stays (length bytes) (nat_le 20 total) (nat_le 20 total) Length _ _ refl (λ has.
-    test_stays (length bytes) (nat_lt (length faces) 256) (nat_lt (length faces) 256) Interface _ _ refl (λ _. (
-      ap (λ (f : Face). given total (section order (faces ++ f ∷ []) time) None) (same_face order total bytes more (leb-true 20 total has) within),
+    test_stays (length bytes) (nat_lt (length interfaces) 256) (nat_lt (length interfaces) 256) Interface _ _ refl (λ _. (
+      ap (λ (f : SectionInterface). given total (section order (interfaces ++ f ∷ []) time) None) (same_interface order total bytes more (leb-true 20 total has) within),
       omega arith,
       within,
     )))
@@ -132,39 +132,39 @@ same_block_time order parts bytes more enough =
     ap (λ (h : ℕ). (h * 2 ^ 32 + number order 16 4 (bytes ++ more)) * 1000000000 / parts) (same_number order 12 4 bytes more (omega arith))
     ∙ ap (λ (l : ℕ). (number order 12 4 bytes * 2 ^ 32 + l) * 1000000000 / parts) (same_number order 16 4 bytes more (omega arith))
 
-on_face_stays : (order : Order) (faces : List Face) (total n : ℕ) (o : Option Face) (bytes more : List ℕ) → 32 + n ≤ total → total ≤ length bytes
-    → Stays (length bytes) (on_face order faces total n o bytes) (on_face order faces total n o (bytes ++ more))
-on_face_stays order faces total n None bytes more fits within = refl
-on_face_stays order faces total n (Some face) bytes more fits within =
-    let time = same_block_time order face.parts bytes more (omega arith) in (
-      ap (λ (t : ℕ). given total (section order faces t) (Some (packet_at (block_time order face.parts (bytes ++ more)) face.link 28 n (bytes ++ more)))) time
-          ∙ ap (λ (p : Packet). given total (section order faces (block_time order face.parts bytes)) (Some p))
-          (same_packet (block_time order face.parts bytes) (block_time order face.parts (bytes ++ more)) face.link 28 n bytes more time (omega arith)),
+on_interface_stays : (order : Order) (interfaces : List SectionInterface) (total n : ℕ) (o : Option SectionInterface) (bytes more : List ℕ) → 32 + n ≤ total → total ≤ length bytes
+    → Stays (length bytes) (on_interface order interfaces total n o bytes) (on_interface order interfaces total n o (bytes ++ more))
+on_interface_stays order interfaces total n None bytes more fits within = refl
+on_interface_stays order interfaces total n (Some interface) bytes more fits within =
+    let time = same_block_time order interface.parts bytes more (omega arith) in (
+      ap (λ (t : ℕ). given total (section order interfaces t) (Some (packet_at (block_time order interface.parts (bytes ++ more)) interface.link 28 n (bytes ++ more)))) time
+          ∙ ap (λ (p : Packet). given total (section order interfaces (block_time order interface.parts bytes)) (Some p))
+          (same_packet (block_time order interface.parts bytes) (block_time order interface.parts (bytes ++ more)) interface.link 28 n bytes more time (omega arith)),
       omega arith,
       within,
     )
 
-counted_packet_stays : (order : Order) (faces : List Face) (total i n : ℕ) (bytes more : List ℕ) → total ≤ length bytes
-    → Stays (length bytes) (counted_packet order faces total i n bytes) (counted_packet order faces total i n (bytes ++ more))
-counted_packet_stays order faces total i n bytes more within =
+counted_packet_stays : (order : Order) (interfaces : List SectionInterface) (total i n : ℕ) (bytes more : List ℕ) → total ≤ length bytes
+    → Stays (length bytes) (counted_packet order interfaces total i n bytes) (counted_packet order interfaces total i n (bytes ++ more))
+counted_packet_stays order interfaces total i n bytes more within =
     test_stays (length bytes) (nat_le n 262144) (nat_le n 262144) Length _ _ refl (λ _.
     test_stays (length bytes) (nat_le (32 + n) total) (nat_le (32 + n) total) Length _ _ refl (λ fits.
-    on_face_stays order faces total n (slice_get faces i) bytes more (leb-true (32 + n) total fits) within))
+    on_interface_stays order interfaces total n (slice_get interfaces i) bytes more (leb-true (32 + n) total fits) within))
 
-packet_block_stays : (order : Order) (faces : List Face) (total i : ℕ) (bytes more : List ℕ) → total ≤ length bytes
-    → Stays (length bytes) (packet_block order faces total i bytes) (packet_block order faces total i (bytes ++ more))
-packet_block_stays order faces total i bytes more within =
+packet_block_stays : (order : Order) (interfaces : List SectionInterface) (total i : ℕ) (bytes more : List ℕ) → total ≤ length bytes
+    → Stays (length bytes) (packet_block order interfaces total i bytes) (packet_block order interfaces total i (bytes ++ more))
+packet_block_stays order interfaces total i bytes more within =
     test_stays (length bytes) (nat_le 32 total) (nat_le 32 total) Length _ _ refl (λ has.
     let header : 32 ≤ total = leb-true 32 total has in
-    subst (λ (n : ℕ). Stays (length bytes) (counted_packet order faces total i (number order 20 4 bytes) bytes) (counted_packet order faces total i n (bytes ++ more)))
+    subst (λ (n : ℕ). Stays (length bytes) (counted_packet order interfaces total i (number order 20 4 bytes) bytes) (counted_packet order interfaces total i n (bytes ++ more)))
     (sym (same_number order 20 4 bytes more (omega arith)))
-    (counted_packet_stays order faces total i (number order 20 4 bytes) bytes more within))
+    (counted_packet_stays order interfaces total i (number order 20 4 bytes) bytes more within))
 
-simple_sized_stays : (order : Order) (faces : List Face) (time total link n : ℕ) (bytes more : List ℕ) → 16 + n ≤ total → total ≤ length bytes
-    → Stays (length bytes) (simple_sized order faces time total link n bytes) (simple_sized order faces time total link n (bytes ++ more))
-simple_sized_stays order faces time total link n bytes more fits within =
+simple_sized_stays : (order : Order) (interfaces : List SectionInterface) (time total link n : ℕ) (bytes more : List ℕ) → 16 + n ≤ total → total ≤ length bytes
+    → Stays (length bytes) (simple_sized order interfaces time total link n bytes) (simple_sized order interfaces time total link n (bytes ++ more))
+simple_sized_stays order interfaces time total link n bytes more fits within =
     test_stays (length bytes) (nat_le n 262144) (nat_le n 262144) Length _ _ refl (λ _. (
-      ap (λ (p : Packet). given total (section order faces time) (Some p)) (same_packet time time link 12 n bytes more refl (omega arith)),
+      ap (λ (p : Packet). given total (section order interfaces time) (Some p)) (same_packet time time link 12 n bytes more refl (omega arith)),
       omega arith,
       within,
     ))
@@ -175,42 +175,42 @@ simple_fits most original room = go (most == 0) where
   go true = omega arith
   go false = omega arith
 
-simple_on_stays : (order : Order) (faces : List Face) (time total : ℕ) (o : Option Face) (bytes more : List ℕ) → 16 ≤ total → total ≤ length bytes
-    → Stays (length bytes) (simple_on order faces time total o bytes) (simple_on order faces time total o (bytes ++ more))
-simple_on_stays order faces time total None bytes more some within = refl
-simple_on_stays order faces time total (Some face) bytes more some within =
-    let n : ℕ = simple_count face.most (number order 8 4 bytes) (total - 16) in
-    subst (λ (m : ℕ). Stays (length bytes) (simple_sized order faces time total face.link n bytes) (simple_sized order faces time total face.link (simple_count face.most m (total - 16)) (bytes ++ more)))
+simple_on_stays : (order : Order) (interfaces : List SectionInterface) (time total : ℕ) (o : Option SectionInterface) (bytes more : List ℕ) → 16 ≤ total → total ≤ length bytes
+    → Stays (length bytes) (simple_on order interfaces time total o bytes) (simple_on order interfaces time total o (bytes ++ more))
+simple_on_stays order interfaces time total None bytes more some within = refl
+simple_on_stays order interfaces time total (Some interface) bytes more some within =
+    let n : ℕ = simple_count interface.most (number order 8 4 bytes) (total - 16) in
+    subst (λ (m : ℕ). Stays (length bytes) (simple_sized order interfaces time total interface.link n bytes) (simple_sized order interfaces time total interface.link (simple_count interface.most m (total - 16)) (bytes ++ more)))
     (sym (same_number order 8 4 bytes more (omega arith)))
-    (simple_sized_stays order faces time total face.link n bytes more (omega (arith, simple_fits face.most (number order 8 4 bytes) (total - 16))) within)
+    (simple_sized_stays order interfaces time total interface.link n bytes more (omega (arith, simple_fits interface.most (number order 8 4 bytes) (total - 16))) within)
 
-simple_block_stays : (order : Order) (faces : List Face) (time total : ℕ) (bytes more : List ℕ) → total ≤ length bytes
-    → Stays (length bytes) (simple_block order faces time total bytes) (simple_block order faces time total (bytes ++ more))
-simple_block_stays order faces time total bytes more within =
+simple_block_stays : (order : Order) (interfaces : List SectionInterface) (time total : ℕ) (bytes more : List ℕ) → total ≤ length bytes
+    → Stays (length bytes) (simple_block order interfaces time total bytes) (simple_block order interfaces time total (bytes ++ more))
+simple_block_stays order interfaces time total bytes more within =
     test_stays (length bytes) (nat_le 16 total) (nat_le 16 total) Length _ _ refl (λ has.
-    simple_on_stays order faces time total (slice_get faces 0) bytes more (leb-true 16 total has) within)
+    simple_on_stays order interfaces time total (slice_get interfaces 0) bytes more (leb-true 16 total has) within)
 
-body_told_stays : (order : Order) (faces : List Face) (time total type : ℕ) (bytes more : List ℕ) → 12 ≤ total → total ≤ length bytes
-    → Stays (length bytes) (body_told order faces time total type bytes) (body_told order faces time total type (bytes ++ more))
-body_told_stays order faces time total type bytes more some within =
+body_told_stays : (order : Order) (interfaces : List SectionInterface) (time total type : ℕ) (bytes more : List ℕ) → 12 ≤ total → total ≤ length bytes
+    → Stays (length bytes) (body_told order interfaces time total type bytes) (body_told order interfaces time total type (bytes ++ more))
+body_told_stays order interfaces time total type bytes more some within =
     let n : ℕ = length bytes in
-    if_stays n (type == 1) (type == 1) _ _ _ _ refl (face_block_stays order faces time total bytes more some within)
+    if_stays n (type == 1) (type == 1) _ _ _ _ refl (interface_block_stays order interfaces time total bytes more some within)
     (if_stays n (type == 6) (type == 6) _ _ _ _ refl
-    (subst (λ (i : ℕ). Stays n (packet_block order faces total (number order 8 4 bytes) bytes) (packet_block order faces total i (bytes ++ more)))
-    (sym (same_number order 8 4 bytes more (omega arith))) (packet_block_stays order faces total (number order 8 4 bytes) bytes more within))
+    (subst (λ (i : ℕ). Stays n (packet_block order interfaces total (number order 8 4 bytes) bytes) (packet_block order interfaces total i (bytes ++ more)))
+    (sym (same_number order 8 4 bytes more (omega arith))) (packet_block_stays order interfaces total (number order 8 4 bytes) bytes more within))
     (if_stays n (type == 2) (type == 2) _ _ _ _ refl
-    (subst (λ (i : ℕ). Stays n (packet_block order faces total (number order 8 2 bytes) bytes) (packet_block order faces total i (bytes ++ more)))
-    (sym (same_number order 8 2 bytes more (omega arith))) (packet_block_stays order faces total (number order 8 2 bytes) bytes more within))
-    (if_stays n (type == 3) (type == 3) _ _ _ _ refl (simple_block_stays order faces time total bytes more within)
+    (subst (λ (i : ℕ). Stays n (packet_block order interfaces total (number order 8 2 bytes) bytes) (packet_block order interfaces total i (bytes ++ more)))
+    (sym (same_number order 8 2 bytes more (omega arith))) (packet_block_stays order interfaces total (number order 8 2 bytes) bytes more within))
+    (if_stays n (type == 3) (type == 3) _ _ _ _ refl (simple_block_stays order interfaces time total bytes more within)
     (refl, omega arith, within))))
 
-sized_block_stays : (order : Order) (faces : List Face) (time total : ℕ) (bytes more : List ℕ) → 8 ≤ length bytes
-    → Stays (length bytes) (sized_block order faces time total bytes) (sized_block order faces time total (bytes ++ more))
-sized_block_stays order faces time total bytes more header =
+sized_block_stays : (order : Order) (interfaces : List SectionInterface) (time total : ℕ) (bytes more : List ℕ) → 8 ≤ length bytes
+    → Stays (length bytes) (sized_block order interfaces time total bytes) (sized_block order interfaces time total (bytes ++ more))
+sized_block_stays order interfaces time total bytes more header =
     whole_stays order 12 total bytes more _ _ (omega arith) (λ some within.
-    subst (λ (type : ℕ). Stays (length bytes) (body_told order faces time total (number order 0 4 bytes) bytes) (body_told order faces time total type (bytes ++ more)))
+    subst (λ (type : ℕ). Stays (length bytes) (body_told order interfaces time total (number order 0 4 bytes) bytes) (body_told order interfaces time total type (bytes ++ more)))
     (sym (same_number order 0 4 bytes more (omega arith)))
-    (body_told_stays order faces time total (number order 0 4 bytes) bytes more some within))
+    (body_told_stays order interfaces time total (number order 0 4 bytes) bytes more some within))
 
 versioned_stays : (order : Order) (total time : ℕ) (bytes more : List ℕ) → 28 ≤ total → total ≤ length bytes
     → Stays (length bytes) (versioned order total time bytes) (versioned order total time (bytes ++ more))
@@ -234,15 +234,15 @@ begun_section_stays time bytes more =
     (sym (same_number Big 8 4 bytes more (omega arith)))
     (told_section_stays (byte_order (number Big 8 4 bytes)) time bytes more enough))
 
-told_block_stays : (order : Order) (faces : List Face) (time : ℕ) (bytes more : List ℕ) → Stays (length bytes) (told_block order faces time bytes) (told_block order faces time (bytes ++ more))
-told_block_stays order faces time bytes more =
+told_block_stays : (order : Order) (interfaces : List SectionInterface) (time : ℕ) (bytes more : List ℕ) → Stays (length bytes) (told_block order interfaces time bytes) (told_block order interfaces time (bytes ++ more))
+told_block_stays order interfaces time bytes more =
     need_stays 8 bytes more _ _ (λ enough.
     if_stays (length bytes) (number Big 0 4 bytes == section_type) (number Big 0 4 (bytes ++ more) == section_type) _ _ _ _
     (ap (λ (type : ℕ). type == section_type) (same_number Big 0 4 bytes more (omega arith)))
     (begun_section_stays time bytes more)
-    (subst (λ (total : ℕ). Stays (length bytes) (sized_block order faces time (number order 4 4 bytes) bytes) (sized_block order faces time total (bytes ++ more)))
+    (subst (λ (total : ℕ). Stays (length bytes) (sized_block order interfaces time (number order 4 4 bytes) bytes) (sized_block order interfaces time total (bytes ++ more)))
     (sym (same_number order 4 4 bytes more (omega arith)))
-    (sized_block_stays order faces time (number order 4 4 bytes) bytes more enough)))
+    (sized_block_stays order interfaces time (number order 4 4 bytes) bytes more enough)))
 
 opens_as_stays : (o : Option (Order × ℕ)) (bytes more : List ℕ) → 4 ≤ length bytes → Stays (length bytes) (opens_as o bytes) (opens_as o (bytes ++ more))
 opens_as_stays (Some x) bytes more header = classic_header_stays x.0 x.1 bytes more
@@ -258,4 +258,4 @@ pieces_tell fresh bytes more =
     (sym (same_number Big 0 4 bytes more (omega arith)))
     (opens_as_stays (classic_magic (number Big 0 4 bytes)) bytes more enough))
 pieces_tell (classic order parts link) bytes more = told_classic_stays order parts link bytes more
-pieces_tell (section order faces time) bytes more = told_block_stays order faces time bytes more
+pieces_tell (section order interfaces time) bytes more = told_block_stays order interfaces time bytes more

@@ -1,8 +1,8 @@
 -- Records that stand one after the other.
-use Rattle.std.proofs.Common.{◌≡◌, ℕ, ◌+◌, ◌≤◌, List, [], ◌∷◌, ◌++◌, length, drop, Option, Some, None, refl, ap, sym, ◌∙◌, subst, arith, append_assoc}
-use Rattle.std.proofs.lemmas.List.{append-nil, drop-append-le}
-use Rattle.gev_capture.specs.Files.{Packet, Format, fresh, Told, wants, refused, given, told}
-use Rattle.gev_capture.specs.Captures.{Read, Refusal, EndsAs, AreRecords, with_packet, packets_in, HasCaptured}
+use Rattle.std.proofs.Common.{◌≡◌, ℕ, ◌+◌, ◌≤◌, List, [], ◌∷◌, ◌++◌, length, drop, Option, Some, None, refl, ap, sym, ◌∙◌, subst, arith}
+use Rattle.std.proofs.lemmas.List.{drop-append-le}
+use Rattle.gev_capture.specs.Files.{Packet, Format, Told, given, told}
+use Rattle.gev_capture.specs.Captures.{Read, Refusal, EndsAs, AreRecords, with_packet, packets_in}
 use Rattle.gev_capture.specs.Laws.{Stays}
 use Rattle.gev_capture.specs.Walking.{Walks}
 use Rattle.gev_capture.proofs.Pieces.{pieces_tell}

@@ -19,7 +19,7 @@ pub record Refusal : Type 0 where
 abbrev pub may_begin : Format → Bool
 may_begin fresh = false
 may_begin (classic order parts link) = true
-may_begin (section order faces time) = true
+may_begin (section order interfaces time) = true
 
 -- what is told is that more bytes are needed
 abbrev pub IsOpen : Format → List ℕ → Type 0

@@ -5,7 +5,7 @@ use Rattle.gev_capture.specs.declared.order.Order.{Order}
 use Rattle.gev_capture.specs.declared.order.Order.TheVariants.{Big, Little}
 use Rattle.gev_capture.specs.declared.kind.CaptureKind.{CaptureKind}
 use Rattle.gev_capture.specs.declared.kind.CaptureKind.TheVariants.{Magic, Version, Length, Interface}
-use Rattle.gev_capture.specs.declared.form.Face.{Face}
+use Rattle.gev_capture.specs.declared.form.SectionInterface.{SectionInterface}
 use Rattle.gev_capture.specs.Numbers.{number}
 
 -- A packet as it was captured: its time in nanoseconds, rounded down, its link type and its bytes.
@@ -21,7 +21,7 @@ pub data Format : Type 0 where
   -- a pcap file: its byte order, the parts of a second, and the link type
   classic : Order → ℕ → ℕ → Format
   -- a section of a pcapng file: its byte order, its interfaces, and the time of the last packet
-  section : Order → List Face → ℕ → Format
+  section : Order → List SectionInterface → ℕ → Format
 
 -- What the bytes that are left begin with.
 pub data Told : Type 0 where
@@ -109,8 +109,8 @@ parts_of r = if nat_le r 19 then 10 ^ r else if nat_le 128 r && nat_le r 191 the
 abbrev pub options_in : ℕ → List ℕ → List ℕ
 options_in total bytes = take (total - 4 - 16) (drop 16 bytes)
 
-abbrev pub face_in : Order → ℕ → List ℕ → Face
-face_in order total bytes = record {
+abbrev pub interface_in : Order → ℕ → List ℕ → SectionInterface
+interface_in order total bytes = record {
   link = number order 8 2 bytes;
   most = number order 12 4 bytes;
   parts = parts_of (resolution (length (options_in total bytes)) order 6 (options_in total bytes));
@@ -134,63 +134,63 @@ whole order least total bytes next =
     (test (number order (total - 4) 4 bytes == total) Length next))
 
 -- an interface, at most the 256th of its section
-abbrev pub face_block : Order → List Face → ℕ → ℕ → List ℕ → Told
-face_block order faces time total bytes =
+abbrev pub interface_block : Order → List SectionInterface → ℕ → ℕ → List ℕ → Told
+interface_block order interfaces time total bytes =
     test (nat_le 20 total) Length
-    (test (nat_lt (length faces) 256) Interface
-    (given total (section order (faces ++ face_in order total bytes ∷ []) time) None))
+    (test (nat_lt (length interfaces) 256) Interface
+    (given total (section order (interfaces ++ interface_in order total bytes ∷ []) time) None))
 
 -- the time of an enhanced packet: 64 bits of parts of a second
 abbrev pub block_time : Order → ℕ → List ℕ → ℕ
 block_time order parts bytes = (number order 12 4 bytes * 2 ^ 32 + number order 16 4 bytes) * 1000000000 / parts
 
-abbrev pub on_face : Order → List Face → ℕ → ℕ → Option Face → List ℕ → Told
-on_face order faces total n None bytes = refused Interface
-on_face order faces total n (Some face) bytes =
-    given total (section order faces (block_time order face.parts bytes))
-    (Some (packet_at (block_time order face.parts bytes) face.link 28 n bytes))
+abbrev pub on_interface : Order → List SectionInterface → ℕ → ℕ → Option SectionInterface → List ℕ → Told
+on_interface order interfaces total n None bytes = refused Interface
+on_interface order interfaces total n (Some interface) bytes =
+    given total (section order interfaces (block_time order interface.parts bytes))
+    (Some (packet_at (block_time order interface.parts bytes) interface.link 28 n bytes))
 
 -- with n captured bytes, which fit the rest of the body, of interface i
-abbrev pub counted_packet : Order → List Face → ℕ → ℕ → ℕ → List ℕ → Told
-counted_packet order faces total i n bytes =
+abbrev pub counted_packet : Order → List SectionInterface → ℕ → ℕ → ℕ → List ℕ → Told
+counted_packet order interfaces total i n bytes =
     test (nat_le n 262144) Length
     (test (nat_le (32 + n) total) Length
-    (on_face order faces total n (slice_get faces i) bytes))
+    (on_interface order interfaces total n (slice_get interfaces i) bytes))
 
-abbrev pub packet_block : Order → List Face → ℕ → ℕ → List ℕ → Told
-packet_block order faces total i bytes =
-    test (nat_le 32 total) Length (counted_packet order faces total i (number order 20 4 bytes) bytes)
+abbrev pub packet_block : Order → List SectionInterface → ℕ → ℕ → List ℕ → Told
+packet_block order interfaces total i bytes =
+    test (nat_le 32 total) Length (counted_packet order interfaces total i (number order 20 4 bytes) bytes)
 
 -- how many bytes of a simple packet were captured, where its block has room for so many
 abbrev pub simple_count : ℕ → ℕ → ℕ → ℕ
 simple_count most original room = if most == 0 then min original room else min most (min original room)
 
-abbrev pub simple_sized : Order → List Face → ℕ → ℕ → ℕ → ℕ → List ℕ → Told
-simple_sized order faces time total link n bytes =
-    test (nat_le n 262144) Length (given total (section order faces time) (Some (packet_at time link 12 n bytes)))
+abbrev pub simple_sized : Order → List SectionInterface → ℕ → ℕ → ℕ → ℕ → List ℕ → Told
+simple_sized order interfaces time total link n bytes =
+    test (nat_le n 262144) Length (given total (section order interfaces time) (Some (packet_at time link 12 n bytes)))
 
-abbrev pub simple_on : Order → List Face → ℕ → ℕ → Option Face → List ℕ → Told
-simple_on order faces time total None bytes = refused Interface
-simple_on order faces time total (Some face) bytes =
-    simple_sized order faces time total face.link (simple_count face.most (number order 8 4 bytes) (total - 16)) bytes
+abbrev pub simple_on : Order → List SectionInterface → ℕ → ℕ → Option SectionInterface → List ℕ → Told
+simple_on order interfaces time total None bytes = refused Interface
+simple_on order interfaces time total (Some interface) bytes =
+    simple_sized order interfaces time total interface.link (simple_count interface.most (number order 8 4 bytes) (total - 16)) bytes
 
 -- a simple packet, of the first interface, at the time of the packet before it
-abbrev pub simple_block : Order → List Face → ℕ → ℕ → List ℕ → Told
-simple_block order faces time total bytes =
-    test (nat_le 16 total) Length (simple_on order faces time total (slice_get faces 0) bytes)
+abbrev pub simple_block : Order → List SectionInterface → ℕ → ℕ → List ℕ → Told
+simple_block order interfaces time total bytes =
+    test (nat_le 16 total) Length (simple_on order interfaces time total (slice_get interfaces 0) bytes)
 
 -- by the block's type; what isn't known is skipped
-abbrev pub body_told : Order → List Face → ℕ → ℕ → ℕ → List ℕ → Told
-body_told order faces time total type bytes =
-    if type == 1 then face_block order faces time total bytes
-    else if type == 6 then packet_block order faces total (number order 8 4 bytes) bytes
-    else if type == 2 then packet_block order faces total (number order 8 2 bytes) bytes
-    else if type == 3 then simple_block order faces time total bytes
-    else given total (section order faces time) None
+abbrev pub body_told : Order → List SectionInterface → ℕ → ℕ → ℕ → List ℕ → Told
+body_told order interfaces time total type bytes =
+    if type == 1 then interface_block order interfaces time total bytes
+    else if type == 6 then packet_block order interfaces total (number order 8 4 bytes) bytes
+    else if type == 2 then packet_block order interfaces total (number order 8 2 bytes) bytes
+    else if type == 3 then simple_block order interfaces time total bytes
+    else given total (section order interfaces time) None
 
-abbrev pub sized_block : Order → List Face → ℕ → ℕ → List ℕ → Told
-sized_block order faces time total bytes =
-    whole order 12 total bytes (body_told order faces time total (number order 0 4 bytes) bytes)
+abbrev pub sized_block : Order → List SectionInterface → ℕ → ℕ → List ℕ → Told
+sized_block order interfaces time total bytes =
+    whole order 12 total bytes (body_told order interfaces time total (number order 0 4 bytes) bytes)
 
 -- a section's header, whose version 1 is known; the section has no interface yet
 abbrev pub versioned : Order → ℕ → ℕ → List ℕ → Told
@@ -211,11 +211,11 @@ section_type = 0x0A0D0D0A
 abbrev pub begun_section : ℕ → List ℕ → Told
 begun_section time bytes = need 12 bytes (told_section (byte_order (number Big 8 4 bytes)) time bytes)
 
-abbrev pub told_block : Order → List Face → ℕ → List ℕ → Told
-told_block order faces time bytes =
+abbrev pub told_block : Order → List SectionInterface → ℕ → List ℕ → Told
+told_block order interfaces time bytes =
     need 8 bytes
     (if number Big 0 4 bytes == section_type then begun_section time bytes
-    else sized_block order faces time (number order 4 4 bytes) bytes)
+    else sized_block order interfaces time (number order 4 4 bytes) bytes)
 
 -- ---- records
 
@@ -228,4 +228,4 @@ opens_as None bytes = test (number Big 0 4 bytes == section_type) Magic (begun_s
 abbrev pub told : Format → List ℕ → Told
 told fresh bytes = need 4 bytes (opens_as (classic_magic (number Big 0 4 bytes)) bytes)
 told (classic order parts link) bytes = told_classic order parts link bytes
-told (section order faces time) bytes = told_block order faces time bytes
+told (section order interfaces time) bytes = told_block order interfaces time bytes

@@ -2,7 +2,7 @@
 use Rattle.std.specs.Prelude.{◌≡◌, ◌⊎◌, ℕ, ◌≤◌, List, [], ◌++◌, length, Option, Result, Ok, Err}
 use Rattle.gev_links.specs.Faults.{Rose}
 use Rattle.gev_links.specs.Told.{Gives, IsSpent}
-use Rattle.gev_capture.specs.declared.form.Face.{Face}
+use Rattle.gev_capture.specs.declared.form.SectionInterface.{SectionInterface}
 use Rattle.gev_capture.specs.declared.step.Found.{Found}
 use Rattle.gev_capture.specs.declared.step.Step.TheVariants.{Record}
 use Rattle.gev_capture.specs.declared.kind.CaptureKind.TheVariants.{Cut}
@@ -49,8 +49,8 @@ CauseOfEnd (Refused kind) format bytes left faults faults_after =
 CauseOfEnd ReadFault format bytes left faults faults_after = IsOpen format bytes × Rose faults faults_after
 
 -- the next record, which all bytes that are held now begin with, or why there is none
-abbrev pub Finds : Result Found CaptureEnd → Format → List Face → List ℕ → List ℕ → Option (List ℕ) → Option (List ℕ) → ℕ → ℕ → Type 0
-Finds (Ok found) format faces held held_after left left_after faults faults_after =
-    ReadsOn format held left left_after (λ bytes. (told format bytes ≡ told_by faces bytes (Record found)) × IsFound faces bytes found × (held_after ≡ bytes))
-Finds (Err end) format faces held held_after left left_after faults faults_after =
+abbrev pub Finds : Result Found CaptureEnd → Format → List SectionInterface → List ℕ → List ℕ → Option (List ℕ) → Option (List ℕ) → ℕ → ℕ → Type 0
+Finds (Ok found) format interfaces held held_after left left_after faults faults_after =
+    ReadsOn format held left left_after (λ bytes. (told format bytes ≡ told_by interfaces bytes (Record found)) × IsFound interfaces bytes found × (held_after ≡ bytes))
+Finds (Err end) format interfaces held held_after left left_after faults faults_after =
     ReadsOn format held left left_after (λ bytes. CauseOfEnd end format bytes left_after faults faults_after × (held_after ≡ bytes))

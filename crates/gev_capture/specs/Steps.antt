@@ -1,6 +1,6 @@
 -- What an answer of the code stands for.
 use Rattle.std.specs.Prelude.{◌≡◌, ℕ, ◌+◌, ◌<◌, ◌≤◌, length, slice_get, List, [], ◌∷◌, ◌++◌, Option, Some, None, option_map}
-use Rattle.gev_capture.specs.declared.form.Face.{Face}
+use Rattle.gev_capture.specs.declared.form.SectionInterface.{SectionInterface}
 use Rattle.gev_capture.specs.declared.form.Form.{Form}
 use Rattle.gev_capture.specs.declared.form.Form.TheVariants as form
 use Rattle.gev_capture.specs.declared.step.Slot.{Slot}
@@ -11,24 +11,24 @@ use Rattle.gev_capture.specs.declared.step.Step.{Step}
 use Rattle.gev_capture.specs.declared.step.Step.TheVariants.{Wants, Refused, Record}
 use Rattle.gev_capture.specs.Files.{Packet, packet_at, Format, fresh, classic, section, Told, wants, refused, given}
 
-abbrev pub format_of : Form → List Face → Format
-format_of form.Fresh faces = fresh
-format_of (form.Classic order parts link) faces = classic order parts link
-format_of (form.Section order time) faces = section order faces time
+abbrev pub format_of : Form → List SectionInterface → Format
+format_of form.Fresh interfaces = fresh
+format_of (form.Classic order parts link) interfaces = classic order parts link
+format_of (form.Section order time) interfaces = section order interfaces time
 
-abbrev pub faces_after : Change → List Face → List Face
-faces_after Same faces = faces
-faces_after Cleared faces = []
-faces_after (More face) faces = faces ++ face ∷ []
+abbrev pub interfaces_after : Change → List SectionInterface → List SectionInterface
+interfaces_after Same interfaces = interfaces
+interfaces_after Cleared interfaces = []
+interfaces_after (More interface) interfaces = interfaces ++ interface ∷ []
 
 abbrev pub slot_packet : List ℕ → Slot → Packet
 slot_packet bytes slot = packet_at slot.time slot.link slot.at slot.count bytes
 
-abbrev pub told_by : List Face → List ℕ → Step → Told
-told_by faces bytes (Wants n) = wants n
-told_by faces bytes (Refused kind) = refused kind
-told_by faces bytes (Record found) =
-    given found.size (format_of found.form (faces_after found.change faces)) (option_map (slot_packet bytes) found.packet)
+abbrev pub told_by : List SectionInterface → List ℕ → Step → Told
+told_by interfaces bytes (Wants n) = wants n
+told_by interfaces bytes (Refused kind) = refused kind
+told_by interfaces bytes (Record found) =
+    given found.size (format_of found.form (interfaces_after found.change interfaces)) (option_map (slot_packet bytes) found.packet)
 
 -- a second has parts
 abbrev pub HasParts : Form → Type 0
@@ -37,10 +37,10 @@ HasParts (form.Classic order parts link) = 1 ≤ parts
 HasParts (form.Section order time) = Unit {0}
 
 -- one more interface, where there is room for one
-abbrev pub MayChange : List Face → Change → Type 0
-MayChange faces Same = Unit {0}
-MayChange faces Cleared = Unit {0}
-MayChange faces (More face) = (length faces < 256) × (1 ≤ face.parts)
+abbrev pub MayChange : List SectionInterface → Change → Type 0
+MayChange interfaces Same = Unit {0}
+MayChange interfaces Cleared = Unit {0}
+MayChange interfaces (More interface) = (length interfaces < 256) × (1 ≤ interface.parts)
 
 -- the packet stands within its record
 abbrev pub StandsWithin : ℕ → Option Slot → Type 0
@@ -48,22 +48,22 @@ StandsWithin size None = Unit {0}
 StandsWithin size (Some slot) = slot.at + slot.count ≤ size
 
 -- the record is among the bytes, and may be told of
-pub record IsFound (faces : List Face) (bytes : List ℕ) (found : Found) : Type 0 where
+pub record IsFound (interfaces : List SectionInterface) (bytes : List ℕ) (found : Found) : Type 0 where
   pub some : 1 ≤ found.size
   pub within : found.size ≤ length bytes
   pub form : HasParts found.form
-  pub change : MayChange faces found.change
+  pub change : MayChange interfaces found.change
   pub packet : StandsWithin found.size found.packet
 
 -- No answer wants more bytes than a block may have.
-abbrev pub IsStep : List Face → List ℕ → Step → Type 0
-IsStep faces bytes (Wants n) = (length bytes < n) × (n ≤ 1048576)
-IsStep faces bytes (Refused kind) = Unit {0}
-IsStep faces bytes (Record found) = IsFound faces bytes found
+abbrev pub IsStep : List SectionInterface → List ℕ → Step → Type 0
+IsStep interfaces bytes (Wants n) = (length bytes < n) × (n ≤ 1048576)
+IsStep interfaces bytes (Refused kind) = Unit {0}
+IsStep interfaces bytes (Record found) = IsFound interfaces bytes found
 
 -- each interface of a section divides a second
-abbrev pub HaveParts : List Face → Type 0
-HaveParts faces = (k : ℕ) (face : Face) → slice_get faces k ≡ Some face → 1 ≤ face.parts
+abbrev pub HaveParts : List SectionInterface → Type 0
+HaveParts interfaces = (k : ℕ) (interface : SectionInterface) → slice_get interfaces k ≡ Some interface → 1 ≤ interface.parts
 
 -- the answer that was found, or else the next one
 abbrev pub or_next : Option Told → Told → Told

@@ -1,7 +1,7 @@
 -- The reader of a capture: what it keeps between its calls, and what a call does.
-use Rattle.std.specs.Prelude.{◌≡◌, ℕ, ◌≤◌, List, [], ◌∷◌, length, drop, Option, Some, None, option_map, Result, Ok, Err}
+use Rattle.std.specs.Prelude.{◌≡◌, ℕ, ◌≤◌, List, [], ◌∷◌, length, drop, Option, None, option_map, Result, Ok, Err}
 use Rattle.gev_links.specs.Given.{one_more}
-use Rattle.gev_capture.specs.declared.form.Face.{Face}
+use Rattle.gev_capture.specs.declared.form.SectionInterface.{SectionInterface}
 use Rattle.gev_capture.specs.declared.form.Form.{Form}
 use Rattle.gev_capture.specs.declared.step.Slot.{Slot}
 use Rattle.gev_capture.specs.declared.captured.Captured.{Captured}
@@ -22,19 +22,19 @@ pub record CaptureState : Type 0 where
   pub held : List ℕ
 
 -- what a reader shows: the record that was given last stands at the front of its room
-abbrev pub state_of : Form → List Face → ℕ → ℕ → Option Slot → List ℕ → CaptureState
-state_of form faces records size slot room = record {
-  format = format_of form faces;
+abbrev pub state_of : Form → List SectionInterface → ℕ → ℕ → Option Slot → List ℕ → CaptureState
+state_of form interfaces records size slot room = record {
+  format = format_of form interfaces;
   records = records;
   packet = option_map (slot_packet room) slot;
   held = drop size room;
 }
 
-pub record IsReader (form : Form) (faces : List Face) (size : ℕ) (slot : Option Slot) (room : List ℕ) : Type 0 where
+pub record IsReader (form : Form) (interfaces : List SectionInterface) (size : ℕ) (slot : Option Slot) (room : List ℕ) : Type 0 where
   pub few : length room ≤ 1114112
   pub within : size ≤ length room
   pub form_parts : HasParts form
-  pub face_parts : HaveParts faces
+  pub interface_parts : HaveParts interfaces
   pub packet : StandsWithin size slot
 
 -- a packet that is lent

@@ -1,13 +1,13 @@
 //! The blocks of a pcapng file.
 
 ghost use Rattle.std.specs.Prelude.{◌≡◌, ℕ, ◌+◌, ◌-◌, ◌*◌, ◌/◌, ◌%◌, ◌^◌, ◌≤◌, ◌<◌, ◌==◌, ◌&&◌, nat_le, min, List, length, slice_get, Some, None, IfNone, option_map};
-ghost use Rattle.gev_capture.specs.declared.form.Face.{Face as FaceOf};
+ghost use Rattle.gev_capture.specs.declared.form.SectionInterface.{SectionInterface as SectionInterfaceOf};
 ghost use Rattle.gev_capture.specs.Numbers.{number};
-ghost use Rattle.gev_capture.specs.Files.{Told, is_total, whole, face_in, face_block, block_time, on_face, counted_packet, packet_block, simple_count, simple_sized, simple_on, simple_block, body_told, sized_block};
+ghost use Rattle.gev_capture.specs.Files.{Told, is_total, whole, interface_in, interface_block, block_time, on_interface, counted_packet, packet_block, simple_count, simple_sized, simple_on, simple_block, body_told, sized_block};
 ghost use Rattle.gev_capture.specs.Steps.{told_by, or_next, IsStep, HaveParts};
 
 use crate::classic::MOST_CAPTURED;
-use crate::form::{Face, Form};
+use crate::form::{Form, SectionInterface};
 use crate::kind::CaptureKind;
 use crate::numbers::{u16_in, u32_in};
 use crate::options::{parts_of, resolution};
@@ -30,8 +30,8 @@ fn is_total(least: u32, total: u32) -> bool
 /// None where the block is there and its two total lengths are one; else what is told of it.
 pub(crate) fn unless_whole(order: Order, least: u32, total: u32, bytes: &[u8]) -> Option<Step>
     requires { 12 ≤ least }
-    ensures told { (faces : List FaceOf) (next : Told) → whole order least total bytes.now next ≡ or_next (option_map (told_by faces bytes.now) result) next }
-    ensures sound { (faces : List FaceOf) (step : Step) → result ≡ Some step → IsStep faces bytes.now step }
+    ensures told { (interfaces : List SectionInterfaceOf) (next : Told) → whole order least total bytes.now next ≡ or_next (option_map (told_by interfaces bytes.now) result) next }
+    ensures sound { (interfaces : List SectionInterfaceOf) (step : Step) → result ≡ Some step → IsStep interfaces bytes.now step }
     ensures least { result ≡ None → least ≤ total }
     ensures within { result ≡ None → total ≤ length bytes.now }
 {
@@ -49,14 +49,14 @@ pub(crate) fn unless_whole(order: Order, least: u32, total: u32, bytes: &[u8]) -
 }
 
 /// The interface that a block of so many bytes tells of.
-fn face_in(order: Order, total: u32, bytes: &[u8]) -> Face
+fn interface_in(order: Order, total: u32, bytes: &[u8]) -> SectionInterface
     requires least { 20 ≤ total }
     requires within { total ≤ length bytes.now }
-    ensures value { result ≡ face_in order total bytes.now }
+    ensures value { result ≡ interface_in order total bytes.now }
     ensures parts { 1 ≤ result.parts }
 {
     let options = &bytes[16..total as usize - 4];
-    Face {
+    SectionInterface {
         link: u16_in(order, bytes, 8),
         most: u32_in(order, bytes, 12),
         parts: parts_of(resolution(order, options)),
@@ -76,23 +76,29 @@ fn without_packet(order: Order, time: u128, total: u32, change: Change) -> Step
 }
 
 /// A block that tells of an interface.
-fn face_block(order: Order, faces: &[Face], time: u128, total: u32, bytes: &[u8]) -> Step
+fn interface_block(
+    order: Order,
+    interfaces: &[SectionInterface],
+    time: u128,
+    total: u32,
+    bytes: &[u8],
+) -> Step
     requires some { 12 ≤ total }
     requires within { total ≤ length bytes.now }
-    ensures told { told_by faces.now bytes.now result ≡ face_block order faces.now time total bytes.now }
-    ensures sound { IsStep faces.now bytes.now result }
+    ensures told { told_by interfaces.now bytes.now result ≡ interface_block order interfaces.now time total bytes.now }
+    ensures sound { IsStep interfaces.now bytes.now result }
 {
     if total < 20 {
         return Step::Refused(CaptureKind::Length);
     }
-    if faces.len() >= MOST_FACES {
+    if interfaces.len() >= MOST_FACES {
         return Step::Refused(CaptureKind::Interface);
     }
     without_packet(
         order,
         time,
         total,
-        Change::More(face_in(order, total, bytes)),
+        Change::More(interface_in(order, total, bytes)),
     )
 }
 
@@ -108,21 +114,27 @@ fn block_time(order: Order, parts: u64, bytes: &[u8]) -> u128
 }
 
 /// A packet of this interface.
-fn face_packet(order: Order, face: Face, total: u32, count: u32, bytes: &[u8]) -> Found
-    requires parts { 1 ≤ face.parts }
+fn interface_packet(
+    order: Order,
+    interface: SectionInterface,
+    total: u32,
+    count: u32,
+    bytes: &[u8],
+) -> Found
+    requires parts { 1 ≤ interface.parts }
     requires header { 32 ≤ total }
     requires within { total ≤ length bytes.now }
-    ensures { let time = block_time order face.parts bytes.now in
-        result ≡ record { size = total; form = Form.Section order time; change = Change.Same; packet = Some (record { time = time; link = face.link; at = 28; count = count }) } }
+    ensures { let time = block_time order interface.parts bytes.now in
+        result ≡ record { size = total; form = Form.Section order time; change = Change.Same; packet = Some (record { time = time; link = interface.link; at = 28; count = count }) } }
 {
-    let time = block_time(order, face.parts, bytes);
+    let time = block_time(order, interface.parts, bytes);
     Found {
         size: total as usize,
         form: Form::Section { order, time },
         change: Change::Same,
         packet: Some(Slot {
             time,
-            link: face.link,
+            link: interface.link,
             at: 28,
             count: count as usize,
         }),
@@ -130,15 +142,22 @@ fn face_packet(order: Order, face: Face, total: u32, count: u32, bytes: &[u8]) -
 }
 
 /// A packet of the interface with this number.
-fn on_face(order: Order, faces: &[Face], total: u32, i: usize, count: u32, bytes: &[u8]) -> Step
-    requires parts { HaveParts faces.now }
+fn on_interface(
+    order: Order,
+    interfaces: &[SectionInterface],
+    total: u32,
+    i: usize,
+    count: u32,
+    bytes: &[u8],
+) -> Step
+    requires parts { HaveParts interfaces.now }
     requires fits { 32 + count ≤ total }
     requires within { total ≤ length bytes.now }
-    ensures told { told_by faces.now bytes.now result ≡ on_face order faces.now total count (slice_get faces.now i) bytes.now }
-    ensures sound { IsStep faces.now bytes.now result }
+    ensures told { told_by interfaces.now bytes.now result ≡ on_interface order interfaces.now total count (slice_get interfaces.now i) bytes.now }
+    ensures sound { IsStep interfaces.now bytes.now result }
 {
-    match faces.get(i) {
-        Some(face) => Step::Record(face_packet(order, *face, total, count, bytes)),
+    match interfaces.get(i) {
+        Some(interface) => Step::Record(interface_packet(order, *interface, total, count, bytes)),
         None => Step::Refused(CaptureKind::Interface),
     }
 }
@@ -146,16 +165,16 @@ fn on_face(order: Order, faces: &[Face], total: u32, i: usize, count: u32, bytes
 /// A packet of so many captured bytes, of the interface with this number.
 fn counted_packet(
     order: Order,
-    faces: &[Face],
+    interfaces: &[SectionInterface],
     total: u32,
     i: usize,
     count: u32,
     bytes: &[u8],
 ) -> Step
-    requires parts { HaveParts faces.now }
+    requires parts { HaveParts interfaces.now }
     requires within { total ≤ length bytes.now }
-    ensures told { told_by faces.now bytes.now result ≡ counted_packet order faces.now total i count bytes.now }
-    ensures sound { IsStep faces.now bytes.now result }
+    ensures told { told_by interfaces.now bytes.now result ≡ counted_packet order interfaces.now total i count bytes.now }
+    ensures sound { IsStep interfaces.now bytes.now result }
 {
     if count > MOST_CAPTURED {
         return Step::Refused(CaptureKind::Length);
@@ -163,20 +182,26 @@ fn counted_packet(
     if 32 + count > total {
         return Step::Refused(CaptureKind::Length);
     }
-    on_face(order, faces, total, i, count, bytes)
+    on_interface(order, interfaces, total, i, count, bytes)
 }
 
 /// A block with a packet of the interface with this number.
-fn packet_block(order: Order, faces: &[Face], total: u32, i: usize, bytes: &[u8]) -> Step
-    requires parts { HaveParts faces.now }
+fn packet_block(
+    order: Order,
+    interfaces: &[SectionInterface],
+    total: u32,
+    i: usize,
+    bytes: &[u8],
+) -> Step
+    requires parts { HaveParts interfaces.now }
     requires within { total ≤ length bytes.now }
-    ensures told { told_by faces.now bytes.now result ≡ packet_block order faces.now total i bytes.now }
-    ensures sound { IsStep faces.now bytes.now result }
+    ensures told { told_by interfaces.now bytes.now result ≡ packet_block order interfaces.now total i bytes.now }
+    ensures sound { IsStep interfaces.now bytes.now result }
 {
     if total < 32 {
         return Step::Refused(CaptureKind::Length);
     }
-    counted_packet(order, faces, total, i, u32_in(order, bytes, 20), bytes)
+    counted_packet(order, interfaces, total, i, u32_in(order, bytes, 20), bytes)
 }
 
 /// How many bytes of a simple packet were captured.
@@ -192,8 +217,8 @@ fn simple_count(most: u32, original: u32, room: u32) -> u32
 fn simple_sized(order: Order, time: u128, total: u32, link: u16, count: u32, bytes: &[u8]) -> Step
     requires fits { 16 + count ≤ total }
     requires within { total ≤ length bytes.now }
-    ensures told { (faces : List FaceOf) → told_by faces bytes.now result ≡ simple_sized order faces time total link count bytes.now }
-    ensures sound { (faces : List FaceOf) → IsStep faces bytes.now result }
+    ensures told { (interfaces : List SectionInterfaceOf) → told_by interfaces bytes.now result ≡ simple_sized order interfaces time total link count bytes.now }
+    ensures sound { (interfaces : List SectionInterfaceOf) → IsStep interfaces bytes.now result }
 {
     if count > MOST_CAPTURED {
         return Step::Refused(CaptureKind::Length);
@@ -212,43 +237,62 @@ fn simple_sized(order: Order, time: u128, total: u32, link: u16, count: u32, byt
 }
 
 /// A block with a simple packet, which is of the first interface and has the time of the packet before it.
-fn simple_block(order: Order, faces: &[Face], time: u128, total: u32, bytes: &[u8]) -> Step
+fn simple_block(
+    order: Order,
+    interfaces: &[SectionInterface],
+    time: u128,
+    total: u32,
+    bytes: &[u8],
+) -> Step
     requires some { 12 ≤ total }
     requires within { total ≤ length bytes.now }
-    ensures told { told_by faces.now bytes.now result ≡ simple_block order faces.now time total bytes.now }
-    ensures sound { IsStep faces.now bytes.now result }
+    ensures told { told_by interfaces.now bytes.now result ≡ simple_block order interfaces.now time total bytes.now }
+    ensures sound { IsStep interfaces.now bytes.now result }
 {
     if total < 16 {
         return Step::Refused(CaptureKind::Length);
     }
-    match faces.get(0) {
-        Some(face) => {
-            let count = simple_count(face.most, u32_in(order, bytes, 8), total - 16);
-            simple_sized(order, time, total, face.link, count, bytes)
+    match interfaces.get(0) {
+        Some(interface) => {
+            let count = simple_count(interface.most, u32_in(order, bytes, 8), total - 16);
+            simple_sized(order, time, total, interface.link, count, bytes)
         }
         None => Step::Refused(CaptureKind::Interface),
     }
 }
 
 /// What a whole block tells, by its type.
-fn body_told(order: Order, faces: &[Face], time: u128, total: u32, kind: u32, bytes: &[u8]) -> Step
-    requires parts { HaveParts faces.now }
+fn body_told(
+    order: Order,
+    interfaces: &[SectionInterface],
+    time: u128,
+    total: u32,
+    kind: u32,
+    bytes: &[u8],
+) -> Step
+    requires parts { HaveParts interfaces.now }
     requires some { 12 ≤ total }
     requires within { total ≤ length bytes.now }
-    ensures told { told_by faces.now bytes.now result ≡ body_told order faces.now time total kind bytes.now }
-    ensures sound { IsStep faces.now bytes.now result }
+    ensures told { told_by interfaces.now bytes.now result ≡ body_told order interfaces.now time total kind bytes.now }
+    ensures sound { IsStep interfaces.now bytes.now result }
 {
     match kind {
-        1 => face_block(order, faces, time, total, bytes),
-        6 => packet_block(order, faces, total, u32_in(order, bytes, 8) as usize, bytes),
+        1 => interface_block(order, interfaces, time, total, bytes),
+        6 => packet_block(
+            order,
+            interfaces,
+            total,
+            u32_in(order, bytes, 8) as usize,
+            bytes,
+        ),
         2 => packet_block(
             order,
-            faces,
+            interfaces,
             total,
             usize::from(u16_in(order, bytes, 8)),
             bytes,
         ),
-        3 => simple_block(order, faces, time, total, bytes),
+        3 => simple_block(order, interfaces, time, total, bytes),
         _ => without_packet(order, time, total, Change::Same),
     }
 }
@@ -256,18 +300,25 @@ fn body_told(order: Order, faces: &[Face], time: u128, total: u32, kind: u32, by
 /// A block that isn't a section's header, by its total length.
 pub(crate) fn sized_block(
     order: Order,
-    faces: &[Face],
+    interfaces: &[SectionInterface],
     time: u128,
     total: u32,
     bytes: &[u8],
 ) -> Step
-    requires parts { HaveParts faces.now }
+    requires parts { HaveParts interfaces.now }
     requires header { 8 ≤ length bytes.now }
-    ensures told { told_by faces.now bytes.now result ≡ sized_block order faces.now time total bytes.now }
-    ensures sound { IsStep faces.now bytes.now result }
+    ensures told { told_by interfaces.now bytes.now result ≡ sized_block order interfaces.now time total bytes.now }
+    ensures sound { IsStep interfaces.now bytes.now result }
 {
     match unless_whole(order, 12, total, bytes) {
         Some(step) => step,
-        None => body_told(order, faces, time, total, u32_in(order, bytes, 0), bytes),
+        None => body_told(
+            order,
+            interfaces,
+            time,
+            total,
+            u32_in(order, bytes, 0),
+            bytes,
+        ),
     }
 }

@@ -1,7 +1,7 @@
 //! The records of a pcap file.
 
 ghost use Rattle.std.specs.Prelude.{◌≡◌, ℕ, ◌+◌, ◌*◌, ◌/◌, ◌%◌, ◌^◌, ◌≤◌, ◌<◌, List, length};
-ghost use Rattle.gev_capture.specs.declared.form.Face.{Face};
+ghost use Rattle.gev_capture.specs.declared.form.SectionInterface.{SectionInterface};
 ghost use Rattle.gev_capture.specs.Numbers.{number};
 ghost use Rattle.gev_capture.specs.Files.{classic_header, classic_time, classic_record, told_classic};
 ghost use Rattle.gev_capture.specs.Steps.{told_by, IsStep};
@@ -24,8 +24,8 @@ const RECORD_HEADER_SIZE: usize = 16;
 /// What the header of the file tells.
 pub(crate) fn classic_header(order: Order, parts: u64, bytes: &[u8]) -> Step
     requires { 1 ≤ parts }
-    ensures told { (faces : List Face) → told_by faces bytes.now result ≡ classic_header order parts bytes.now }
-    ensures sound { (faces : List Face) → IsStep faces bytes.now result }
+    ensures told { (interfaces : List SectionInterface) → told_by interfaces bytes.now result ≡ classic_header order parts bytes.now }
+    ensures sound { (interfaces : List SectionInterface) → IsStep interfaces bytes.now result }
 {
     if bytes.len() < HEADER_SIZE {
         return Step::Wants(HEADER_SIZE);
@@ -57,8 +57,8 @@ fn classic_time(order: Order, parts: u64, bytes: &[u8]) -> u128
 fn classic_record(order: Order, parts: u64, link: u16, count: u32, bytes: &[u8]) -> Step
     requires parts { 1 ≤ parts }
     requires header { 16 ≤ length bytes.now }
-    ensures told { (faces : List Face) → told_by faces bytes.now result ≡ classic_record order parts link count bytes.now }
-    ensures sound { (faces : List Face) → IsStep faces bytes.now result }
+    ensures told { (interfaces : List SectionInterface) → told_by interfaces bytes.now result ≡ classic_record order parts link count bytes.now }
+    ensures sound { (interfaces : List SectionInterface) → IsStep interfaces bytes.now result }
 {
     if count > MOST_CAPTURED {
         return Step::Refused(CaptureKind::Length);
@@ -84,8 +84,8 @@ fn classic_record(order: Order, parts: u64, link: u16, count: u32, bytes: &[u8])
 /// What the bytes that are left of a pcap file begin with.
 pub(crate) fn told_classic(order: Order, parts: u64, link: u16, bytes: &[u8]) -> Step
     requires { 1 ≤ parts }
-    ensures told { (faces : List Face) → told_by faces bytes.now result ≡ told_classic order parts link bytes.now }
-    ensures sound { (faces : List Face) → IsStep faces bytes.now result }
+    ensures told { (interfaces : List SectionInterface) → told_by interfaces bytes.now result ≡ told_classic order parts link bytes.now }
+    ensures sound { (interfaces : List SectionInterface) → IsStep interfaces bytes.now result }
 {
     if bytes.len() < RECORD_HEADER_SIZE {
         return Step::Wants(RECORD_HEADER_SIZE);

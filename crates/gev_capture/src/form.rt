@@ -2,7 +2,7 @@ use crate::order::Order;
 
 /// An interface of a section of a pcapng file.
 #[derive(Clone, Copy, Debug, Default, PartialEq, Eq)]
-pub struct Face {
+pub struct SectionInterface {
     /// The link type.
     pub link: u16,
     /// The most bytes of a packet that were captured, 0 for no limit.

@@ -27,7 +27,7 @@ mod telling; // how that is read of them
 pub use capture_end::CaptureEnd;
 pub use captured::Captured;
 pub use content::Content;
-pub use form::{Face, Form};
+pub use form::{Form, SectionInterface};
 pub use kind::CaptureKind;
 pub use laws::{captures_are_one, packets_have_bytes, pieces_tell};
 pub use moments::Moments;

@@ -1,12 +1,12 @@
 ghost use Rattle.std.specs.Prelude.{◌≡◌, ◌≢◌, ◌≤◌, ◌+◌, None, Err, IfOk, option_map, length, []};
-ghost use Rattle.gev_capture.specs.declared.form.Face.{Face as FaceOf};
+ghost use Rattle.gev_capture.specs.declared.form.SectionInterface.{SectionInterface as SectionInterfaceOf};
 ghost use Rattle.gev_capture.specs.Files.{fresh};
-ghost use Rattle.gev_capture.specs.Steps.{MayChange, faces_after, slot_packet};
+ghost use Rattle.gev_capture.specs.Steps.{MayChange, interfaces_after, slot_packet};
 ghost use Rattle.gev_capture.specs.Walking.{captured_packet, Nexts};
 
 use crate::capture_end::CaptureEnd;
 use crate::captured::Captured;
-use crate::form::{Face, Form};
+use crate::form::{Form, SectionInterface};
 use crate::reading::find_record;
 use crate::room::Room;
 use crate::step::{Change, Slot};
@@ -24,7 +24,7 @@ use std::marker::Model;
 pub struct Reader {
     room: Room,
     form: Form,
-    faces: ArrayVec<Face, 256>,
+    interfaces: ArrayVec<SectionInterface, 256>,
     records: u64,
     size: usize,
     slot: Option<Slot>,
@@ -35,20 +35,20 @@ impl Model for Reader {
 
     ghost Value = { CaptureState };
 
-    ghost view = { λ r. state_of r.form r.faces.items r.records r.size r.slot r.room };
+    ghost view = { λ r. state_of r.form r.interfaces.items r.records r.size r.slot r.room };
 
-    ghost invariant = { λ r. IsReader r.form r.faces.items r.size r.slot r.room };
+    ghost invariant = { λ r. IsReader r.form r.interfaces.items r.size r.slot r.room };
 }
 
 /// The interfaces behind a record.
-fn change_faces(faces: &mut ArrayVec<Face, 256>, change: Change)
-    requires { MayChange faces.old.items change }
-    ensures { faces.new.items ≡ faces_after change faces.old.items }
+fn change_interfaces(interfaces: &mut ArrayVec<SectionInterface, 256>, change: Change)
+    requires { MayChange interfaces.old.items change }
+    ensures { interfaces.new.items ≡ interfaces_after change interfaces.old.items }
 {
     match change {
         Change::Same => {}
-        Change::Cleared => faces.clear(),
-        Change::More(face) => faces.push(face),
+        Change::Cleared => interfaces.clear(),
+        Change::More(interface) => interfaces.push(interface),
     }
 }
 
@@ -73,7 +73,7 @@ impl Reader {
         Ok(Reader {
             room,
             form: Form::Fresh,
-            faces: ArrayVec::new(),
+            interfaces: ArrayVec::new(),
             records: 0,
             size: 0,
             slot: None,
@@ -92,11 +92,16 @@ impl Reader {
         self.room.skip(self.size);
         self.size = 0;
         self.slot = None;
-        let found = match find_record(&mut self.room, source, self.form, self.faces.as_slice()) {
+        let found = match find_record(
+            &mut self.room,
+            source,
+            self.form,
+            self.interfaces.as_slice(),
+        ) {
             Ok(found) => found,
             Err(end) => return Err(end),
         };
-        change_faces(&mut self.faces, found.change);
+        change_interfaces(&mut self.interfaces, found.change);
         self.form = found.form;
         self.size = found.size;
         self.slot = found.packet;

@@ -1,7 +1,7 @@
 //! The next record of a capture, from a source.
 
 ghost use Rattle.std.specs.Prelude.{◌≡◌, ◌≢◌, ◌≤◌, ◌<◌, ◌⊎◌, ℕ, List, [], length, Err};
-ghost use Rattle.gev_capture.specs.declared.form.Face.{Face as FaceOf};
+ghost use Rattle.gev_capture.specs.declared.form.SectionInterface.{SectionInterface as SectionInterfaceOf};
 ghost use Rattle.gev_links.specs.Faults.{Rose};
 ghost use Rattle.gev_links.specs.Told.{IsSpent};
 ghost use Rattle.gev_script.specs.Window.{Holds};
@@ -11,7 +11,7 @@ ghost use Rattle.gev_capture.specs.Steps.{format_of, HasParts, HaveParts};
 ghost use Rattle.gev_capture.specs.Reading.{Finds, EndsAtSpent};
 
 use crate::capture_end::CaptureEnd;
-use crate::form::{Face, Form};
+use crate::form::{Form, SectionInterface};
 use crate::kind::CaptureKind;
 use crate::room::Room;
 use crate::step::{Found, Step};
@@ -20,7 +20,7 @@ use gev_links::{Failed, Source};
 
 /// Whether a further record could begin.
 fn may_begin(form: Form) -> bool
-    ensures { (faces : List FaceOf) → result ≡ may_begin (format_of form faces) }
+    ensures { (interfaces : List SectionInterfaceOf) → result ≡ may_begin (format_of form interfaces) }
 {
     match form {
         Form::Fresh => false,
@@ -31,7 +31,7 @@ fn may_begin(form: Form) -> bool
 
 /// How a capture ends of which these bytes are left and no more come.
 fn end_of(form: Form, held: &[u8]) -> CaptureEnd
-    ensures { (faces : List FaceOf) → EndsAtSpent result (format_of form faces) held.now }
+    ensures { (interfaces : List SectionInterfaceOf) → EndsAtSpent result (format_of form interfaces) held.now }
 {
     if held.is_empty() && may_begin(form) {
         CaptureEnd::Ended
@@ -46,18 +46,18 @@ pub fn find_record<S: Source>(
     room: &mut Room,
     source: &mut S,
     form: Form,
-    faces: &[Face],
+    interfaces: &[SectionInterface],
 ) -> Result<Found, CaptureEnd>
     requires few { length room.old ≤ 1114112 }
     requires form { HasParts form }
-    requires faces { HaveParts faces.now }
-    ensures finds { Finds result (format_of form faces.now) faces.now room.old room.new (S.left source.old) (S.left source.new) (S.faults source.old) (S.faults source.new) }
+    requires interfaces { HaveParts interfaces.now }
+    ensures finds { Finds result (format_of form interfaces.now) interfaces.now room.old room.new (S.left source.old) (S.left source.new) (S.faults source.old) (S.faults source.new) }
     ensures steady { result ≢ Err CaptureEnd.ReadFault → S.faults source.new ≡ S.faults source.old }
     ensures never_falls { S.faults source.old ≤ S.faults source.new }
     ensures few { length room.new ≤ 1114112 }
 {
     'reading: loop {
-        match next_step(form, faces, room.held()) {
+        match next_step(form, interfaces, room.held()) {
             Step::Record(found) => return Ok(found),
             Step::Refused(kind) => return Err(CaptureEnd::Refused(kind)),
             Step::Wants(_) => {}

@@ -1,4 +1,4 @@
-use crate::form::{Face, Form};
+use crate::form::{Form, SectionInterface};
 use crate::kind::CaptureKind;
 
 /// Where a packet stands in its record.
@@ -22,7 +22,7 @@ pub enum Change {
     /// A section begins, which has none yet.
     Cleared,
     /// There is one more.
-    More(Face),
+    More(SectionInterface),
 }
 
 /// A record of a capture.

@@ -5,7 +5,7 @@ use Rattle.gev_capture.proofs.reading.find_record.Given as goal
 
 abbrev pub invariant-reading : goal.invariant-reading
 invariant-reading g l = record {
-  came : Came (format_of l.form l.faces) l.fn.room l.room (g.S.Source.left l.fn.source) (g.S.Source.left l.source);
+  came : Came (format_of l.form l.interfaces) l.fn.room l.room (g.S.Source.left l.fn.source) (g.S.Source.left l.source);
   steady : g.S.Source.faults l.source ≡ g.S.Source.faults l.fn.source;
   few : length l.room ≤ 1114112;
 }
