@@ -27,3 +27,45 @@ fn laws_can_be_called() {
     buffer_words::hosts_see_more();
     buffer_words::hosted_histories_are_theirs();
 }
+
+#[test]
+fn laws_of_the_machine_can_be_called() {
+    board_machine::each_act_has_one_answer();
+    board_machine::no_other_act_has_an_answer();
+    board_machine::owners_are_counted();
+    board_machine::empty_board_has_owners();
+    board_machine::each_act_keeps_owners();
+    board_machine::runs_are_owned();
+    board_machine::runs_are_legal();
+    board_machine::runs_hand_out();
+    board_machine::takes_hand_first();
+    board_machine::acts_leave_others();
+    board_machine::splits_add_actors();
+    board_machine::splits_are_counted();
+    board_machine::joins_end_actors();
+    board_machine::ended_actors_do_nothing();
+    board_machine::lone_actors_act_next();
+    board_machine::generations_never_fall();
+    board_machine::places_rise();
+    board_machine::claims_are_lowest();
+    board_machine::hands_hold_places();
+    board_machine::actors_stay();
+    board_machine::only_joins_end_actors();
+    board_machine::actors_are_born();
+    board_machine::unborn_actors_do_nothing();
+    board_machine::lone_actors_stay_alone();
+    board_machine::others_leave_hands();
+    board_machine::entries_are_theirs();
+    board_machine::run_word_is_small();
+    board_machine::held_buffers_stay();
+    board_machine::one_size_stays();
+    board_machine::only_own_takes_count();
+    board_machine::open_streams_take_fills();
+    board_machine::run_word_stays();
+    board_machine::empty_output_stays();
+    board_machine::handed_are_own();
+    board_machine::empty_history();
+    board_machine::histories_grow();
+    board_machine::histories_grow_by_lists();
+    board_machine::worked_history_runs();
+}
