@@ -10,6 +10,7 @@ ghost use Rattle.buffer_words.specs.Boards.{board_id};
 ghost use Rattle.board_cases.specs.Ready.{IsReady};
 
 mod answer; // what a call answers
+mod application; // an application on another thread
 mod boards; // the two boards
 mod call; // the calls that rows name
 mod errors; // rows of values alone
@@ -27,6 +28,7 @@ use crate::words::{byte, word};
 use anyhow::Result;
 use std::alloc::{AllocError, Global};
 use std::sync::Wait;
+use std::thread::Threads;
 
 /// What a row asks for.
 #[derive(Clone, Copy)]
@@ -36,6 +38,8 @@ enum Row {
     NewHandles,
     /// A wait of the host of the shared board.
     Wait,
+    /// What an application on another thread knows of the images that came.
+    Frames,
     /// What an actor does on both boards.
     Act(u8, Act),
     /// What is asked of values or of handles.
@@ -61,6 +65,7 @@ fn row_of(words: &[&str]) -> Row {
         "board" => Row::NewBoards,
         "tree" => Row::NewHandles,
         "wait" => Row::Wait,
+        "frames" => Row::Frames,
         _ => act_row(words).unwrap_or(Row::Alone),
     }
 }
@@ -94,7 +99,7 @@ fn alone(alloc: Global, handles: &mut Handles, words: &[&str]) -> Result<String,
 }
 
 /// The answer of a row, if it has one.
-fn answer_row<R: Wait>(
+fn answer_row<R: Threads + Wait + Sync>(
     rt: &R,
     alloc: Global,
     boards: &mut Boards,
@@ -124,6 +129,7 @@ fn answer_row<R: Wait>(
             let answer = shared::wait_row(rt, alloc, &boards.board, &mut boards.host, words)?;
             Ok(Some(one(alloc, answer)?))
         }
+        Row::Frames => Ok(Some(application::frames(rt, alloc, words)?)),
         Row::Act(number, act) => {
             let (plain, shared) = boards::act(rt, alloc, boards, number, act);
             Ok(Some(both(alloc, plain, shared)?))
