@@ -24,8 +24,12 @@ fn laws_can_be_called(_rt: HostRuntime) {
     block_image::complete_is_frame();
     block_image::bytes_are_in_place();
     block_image::all_packets_complete();
+    block_image::leaders_tell_images();
+    block_image::records_tell_their_length();
+    block_image::records_tell_their_frame();
     block_assembly::verdicts_tell();
     block_assembly::packet_ids_are_those();
+    block_assembly::accounts_agree();
     frame_pictures::laws::pixels_are_as_wide_as_their_format();
     frame_pictures::laws::plain_frames_are_their_pixels();
     frame_pictures::laws::pictures_are_their_pixels();
