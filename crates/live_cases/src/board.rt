@@ -1,45 +1,25 @@
 //! A board with two buffers, and what waits on it.
 
-ghost use Rattle.std.specs.Prelude.{◌≡◌, ◌<◌, IfOk};
+ghost use Rattle.std.specs.Prelude.{◌≡◌, IfOk};
 ghost use Rattle.buffer_words.specs.Boards.{board_id};
 ghost use Rattle.buffer_words.specs.Passes.{IsEmptyHanded};
 
 use crate::links::print_bytes;
-use anyhow::{Result, anyhow};
+use anyhow::Result;
 use board_calls::TakeEnd;
 use buffer_words::{Board, Pass};
-use gev_types::Buf;
+use gev_crew::prepare;
 use output_queue::take;
 use std::alloc::Global;
 use std::sync::Wait;
 
-/// Announces a buffer of 4 bytes at a place and puts it into the pool.
-fn bring(alloc: Global, board: &Board, pass: &mut Pass, place: u8) -> Result<()>
-    requires table { pass.old.table ≡ board_id board.now }
-    requires hands { IsEmptyHanded pass.old }
-    requires in_range { place < 15 }
-    ensures table { pass.new.table ≡ pass.old.table }
-    ensures hands { IsEmptyHanded pass.new }
-{
-    let buf = Buf::new(alloc, 4)?;
-    match board.enrol(pass, place, buf) {
-        Ok(_) => {
-            board.pool(pass, place);
-            Ok(())
-        }
-        Err(_) => Err(anyhow!("not vacant")),
-    }
-}
-
-/// A board whose acquisition runs, with two buffers in the pool.
+/// A board whose acquisition runs, with two buffers of 4 bytes in the pool.
 pub fn new_board(alloc: Global) -> Result<(Board, Pass)>
     ensures table { IfOk result (λ made. made.1.table ≡ board_id made.0) }
     ensures hands { IfOk result (λ made. IsEmptyHanded made.1) }
 {
     let (board, mut pass) = Board::new(alloc)?;
-    bring(alloc, &board, &mut pass, 0)?;
-    bring(alloc, &board, &mut pass, 1)?;
-    let _ = board.start(&mut pass);
+    prepare(alloc, &board, &mut pass, 4, 2)?;
     Ok((board, pass))
 }
 
