@@ -61,10 +61,11 @@ pub fn plain_top<S: Source, K: Sink>(
     // of faults rose. The bytes that a replay writes are the report of one trace, which keeps its promises:
     // under each map of frames from which the datagrams were sent, an image that is marked complete is its
     // block's frame. Those that an explanation writes are such a report with notes between its lines, which account
-    // for each datagram and each block. A picture is that of the buffer which is taken, by its record and bytes alone.
-    // Those that a camera script writes are what events of one camera print. Of a script that
-    // is made: it was written whole, or a front of it. Of a capture: the text that lists the streams of its
-    // packets, or the script of those to one port, was written, up to the record that is refused, if one is. Of a
+    // for each datagram and each block. A picture is that of the buffer which is taken, by its record and bytes alone;
+    // where all are wanted, they stand in the order in which their buffers were taken. Those that a camera script
+    // writes for a line are what the line's events print, of a camera of which at most one peer has control. Of a
+    // script that is made: it was written whole, or a front of it. Of a capture: the text that lists the streams of
+    // its packets, or the script of those to one port, was written, up to the record that is refused, if one is. Of a
     // soak run: its text was written, or a front of it, the answer is the run's end, its receiver's history keeps
     // the promises of a trace, each image that is marked complete is the generator's, and its commands act once.
     ensures cause { (command : Command) → command_of (map (λ word. string_bytes word) words.now) ≡ Ok command
