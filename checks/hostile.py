@@ -10,7 +10,7 @@ import tempfile
 import time
 
 # The command lines that are run, by what they read. Of a report the lines that begin with `# ` are notes.
-OF_REPLAY_SCRIPTS = ["replay", "explain", "image 1", "image 2"]
+OF_REPLAY_SCRIPTS = ["replay", "explain", "image 1", "image 2", "image all"]
 OF_CAMERA_SCRIPTS = ["camera"]
 OF_CAPTURES = ["streams", "capture 49152 1464 4096"]
 # Those that read nothing. Their numbers are drawn anew, and now and then a word is changed.
@@ -487,18 +487,33 @@ def judge_record(data, status, text, error):
         wants(re.fullmatch(rf"queue {buffer}|d ([0-9a-f]{{2}})+|t \d+|take|stop 0|end", line), f"no line of a script: {line}")
 
 
-def judge_picture(script, status, text, error):
-    """Whether it is one whole picture, or nothing."""
-    found = re.match(r"(P5|P6)\n(\d+) (\d+)\n(255|1023|4095|16383|65535)\n", text)
-    if status != 0:
-        wants(status == 7 or text == "", "no picture, and an output")
-        return
-    wants(found, f"no head of a picture: {text[:20]!r}")
+def end_of_picture(text, at):
+    """Where the picture that begins here ends."""
+    found = re.compile(r"(P5|P6)\n(\d+) (\d+)\n(255|1023|4095|16383|65535)\n").match(text, at)
+    wants(found, f"no head of a picture: {text[at:at + 20]!r}")
     width, height, most = (int(found[it]) for it in (2, 3, 4))
     wants(width > 0 and height > 0, "a picture without pixels")
     wants(found[1] == "P5" or most == 255, "colours of more than 8 bits")
     bytes_of_one = 3 if found[1] == "P6" else 1 if most == 255 else 2
-    wants(len(text) - found.end() == width * height * bytes_of_one, "another number of pixels")
+    return found.end() + width * height * bytes_of_one
+
+
+def judge_picture(script, status, text, error):
+    """Whether it is one whole picture, or nothing."""
+    if status != 0:
+        wants(status == 7 or text == "", "no picture, and an output")
+        return
+    wants(len(text) == end_of_picture(text, 0), "another number of pixels")
+
+
+def judge_pictures(script, status, text, error):
+    """Whether it is whole pictures, of a whole script one at least, and none where it has none."""
+    wants(status != 0 or text != "", "no picture, and no word of it")
+    wants(status != 13 or text == "", "no picture, and an output")
+    at = 0
+    while at < len(text) and status != 7:
+        at = end_of_picture(text, at)
+    wants(status == 7 or at == len(text), "another number of pixels")
 
 
 JUDGES = {
@@ -541,8 +556,10 @@ def judge(program, words, data):
     wants(status in STATUSES.get(first, ()) or status == 7, f"status {status} of `{first}`")
     if first in ("soak", "live"):
         data = int(words[4]) if first == "live" else 1
+    of_all = first == "image" and words[1] == b"all"
     if first in JUDGES:
-        JUDGES[first](data, status, text.decode("latin-1"), error.decode())
+        judge_of = judge_pictures if of_all else JUDGES[first]
+        judge_of(data, status, text.decode("latin-1"), error.decode())
 
 
 def seeds(program):
