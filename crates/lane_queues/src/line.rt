@@ -4,14 +4,25 @@ use crate::ends::{Giver, Start, Taker};
 use crate::log::Log;
 use crate::rule::{Gave, Missed, OneToOne, Refused, Roles, Took, Total, WithGiver, WithTaker};
 use crossbeam_queue::RuledArrayQueue;
+use idle_rests::{Rest, SHORT, rest_for};
 use std::alloc::{AllocError, Global};
 use std::marker::Model;
 use std::sync::Wait;
+use std::sync::atomic::{AtomicU64, Ordering};
+use std::time::Duration;
+
+/// How many looks for an item come before the taker sleeps.
+const LOOKS: u32 = 20;
+
+/// How long the taker sleeps at most before it looks again, in milliseconds, so that no wake is needed.
+const SLEEP: u64 = 10;
 
 /// A bounded queue with one end that gives and one that takes.
 #[derive(Drop)]
 pub struct Line<T: Drop> {
     queue: RuledArrayQueue<T, Log<T>, OneToOne>,
+    // 1 where the taker sleeps or is about to. The giver makes it 0 and wakes the taker. No clause speaks of it.
+    asleep: AtomicU64,
 }
 
 impl<T: Drop> Model for Line<T> {
@@ -24,7 +35,7 @@ impl<T: Drop> Model for Line<T> {
 }
 
 impl<T: Drop> Line<T> {
-    ghost use Rattle.std.specs.Prelude.{◌≡◌, ◌<◌, [], ◌∷◌, length, IfOk, IfErr, IfSome, IfNone};
+    ghost use Rattle.std.specs.Prelude.{◌≡◌, ◌<◌, ◌≤◌, [], ◌∷◌, length, IfOk, IfErr, IfSome, IfNone};
     ghost use Rattle.lane_queues.specs.Ends.{gave, took, refused, missed, WasEmpty, WasFull, BeginsWith};
 
     /// A queue with room for so many items, and both its ends.
@@ -34,7 +45,11 @@ impl<T: Drop> Line<T> {
         ensures start { IfOk result (λ made. made.1 ≡ record { line = made.0.table; given = []; refusals = 0 }) }
     {
         let (queue, pass) = RuledArrayQueue::ruled(alloc, capacity)?;
-        Ok((Line { queue }, Start { pass }))
+        let line = Line {
+            queue,
+            asleep: AtomicU64::new(0),
+        };
+        Ok((line, Start { pass }))
     }
 
     /// Puts an item in before the ends part. It comes back where the queue is full.
@@ -68,7 +83,32 @@ impl<T: Drop> Line<T> {
         ensures same { IfErr result (λ _. giver.new ≡ giver.old) }
         ensures full { IfErr result (λ _. WasFull self.now.capacity giver.old) }
     {
-        self.queue.push_as::<Gave, R>(rt, &mut giver.pass, item)
+        let pushed = self.queue.push_as::<Gave, R>(rt, &mut giver.pass, item);
+        self.wake();
+        pushed
+    }
+
+    // Wakes the taker where it sleeps.
+    fn wake(&self) {
+        if self.asleep.load(Ordering::SeqCst) == 1 {
+            self.asleep.store(0, Ordering::SeqCst);
+            self.asleep.wake_one();
+        }
+    }
+
+    // Where so many looks found nothing: says that the taker is about to sleep, and at the next look, that it sleeps.
+    // How many looks that is by now.
+    fn sleep<R: Wait>(&self, rt: &R, looks: u32) -> u32 {
+        if looks < LOOKS {
+            return looks + 1;
+        }
+        if looks == LOOKS {
+            self.asleep.store(1, Ordering::SeqCst);
+            return looks + 1;
+        }
+        self.asleep
+            .park_timeout(rt, 1, Duration::from_millis(SLEEP));
+        LOOKS
     }
 
     // Takes the oldest item, and doesn't count where the queue was empty.
@@ -123,11 +163,13 @@ impl<T: Drop> Line<T> {
         ensures given { giver.new ≡ gave giver.old (item ∷ []) }
     {
         let mut kept = item;
+        let mut rest = Rest::new();
         'tries: for _ in rt.forever() {
             match self.push(rt, giver, kept) {
                 Ok(()) => return,
                 Err(again) => kept = again,
             }
+            rest.rest(rt);
         }
         unreachable!()
     }
@@ -137,11 +179,45 @@ impl<T: Drop> Line<T> {
         requires line { taker.old.line ≡ self.now.table }
         ensures taken { taker.new ≡ took taker.old (result ∷ []) }
     {
+        let mut looks = 0;
         'tries: for _ in rt.forever() {
             match self.pop(rt, taker) {
                 Some(item) => return item,
                 None => {}
             }
+            looks = self.sleep(rt, looks);
+        }
+        unreachable!()
+    }
+
+    // How many items wait at one moment of the call.
+    fn waiting<R: Wait>(&self, rt: &R, taker: &mut Taker<T>) -> usize
+        requires line { taker.old.line ≡ self.now.table }
+        ensures same { taker.new ≡ taker.old }
+    {
+        self.queue.len_as::<Took, R>(rt, &mut taker.pass)
+    }
+
+    /// Rests while fewer than `few` items wait, a tenth of a millisecond at a time and `most` times at most: how
+    /// often it did.
+    pub fn rest_while_few<R: Wait>(
+        &self,
+        rt: &R,
+        taker: &mut Taker<T>,
+        few: usize,
+        most: u32,
+    ) -> u32
+        requires line { taker.old.line ≡ self.now.table }
+        ensures same { taker.new ≡ taker.old }
+        ensures most { result ≤ most }
+    {
+        let mut rests = 0;
+        'rests: for _ in rt.forever() {
+            if rests == most || self.waiting(rt, taker) >= few {
+                return rests;
+            }
+            rest_for(rt, SHORT);
+            rests += 1;
         }
         unreachable!()
     }
