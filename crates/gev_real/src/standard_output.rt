@@ -1,7 +1,11 @@
-ghost use Rattle.std.specs.Prelude.{◌≡◌, None};
+ghost use Rattle.std.specs.Prelude.{◌≡◌, ◌≤◌, None, length, IfOk};
 
 use gev_links::{Failed, Sink};
+use std::io;
 use std::io::Write;
+
+/// How often a write is made whose cause of failure the system's call doesn't tell.
+const TRIES: u32 = 16;
 
 /// Standard output as a sink. It tells nothing of its bytes.
 #[derive(Drop)]
@@ -19,16 +23,47 @@ impl<W: Write + Drop> StandardOutput<W> {
     }
 }
 
+/// Writes bytes from the front of these to standard error: how many, none where it takes nothing any more. A write
+/// that a signal interrupted is made again.
+fn write_piece(rest: &[u8]) -> usize
+    ensures { result ≤ length rest.now }
+{
+    for _ in 0..TRIES {
+        let taken = libc::write(libc::STDERR_FILENO, rest);
+        if taken >= 0 {
+            return taken as usize;
+        }
+    }
+    0
+}
+
 /// Writes a text to standard error. Where it takes nothing any more the rest is lost.
 fn write_error(text: &[u8]) {
     let mut rest = text;
     while !rest.is_empty() {
-        let taken = libc::write(libc::STDERR_FILENO, rest);
-        if taken <= 0 {
+        let taken = write_piece(rest);
+        if taken == 0 {
             return;
         }
-        rest = &rest[taken as usize..];
+        rest = &rest[taken..];
     }
+}
+
+/// Writes once; a write that a signal interrupted is made again.
+fn write_on<W: Write>(writer: &mut W, bytes: &[u8]) -> io::Result<usize>
+    ensures { IfOk result (λ count. count ≤ length bytes.now) }
+{
+    for _ in 0..u64::MAX {
+        match writer.write(bytes) {
+            Ok(count) => return Ok(count),
+            Err(error) => {
+                if error.kind() != io::ErrorKind::Interrupted {
+                    return Err(error);
+                }
+            }
+        }
+    }
+    Ok(0)
 }
 
 impl<W: Write + Drop> Sink for StandardOutput<W> {
@@ -38,7 +73,7 @@ impl<W: Write + Drop> Sink for StandardOutput<W> {
 
     /// The bytes go to the system at once: nothing is held back for a later call to lose.
     fn write(&mut self, bytes: &[u8]) -> Result<usize, Failed> {
-        if let Ok(count) = self.writer.write(bytes) {
+        if let Ok(count) = write_on(&mut self.writer, bytes) {
             if count > 0 || bytes.is_empty() {
                 return Ok(count);
             }
