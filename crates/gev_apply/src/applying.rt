@@ -10,6 +10,7 @@ use crate::looking::look_once;
 use buffer_words::{Board, Pass};
 use gev_links::{Clock, Gate};
 use gev_types::NoMemory;
+use idle_rests::Rest;
 use std::alloc::Global;
 use std::sync::Wait;
 
@@ -18,7 +19,8 @@ use std::sync::Wait;
 /// and queues it. `NoMemory` where a line wanted memory; its buffer was given back and queued all the same.
 ///
 /// A turn looks at the run word and then waits no time for a buffer, so the clock is read once in a turn that
-/// finds one and twice in another. It passes point 2 of the gate after each buffer that it took.
+/// finds one and twice in another. It passes point 2 of the gate after each buffer that it took, and rests where
+/// turns found none.
 pub fn apply<R: Wait, C: Clock, G: Gate>(
     rt: &R,
     alloc: Global,
@@ -34,14 +36,18 @@ pub fn apply<R: Wait, C: Clock, G: Gate>(
     ensures hands { SameHands pass.old pass.new }
 {
     let mut taken = 0;
+    let mut rest = Rest::new();
     'turns: for _ in rt.forever() {
         if taken == frames {
             return Ok(taken);
         }
         match look_once(rt, alloc, board, pass, clock, gate, out) {
             Ok(end) => match end {
-                LookEnd::Handed => taken += 1,
-                LookEnd::Idle => {}
+                LookEnd::Handed => {
+                    taken += 1;
+                    rest.found();
+                }
+                LookEnd::Idle => rest.rest(rt),
                 LookEnd::Over => return Ok(taken),
             },
             Err(error) => return Err(error),
