@@ -16,6 +16,7 @@ use crate::turn_end::TurnEnd;
 use control_client::{Client, Outcome};
 use gev_links::{Clock, Link};
 use gev_types::Peer;
+use idle_rests::Rest;
 use std::sync::Wait;
 
 // The room of a receive, in bytes.
@@ -112,7 +113,7 @@ fn take_turn<L: Link>(
 /// A turn reads the clock once, submits the next order where none is outstanding, lets the client tick and
 /// sends what it has to send, receives once on `control` and gives the client what came. The turns end with
 /// Stopped once all orders were acknowledged, where a command had no answer or was refused, and where a call of
-/// `control` failed; never with Spent.
+/// `control` failed; never with Spent. It rests between turns once there were some.
 pub fn carry_out<R: Wait, L: Link, C: Clock>(
     rt: &R,
     client: &mut Client,
@@ -129,13 +130,14 @@ pub fn carry_out<R: Wait, L: Link, C: Clock>(
 {
     let mut out = [0; RECEIVE_ROOM];
     let mut begun = 0;
+    let mut rest = Rest::new();
     'turns: for _ in rt.forever() {
         let moment = clock.now();
         match take_turn(
             client, control, camera, orders, &mut begun, moment, &mut out,
         ) {
             Some(end) => return Carried { end, begun },
-            None => {}
+            None => rest.rest(rt),
         }
     }
     unreachable!()
