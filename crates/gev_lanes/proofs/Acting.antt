@@ -1,20 +1,20 @@
 -- What is done at one lane's ends, and that the ends stay that lane's.
 use Rattle.std.proofs.Common.{◌≡◌, ℕ, zero, suc, ◌<◌, Bool, true, false, List, [], ◌∷◌, length, get_or, Option, Some, None, refl, ap, sym, ◌∙◌, subst, inl, inr, arith}
-use Rattle.std.specs.Prelude.{slice_get, slice_set, nat_lt, MatchBool}
+use Rattle.std.specs.Prelude.{slice_get, slice_set, nat_lt, MatchBool, IsSome}
 use Rattle.lane_queues.specs.Ends.{GiverEnd, TakerEnd, gave, took}
 use Rattle.gev_lanes.specs.declared.cell.Cell.{Cell}
 use Rattle.gev_lanes.specs.declared.parts.LaneQueues.{LaneQueues}
 use Rattle.gev_lanes.specs.declared.parts.ReaderLane.{ReaderLane}
-use Rattle.gev_lanes.specs.Sides.{LaneEnd, IsReaderOf, IsLaneOf, AreReadersOf, IsLaneAt}
+use Rattle.gev_lanes.specs.Sides.{LaneEnd, IsReaderOf, IsLaneOf, AreReadersOf, KeptAt, IsLaneAt}
 use Rattle.gev_lanes.specs.Messages.{Message, told, message_of}
-use Rattle.gev_lanes.specs.Acts.{Brings, Tries, TriesTo, Ticks, Asked, DoesAt, with_taken, with_freed, Puts, PutsOne}
-use Rattle.gev_lanes.proofs.News.{reader_or, readers_length}
+use Rattle.gev_lanes.specs.Acts.{Brings, BringsKept, Tries, TriesTo, Ticks, Asked, DoesAt, with_taken, with_freed, Puts, PutsOne}
+use Rattle.gev_lanes.proofs.News.{get_at, reader_or, readers_length}
 
 -- ---- the reader at one lane
 
 pub brought : (m : Message) (s : ReaderLane) (free cell : Cell) (f : TakerEnd Cell) (cs : GiverEnd Cell)
     → message_of cell ≡ m → f ≡ took s.free (free ∷ []) → cs ≡ gave s.cells (cell ∷ [])
-    → Brings m s (record { free = f; cells = cs; requests = s.requests; last = m.moment })
+    → Brings m s (record { free = f; cells = cs; requests = s.requests; kept = s.kept; last = m.moment })
 brought m s free cell f cs says taken given = record {
   free = free;
   cell = cell;
@@ -23,10 +23,28 @@ brought m s free cell f cs says taken given = record {
 }
   where
     side : TakerEnd Cell → GiverEnd Cell → ReaderLane
-    side x y = record { free = x; cells = y; requests = s.requests; last = m.moment }
+    side x y = record { free = x; cells = y; requests = s.requests; kept = s.kept; last = m.moment }
 
 pub brings_keep : (q : LaneQueues) (m : Message) (s t : ReaderLane) → IsReaderOf q s → Brings m s t → IsReaderOf q t
 brings_keep q m s t is brings =
+    subst (IsReaderOf q) (sym brings.is) (record { free = is.free; cells = is.cells; requests = is.requests; least = is.least })
+
+pub kept_given : (m : Message) (s : ReaderLane) (kept cell : Cell) (left : Option Cell) (cs : GiverEnd Cell)
+    → s.kept ≡ Some kept → left ≡ None → message_of cell ≡ m → cs ≡ gave s.cells (cell ∷ [])
+    → BringsKept m s (record { free = s.free; cells = cs; requests = s.requests; kept = left; last = m.moment })
+kept_given m s kept cell left cs had gone says given = record {
+  kept = kept;
+  had = had;
+  cell = cell;
+  message = says;
+  is = ap (λ x. side cs x) gone ∙ ap (λ x. side x None) given;
+}
+  where
+    side : GiverEnd Cell → Option Cell → ReaderLane
+    side x k = record { free = s.free; cells = x; requests = s.requests; kept = k; last = m.moment }
+
+pub kept_keeps : (q : LaneQueues) (m : Message) (s t : ReaderLane) → IsReaderOf q s → BringsKept m s t → IsReaderOf q t
+kept_keeps q m s t is brings =
     subst (IsReaderOf q) (sym brings.is) (record { free = is.free; cells = is.cells; requests = is.requests; least = is.least })
 
 pub tries_keep : (q : LaneQueues) (m : Message) (brought_so : Bool) (s t : ReaderLane) → IsReaderOf q s → Tries m brought_so s t → IsReaderOf q t
@@ -79,6 +97,10 @@ does_here Does qs ss k s t all few does = record {
 pub keeps_here : (qs : List LaneQueues) (ss : List ReaderLane) (k : ℕ) (q : LaneQueues) (t : ReaderLane) → AreReadersOf qs ss → k < length qs
     → q ≡ get_or qs k q → IsReaderOf q t → AreReadersOf qs (slice_set ss k t)
 keeps_here qs ss k q t all few here is = set_readers qs ss k q t all few (subst (λ x. IsReaderOf x t) here is)
+
+-- the cell for this lane's end is kept
+pub kept_here : (ss : List ReaderLane) (k : ℕ) (s : ReaderLane) → KeptAt k ss → IsSome (get_or ss k s).kept
+kept_here ss k s at = subst (λ x. IsSome x.kept) (sym (get_at ss k at.side s at.at)) at.kept
 
 -- ---- the lane
 

@@ -13,11 +13,11 @@ pub record Brings (m : Message) (s t : ReaderLane) : Type 0 where
   pub free : Cell
   pub cell : Cell
   pub message : message_of cell ≡ m
-  pub is : t ≡ record { free = took s.free (free ∷ []); cells = gave s.cells (cell ∷ []); requests = s.requests; last = m.moment }
+  pub is : t ≡ record { free = took s.free (free ∷ []); cells = gave s.cells (cell ∷ []); requests = s.requests; kept = s.kept; last = m.moment }
 
 -- A try for a free cell found none, and nothing else was done.
 pub record LeavesOut (s t : ReaderLane) : Type 0 where
-  pub is : t ≡ record { free = missed s.free; cells = s.cells; requests = s.requests; last = s.last }
+  pub is : t ≡ record { free = missed s.free; cells = s.cells; requests = s.requests; kept = s.kept; last = s.last }
   pub empty : WasEmpty s.free
 
 abbrev pub Tries : Message → Bool → ReaderLane → ReaderLane → Type 0
@@ -38,13 +38,21 @@ Hears (Some bytes) moment s t = TriesTo (record { moment = moment; says = heard 
 abbrev pub Ticks : ℕ → ReaderLane → ReaderLane → Type 0
 Ticks moment s t = MatchBool (nat_lt s.last moment) (TriesTo (record { moment = moment; says = told }) s t) (t ≡ s)
 
+-- The cell that was kept was given to the lane with this message, and no free cell was taken for it.
+pub record BringsKept (m : Message) (s t : ReaderLane) : Type 0 where
+  pub kept : Cell
+  pub had : s.kept ≡ Some kept
+  pub cell : Cell
+  pub message : message_of cell ≡ m
+  pub is : t ≡ record { free = s.free; cells = gave s.cells (cell ∷ []); requests = s.requests; kept = None; last = m.moment }
+
 -- The end is brought.
 abbrev pub Ends : ℕ → ReaderLane → ReaderLane → Type 0
-Ends moment s t = Brings (record { moment = moment; says = ended }) s t
+Ends moment s t = BringsKept (record { moment = moment; says = ended }) s t
 
 -- Nothing but the end that takes the lane's requests became another.
 abbrev pub with_asked : ReaderLane → TakerEnd (List ℕ) → ReaderLane
-with_asked s requests = record { free = s.free; cells = s.cells; requests = requests; last = s.last }
+with_asked s requests = record { free = s.free; cells = s.cells; requests = requests; kept = s.kept; last = s.last }
 
 -- One request was taken.
 abbrev pub AsksOne : List ℕ → ReaderLane → ReaderLane → Type 0

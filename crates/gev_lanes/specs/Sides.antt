@@ -1,13 +1,17 @@
 -- The ends of the lanes' queues: whose they are, how they are when they are new, and what is known where they meet.
-use Rattle.std.specs.Prelude.{◌≡◌, ⊤, ℕ, suc, List, [], ◌∷◌, length, slice_get, Some}
+use Rattle.std.specs.Prelude.{◌≡◌, ⊤, ℕ, suc, List, [], ◌∷◌, length, slice_get, Some, IsSome}
 use Rattle.lane_queues.specs.Ends.{BeginsWith}
 use Rattle.gev_lanes.specs.declared.parts.LaneQueues.{LaneQueues}
 use Rattle.gev_lanes.specs.declared.parts.ReaderLane.{ReaderLane}
 use Rattle.gev_lanes.specs.declared.parts.LaneHands.{LaneHands}
 
--- how many cells a lane has, and how many its queues have room for
+-- how many cells a lane has for datagrams and moments, and how many requests may wait
 abbrev pub CELLS : ℕ
 CELLS = 64
+
+-- how many cells its queues of cells have room for: these, and the one that is kept for the end
+abbrev pub ROOM : ℕ
+ROOM = 65
 
 -- A lane's ends, with its number.
 pub record LaneEnd : Type 0 where
@@ -34,6 +38,17 @@ AreReadersOf [] (s ∷ ss) = ⊥
 AreReadersOf (q ∷ qs) [] = ⊥
 AreReadersOf (q ∷ qs) (s ∷ ss) = IsReaderOf q s × AreReadersOf qs ss
 
+-- The cell for the end of each lane is kept still.
+abbrev pub AreKept : List ReaderLane → Type 0
+AreKept [] = ⊤
+AreKept (s ∷ ss) = IsSome s.kept × AreKept ss
+
+-- That of lane k is.
+pub record KeptAt (k : ℕ) (ss : List ReaderLane) : Type 0 where
+  pub side : ReaderLane
+  pub at : slice_get ss k ≡ Some side
+  pub kept : IsSome side.kept
+
 -- These are the ends of the lane with their number.
 pub record IsLaneAt (qs : List LaneQueues) (e : LaneEnd) : Type 0 where
   pub queues : LaneQueues
@@ -47,24 +62,25 @@ AreLanesOf qs (e ∷ es) = IsLaneAt qs e × AreLanesOf qs es
 
 -- ---- new lanes
 
--- A queue with room for 64.
+-- Room for all cells, and for 64 requests.
 pub record HasRoom (q : LaneQueues) : Type 0 where
-  pub free : q.free.capacity ≡ CELLS
-  pub cells : q.cells.capacity ≡ CELLS
+  pub free : q.free.capacity ≡ ROOM
+  pub cells : q.cells.capacity ≡ ROOM
   pub requests : q.requests.capacity ≡ CELLS
 
 abbrev pub HaveRoom : List LaneQueues → Type 0
 HaveRoom [] = ⊤
 HaveRoom (q ∷ qs) = HasRoom q × HaveRoom qs
 
--- A new lane: 64 cells were given to the queue of free cells, as the lane's first, nothing else was given or taken,
--- and no try was made that failed.
+-- A new lane: 64 cells were given to the queue of free cells, as the lane's first, and one is kept for the end;
+-- nothing else was given or taken, and no try was made that failed.
 pub record IsNew (q : LaneQueues) (s : ReaderLane) (e : LaneEnd) (number : ℕ) : Type 0 where
   pub room : HasRoom q
   pub reader : IsReaderOf q s
   pub lane_of : IsLaneOf q e.hands
   pub numbered : e.number ≡ number
   pub cells_there : length e.hands.free.given ≡ CELLS
+  pub end_there : IsSome s.kept
   pub none_freed : s.free.taken ≡ []
   pub none_sent : s.cells.given ≡ []
   pub none_come : e.hands.cells.taken ≡ []

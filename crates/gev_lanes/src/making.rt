@@ -10,8 +10,11 @@ use gev_types::{Bytes, NoMemory};
 use lane_queues::{Line, Start};
 use std::alloc::{AllocError, Global};
 
-// How many cells a lane has, and how many its queues have room for.
+// How many cells a lane has for datagrams and moments, and how many requests may wait.
 const CELLS: usize = 64;
+
+// How many cells its queues of cells have room for: these, and the one that is kept for the end.
+const ROOM: usize = CELLS + 1;
 
 // How many bytes a cell has room for.
 const CELL_SIZE: usize = 9000;
@@ -55,10 +58,11 @@ pub(crate) fn new_lane(
 ) -> Result<(LaneQueues, ReaderLane, LaneEnds), NoMemory>
     ensures new { IfOk result (λ made. IsNew made.0 made.1 made.2 number) }
 {
-    let (free, mut free_start) = Line::new(alloc, CELLS)?;
-    let (cells, cells_start) = Line::new(alloc, CELLS)?;
+    let (free, mut free_start) = Line::new(alloc, ROOM)?;
+    let (cells, cells_start) = Line::new(alloc, ROOM)?;
     let (requests, requests_start) = Line::new(alloc, CELLS)?;
     put_cells(alloc, &free, &mut free_start)?;
+    let kept = new_cell(alloc)?;
     let (lane_free, reader_free) = free.part(free_start);
     let (reader_cells, lane_cells) = cells.part(cells_start);
     let (lane_requests, reader_requests) = requests.part(requests_start);
@@ -71,6 +75,7 @@ pub(crate) fn new_lane(
         free: reader_free,
         cells: reader_cells,
         requests: reader_requests,
+        kept: Some(kept),
         last: 0,
     };
     let hands = LaneHands {

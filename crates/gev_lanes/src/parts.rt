@@ -9,12 +9,14 @@ pub(crate) struct LaneQueues {
     pub(crate) requests: Line<[u8; 28]>,
 }
 
-/// The reader's ends of a lane's queues, and the moment of the last cell that it gave, 0 before the first.
+/// The reader's ends of a lane's queues, the cell that is kept for the lane's end until it is told, and the moment of
+/// the last cell that the reader gave, 0 before the first.
 #[derive(Drop)]
 pub(crate) struct ReaderLane {
     pub(crate) free: Taker<Cell>,
     pub(crate) cells: Giver<Cell>,
     pub(crate) requests: Taker<[u8; 28]>,
+    pub(crate) kept: Option<Cell>,
     pub(crate) last: u64,
 }
 

@@ -1,6 +1,6 @@
 //! What the reader does at one lane's queues.
 
-ghost use Rattle.std.specs.Prelude.{◌≡◌, ◌≤◌, [], ◌∷◌, length, true, nat_lt, Some, IfSome, IfNone};
+ghost use Rattle.std.specs.Prelude.{◌≡◌, ◌≤◌, [], ◌∷◌, length, true, nat_lt, Some, IsSome, IfSome, IfNone};
 ghost use Rattle.lane_queues.specs.Ends.{gave, took};
 ghost use Rattle.gev_lanes.specs.Sides.{IsReaderOf};
 ghost use Rattle.gev_lanes.specs.Messages.{heard, told};
@@ -10,7 +10,15 @@ use crate::parts::{LaneQueues, ReaderLane};
 use crate::saying::{ending, ticking, with_datagram};
 use std::sync::Wait;
 
-/// Brings a datagram to the lane: whether a free cell was there.
+// Of how many free cells the reader says that few are left: it rests until more are.
+const FEW: usize = 8;
+
+// How often it rests for a tenth of a millisecond at most, before it looks for a free cell: with what the system adds to
+// a rest no more than 2 ms.
+const RESTS: u32 = 12;
+
+/// Brings a datagram to the lane: whether a free cell was there. Where few are left the reader rests first, while the
+/// lane serves.
 pub(crate) fn bring_one<R: Wait>(
     rt: &R,
     queues: &LaneQueues,
@@ -22,6 +30,7 @@ pub(crate) fn bring_one<R: Wait>(
     requires size { length datagram.now ≤ 9000 }
     ensures tries { Tries (record { moment = moment; says = heard datagram.now }) result side.old side.new }
 {
+    let _rests = queues.free.rest_while_few(rt, &mut side.free, FEW, RESTS);
     match queues.free.take(rt, &mut side.free) {
         Some(free) => {
             let cell = with_datagram(free, moment, datagram);
@@ -59,13 +68,13 @@ pub(crate) fn tick_one<R: Wait>(rt: &R, queues: &LaneQueues, side: &mut ReaderLa
     }
 }
 
-/// Brings the end, once a free cell is there.
+/// Brings the end in the cell that is kept for it, and waits for none.
 pub(crate) fn end_one<R: Wait>(rt: &R, queues: &LaneQueues, side: &mut ReaderLane, moment: u64)
     requires side { IsReaderOf queues.now side.old }
+    requires kept { IsSome side.old.kept }
     ensures ends { BringsEnd moment side.old side.new }
 {
-    let free = queues.free.take_waiting(rt, &mut side.free);
-    let cell = ending(free, moment);
+    let cell = ending(side.kept.take().unwrap(), moment);
     queues.cells.give_waiting(rt, &mut side.cells, cell);
     side.last = moment;
 }

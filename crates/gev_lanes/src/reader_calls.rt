@@ -1,7 +1,7 @@
 //! What the reader does at one of its lanes, by the lane's number from 0 on.
 
 ghost use Rattle.std.specs.Prelude.{◌≡◌, ◌<◌, ◌≤◌, length};
-ghost use Rattle.gev_lanes.specs.Sides.{AreReadersOf};
+ghost use Rattle.gev_lanes.specs.Sides.{AreReadersOf, KeptAt};
 ghost use Rattle.gev_lanes.specs.Messages.{heard};
 ghost use Rattle.gev_lanes.specs.Acts.{Tries, Ticks, Ends as BringsEnd, Asked, DoesAt};
 
@@ -51,6 +51,7 @@ fn end_at<R: Wait>(
 )
     requires sides { AreReadersOf queues.now sides.old }
     requires lane { lane < length queues.now }
+    requires kept { KeptAt lane sides.old }
     ensures sides { AreReadersOf queues.now sides.new }
     ensures ends { DoesAt (BringsEnd moment) lane sides.old sides.new }
 {
@@ -73,7 +74,7 @@ fn ask_at<R: Wait>(
 
 impl Lanes {
     ghost use Rattle.std.specs.Prelude.{◌≡◌, ◌<◌, ◌≤◌, length};
-    ghost use Rattle.gev_lanes.specs.Sides.{AreReadersOf};
+    ghost use Rattle.gev_lanes.specs.Sides.{AreReadersOf, KeptAt};
     ghost use Rattle.gev_lanes.specs.Messages.{heard};
     ghost use Rattle.gev_lanes.specs.Acts.{Tries, Ticks, Ends as BringsEnd, Asked, DoesAt};
 
@@ -126,10 +127,12 @@ impl Lanes {
         )
     }
 
-    /// Brings the end to a lane, and waits until a free cell is there for it.
+    /// Brings the end to a lane, in the cell that was kept for it: it waits for no free cell, so it needs no lane that
+    /// serves.
     pub fn end<R: Wait>(&self, rt: &R, reader: &mut ReaderEnds, lane: usize, moment: u64)
         requires reader { AreReadersOf self.now reader.old }
         requires lane { lane < length self.now }
+        requires kept { KeptAt lane reader.old }
         ensures reader { AreReadersOf self.now reader.new }
         ensures ends { DoesAt (BringsEnd moment) lane reader.old reader.new }
     {

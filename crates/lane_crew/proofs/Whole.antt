@@ -13,7 +13,7 @@ use Rattle.gev_control.specs.declared.acq_end.AcqEnd.{AcqEnd}
 use Rattle.gev_acq.specs.Turns.{Outside}
 use Rattle.gev_lanes.specs.declared.parts.LaneQueues.{LaneQueues}
 use Rattle.gev_lanes.specs.declared.parts.ReaderLane.{ReaderLane}
-use Rattle.gev_lanes.specs.Sides.{AreNew}
+use Rattle.gev_lanes.specs.Sides.{LaneEnd, AreKept, AreNew}
 use Rattle.mode_calls.specs.declared.mode.Mode.{Mode}
 use Rattle.lane_reader.specs.Reads.{looks_in}
 use Rattle.lane_crew.specs.declared.lane_tools.LaneTools.{LaneTools}
@@ -41,6 +41,14 @@ new_count k (q ∷ qs) [] [] new = absurd new
 new_count k (q ∷ qs) [] (x ∷ xs) new = absurd new
 new_count k (q ∷ qs) (s ∷ ss) [] new = absurd new
 new_count k (q ∷ qs) (s ∷ ss) (x ∷ xs) new = ap suc (new_count (suc k) qs ss xs new.1)
+
+pub new_kept : (k : ℕ) (qs : List LaneQueues) (ss : List ReaderLane) (es : List LaneEnd) → AreNew k qs ss es → AreKept ss
+new_kept k [] [] [] new = tt
+new_kept k [] [] (e ∷ es) new = absurd new
+new_kept k [] (s ∷ ss) es new = absurd new
+new_kept k (q ∷ qs) [] es new = absurd new
+new_kept k (q ∷ qs) (s ∷ ss) [] new = absurd new
+new_kept k (q ∷ qs) (s ∷ ss) (e ∷ es) new = (new.0.end_there, new_kept (suc k) qs ss es new.1)
 
 pub crew_reads : (mode : Mode) (camera stream : Address) (o m : Outside) (board : TableId) (qs : List LaneQueues) (ss us : List ReaderLane) (xs ys : List LaneTools) (turns : ℕ) (end : AcqEnd)
     (answer : Result (Unit {0}) ℕ) (s t u v : Token) → AreNew 0 qs ss (ends_in xs) → AreReady board qs xs → ReadsAll (length qs) camera stream o m turns end ss us s t

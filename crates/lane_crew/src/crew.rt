@@ -7,7 +7,7 @@ ghost use Rattle.buffer_words.specs.Passes.{IsEmptyHanded, SameHands};
 ghost use Rattle.buffer_words.specs.Workers.{Works};
 ghost use Rattle.gev_control.specs.Ends.{is_fault_end};
 ghost use Rattle.gev_acq.specs.Reading.{FaultsOf};
-ghost use Rattle.gev_lanes.specs.Sides.{AreReadersOf, AreNew};
+ghost use Rattle.gev_lanes.specs.Sides.{AreReadersOf, AreKept, AreNew};
 ghost use Rattle.lane_crew.specs.Kinds.{is_lane_readers};
 ghost use Rattle.lane_crew.specs.Tools.{AreReady, AreServed, ends_in};
 ghost use Rattle.lane_crew.specs.Reader.{ReadsAll};
@@ -53,6 +53,7 @@ fn read_on<R: Wait, S: Link, M: Link, C: Clock>(
     requires table { tools.pass.table ≡ board_id board.now }
     requires reader { AreReadersOf lanes.now tools.reader }
     requires some { 0 < length lanes.now }
+    requires kept { AreKept tools.reader }
     requires client { HasSubmittedNone tools.client }
     ensures reads { ReadsAll (length lanes.now) camera own
         (record { received = S.received tools.stream; heard = M.received tools.control; sent = M.sent tools.control; told = C.told tools.clock; client = tools.client })
@@ -118,6 +119,7 @@ fn read_and_serve<
     requires table { mine.pass.table ≡ board_id board.now }
     requires reader { AreReadersOf lanes.now mine.reader }
     requires some { 0 < length lanes.now }
+    requires kept { AreKept mine.reader }
     requires client { HasSubmittedNone mine.client }
     requires ready { AreReady (board_id board.now) lanes.now tools.items }
     ensures served { AreServed mode lanes.now tools.items result.0.items }
@@ -130,7 +132,8 @@ fn read_and_serve<
     ensures hands { SameHands mine.pass result.1.0.pass }
     ensures faults { FaultsOf (is_fault_end result.1.1) (S.faults mine.stream) (S.faults result.1.0.stream) (M.faults mine.control) (M.faults result.1.0.control) }
 {
-    // Where no thread can be made the first call is the last: a lane that ran before the reader would wait for ever.
+    // Where no thread can be made the first call is the last: a lane that ran before the reader would wait for ever. The
+    // reader ends without its lanes.
     thread::join(
         rt,
         move || -> Vec<LaneTools>
@@ -138,7 +141,7 @@ fn read_and_serve<
             ensures { AreServed mode lanes.entry.now tools.items result.items }
         { run_lanes(rt, board, lanes, gate, tools, mode) },
         move || -> (ReaderTools<S, M, C>, AcqEnd)
-            requires { (mine.pass.table ≡ board_id board.now) × AreReadersOf lanes.now mine.reader × (0 < length lanes.now) × HasSubmittedNone mine.client }
+            requires { (mine.pass.table ≡ board_id board.now) × AreReadersOf lanes.now mine.reader × (0 < length lanes.now) × AreKept mine.reader × HasSubmittedNone mine.client }
             ensures { ReadsAll (length lanes.entry.now) camera own
                 (record { received = S.received mine.stream; heard = M.received mine.control; sent = M.sent mine.control; told = C.told mine.clock; client = mine.client })
                 (record { received = S.received result.0.stream; heard = M.received result.0.control; sent = M.sent result.0.control; told = C.told result.0.clock; client = result.0.client })
@@ -154,7 +157,8 @@ fn read_and_serve<
 /// reader where that was done, with each lane as a thread beside it. In every case each lane is told of the end,
 /// serves what it was given, and fills what retires, by the buffer handling mode; then the lanes' passes are joined, and
 /// only then the acquisition is stopped. Where no thread can be made the reader runs first, and then one lane after
-/// another.
+/// another; a lane for which none can be made serves once the reader or another lane has ended, and what found no free
+/// cell of it till then was shed.
 pub fn read_by_lanes<
     R: Threads + Wait + Sync,
     S: Link + Drop,

@@ -6,7 +6,7 @@ ghost use Rattle.buffer_words.specs.Boards.{board_id};
 ghost use Rattle.buffer_words.specs.Passes.{SameHands};
 ghost use Rattle.gev_control.specs.Ends.{is_fault_end};
 ghost use Rattle.gev_acq.specs.Reading.{FaultsOf};
-ghost use Rattle.gev_lanes.specs.Sides.{AreReadersOf};
+ghost use Rattle.gev_lanes.specs.Sides.{AreReadersOf, AreKept};
 ghost use Rattle.lane_turns.specs.Turns.{EndsEach};
 ghost use Rattle.lane_crew.specs.Reader.{ReadsAll};
 
@@ -23,6 +23,7 @@ use std::sync::Wait;
 // The lanes are told of the end, where the setup came to this one.
 fn end_early<R: Wait>(rt: &R, lanes: &Lanes, reader: &mut ReaderEnds, end: AcqEnd) -> AcqEnd
     requires reader { AreReadersOf lanes.now reader.old }
+    requires kept { AreKept reader.old }
     ensures reader { AreReadersOf lanes.now reader.new }
     ensures ends { EndsEach reader.old reader.new }
     ensures end { result ≡ end }
@@ -49,6 +50,7 @@ pub(crate) fn read_all<R: Wait, S: Link, M: Link, C: Clock>(
     requires table { pass.old.table ≡ board_id board.now }
     requires reader { AreReadersOf lanes.now reader.old }
     requires some { 0 < length lanes.now }
+    requires kept { AreKept reader.old }
     requires client { HasSubmittedNone client.old }
     ensures reader { AreReadersOf lanes.now reader.new }
     ensures reads { ReadsAll (length lanes.now) camera own

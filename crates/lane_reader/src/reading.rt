@@ -5,7 +5,7 @@ ghost use Rattle.buffer_words.specs.Boards.{board_id};
 ghost use Rattle.buffer_words.specs.Passes.{SameHands};
 ghost use Rattle.gev_control.specs.Ends.{is_fault_end};
 ghost use Rattle.gev_acq.specs.Reading.{FaultsOf};
-ghost use Rattle.gev_lanes.specs.Sides.{AreReadersOf};
+ghost use Rattle.gev_lanes.specs.Sides.{AreReadersOf, AreKept};
 ghost use Rattle.lane_reader.specs.Reads.{ReadsTurns, ReadsLanes};
 
 use crate::turning::read_turn;
@@ -67,8 +67,8 @@ fn read_turns<R: Wait, L: Link, M: Link, C: Clock>(
 }
 
 /// The reader of a live run with lanes: makes at most `turns` turns, sends what it has to send to the peer
-/// `camera`, and at its end, whatever the cause, tells each lane that it has ended, for which it waits until the
-/// lane has a free cell.
+/// `camera`, and at its end, whatever the cause, tells each lane that it has ended, in a cell that was kept for it: it
+/// waits for no lane.
 ///
 /// A turn looks at the run word, and the reader ends where that isn't 1. It receives once on `stream`, reads the
 /// clock once, brings the datagram that came to its lane and the moment to each lane whose last cell had a lower
@@ -91,6 +91,7 @@ pub fn read_lanes<R: Wait, L: Link, M: Link, C: Clock>(
     requires table { pass.old.table ≡ board_id board.now }
     requires reader { AreReadersOf lanes.now reader.old }
     requires some { 0 < length lanes.now }
+    requires kept { AreKept reader.old }
     ensures reader { AreReadersOf lanes.now reader.new }
     ensures reads { ReadsLanes (length lanes.now) camera
         (record { received = L.received stream.old; heard = M.received control.old; sent = M.sent control.old; told = C.told clock.old; client = client.old })

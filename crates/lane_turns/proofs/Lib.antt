@@ -1,2 +1,3 @@
 pub mod Looping
 pub mod Hearings
+pub mod Keeping

@@ -4,6 +4,7 @@ use Rattle.std.specs.Prelude.{slice_get, slice_set}
 use Rattle.std.proofs.lemmas.List.{append-nil}
 use Rattle.lane_queues.specs.Ends.{TakerEnd, took, missed, WasEmpty}
 use Rattle.gev_lanes.specs.declared.parts.ReaderLane.{ReaderLane}
+use Rattle.gev_lanes.specs.Sides.{AreKept, KeptAt}
 use Rattle.gev_lanes.specs.Acts.{DoesAt, AsksOne, AsksNone, with_asked}
 use Rattle.lane_turns.specs.Turns.{Each, Asks, AsksEach, joined}
 
@@ -60,6 +61,18 @@ each_all Does zero k (s ∷ ss) ts all to = absurd (omega (arith, all))
 each_all Does (suc i) k [] ts all to = absurd to
 each_all Does (suc i) k (s ∷ ss) [] all to = absurd to
 each_all Does (suc i) k (s ∷ ss) (t ∷ ts) all to = (to.0, each_all Does i (suc k) ss ts (omega (arith, all)) to.1)
+
+-- ---- the cells for the end
+
+-- those of the lanes to come are kept still
+pub kept_next : (Does : ℕ → ReaderLane → ReaderLane → Type 0) (i k : ℕ) (ss ts : List ReaderLane) → EachTo Does i k ss ts → AreKept ss → i < length ss → KeptAt i ts
+kept_next Does i k [] ts to kept few = absurd (omega (arith, few))
+kept_next Does zero k (s ∷ ss) ts to kept few =
+    subst (KeptAt 0) (sym to) (record { side = s; at = refl; kept = kept.0 })
+kept_next Does (suc i) k (s ∷ ss) [] to kept few = absurd to
+kept_next Does (suc i) k (s ∷ ss) (t ∷ ts) to kept few =
+    let rest = kept_next Does i (suc k) ss ts to.1 kept.1 (omega (arith, few)) in
+    record { side = rest.side; at = rest.at; kept = rest.kept }
 
 -- ---- one lane alone
 

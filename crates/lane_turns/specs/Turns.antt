@@ -94,6 +94,6 @@ abbrev pub TakesLanesTurns : ℕ → List ReaderTurn → List ReaderLane → Lis
 TakesLanesTurns n [] ss us = us ≡ ss
 TakesLanesTurns n (t ∷ ts) ss us = (middle : List ReaderLane) × TakesLanesTurn n t ss middle × TakesLanesTurns n ts middle us
 
--- An end cell was given to each lane. Its moment is 0, and no clock was read for it.
+-- An end cell was given to each lane, the one that was kept for it. Its moment is 0, and no clock was read for it.
 abbrev pub EndsEach : List ReaderLane → List ReaderLane → Type 0
 EndsEach ss us = Each (λ k. Ends 0) 0 ss us

@@ -2,9 +2,12 @@
 use Rattle.std.proofs.Common.{subst}
 use Rattle.buffer_words.specs.Boards.{board_id}
 use Rattle.lane_crew.proofs.Lists.{served_back}
-use Rattle.lane_crew.proofs.Whole.{crew_reads, crew_works}
-use Rattle.lane_crew.specs.Tools.{AreMet}
+use Rattle.lane_crew.proofs.Whole.{new_kept, crew_reads, crew_works}
+use Rattle.lane_crew.specs.Tools.{AreMet, ends_in}
 use Rattle.lane_crew.proofs.crew.read_by_lanes.Goals as goal
+
+pub read_and_serve-served-requires-clause-kept : goal.read_and_serve-served-requires-clause-kept
+read_and_serve-served-requires-clause-kept g c = λ κs within. new_kept 0 c.args.lanes.now c.args.reader (ends_in c.args.tools.items) c.requires.new
 
 pub bring_home-requires-clause-back : goal.bring_home-requires-clause-back
 bring_home-requires-clause-back g c =
