@@ -1,0 +1,27 @@
+use Rattle.std.proofs.Common.{◌≡◌, ℕ, ◌≤◌, List, length, take, drop, sym, ap, ◌∙◌, arith}
+use Rattle.std.specs.List.{All}
+use Rattle.gvcp_discovery.specs.Discovery.{bytes_at}
+use Rattle.gvcp_discovery.specs.Laws.{discovery_body, bytes_of_words}
+use Rattle.gvcp_discovery.proofs.Spelled.{length_told, spelled_part, spelled_number, mac_part}
+use Rattle.gvcp_discovery.proofs.laws.the_registers_are_told.Goals as goal
+
+pub returns : goal.returns
+returns c words size small =
+    let fits : 62 ≤ length words = omega (arith, size) in
+    record {
+      size = length_told 62 words fits;
+      spec_version = spelled_number 0 62 words (omega arith) fits small;
+      device_mode = spelled_number 1 62 words (omega arith) fits small;
+      mac_address = mac_part 62 words (omega arith) fits;
+      ip_config_options = spelled_number 4 62 words (omega arith) fits small;
+      ip_config_current = spelled_number 5 62 words (omega arith) fits small;
+      current_ip = spelled_number 9 62 words (omega arith) fits small;
+      current_subnet_mask = spelled_number 13 62 words (omega arith) fits small;
+      default_gateway = spelled_number 17 62 words (omega arith) fits small;
+      manufacturer_name = spelled_part 18 8 62 words (omega arith) fits;
+      model_name = spelled_part 26 8 62 words (omega arith) fits;
+      device_version = spelled_part 34 8 62 words (omega arith) fits;
+      manufacturer_specific_information = spelled_part 42 12 62 words (omega arith) fits;
+      serial_number = spelled_part 54 4 62 words (omega arith) fits;
+      user_defined_name = spelled_part 58 4 62 words (omega arith) fits;
+    }

@@ -1,0 +1,4 @@
+pub mod Discovery
+pub mod CameraLine
+pub mod Pieces
+pub mod Laws
