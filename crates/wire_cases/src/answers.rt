@@ -1,6 +1,6 @@
 //! Which call a row names.
 
-use crate::{base, control, links, standard, stream};
+use crate::{base, control, links, requests, standard, stream};
 use std::alloc::Global;
 
 /// The answer to a row, or None where it isn't understood.
@@ -31,6 +31,8 @@ pub fn answer(alloc: Global, row: &str) -> Option<String> {
         "blocks" => standard::blocks(alloc, &mut words),
         "narrow" => standard::narrow(alloc, &mut words),
         "standard_resend" => standard::standard_resend(alloc, &mut words),
+        "control_request" => requests::control_request(alloc, &mut words),
+        "sent_requests" => requests::sent_requests(alloc, &mut words),
         "only_from" => links::only_from(alloc, &mut words),
         "wide_link" => links::wide_link(alloc, &mut words),
         _ => None,
