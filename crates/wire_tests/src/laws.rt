@@ -32,4 +32,7 @@ fn laws_can_be_called() {
     gvsp_std::laws::standard_is_widened();
     gvsp_std::laws::narrowed_is_standard();
     gvsp_std::laws::narrowed_is_widened();
+    packet_requests::laws::numbers_have_the_bit();
+    packet_requests::laws::requests_ask_the_same();
+    packet_requests::laws::early_commands_are_apart();
 }
