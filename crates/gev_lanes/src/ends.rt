@@ -25,6 +25,8 @@ impl Model for Lanes {
 #[derive(Drop)]
 pub struct ReaderEnds {
     pub(crate) lanes: Vec<ReaderLane>,
+    // How many datagrams found no free cell. No clause speaks of it.
+    pub(crate) shed: u64,
 }
 
 impl Model for ReaderEnds {

@@ -57,7 +57,14 @@ impl Lanes {
             sides.push(side)?;
             ends.push(lane_ends)?;
         }
-        Ok((Lanes { queues }, ReaderEnds { lanes: sides }, ends))
+        Ok((
+            Lanes { queues },
+            ReaderEnds {
+                lanes: sides,
+                shed: 0,
+            },
+            ends,
+        ))
     }
 
     /// A lane that has ended meets the reader: of each of its queues, what the one side took is the front of what

@@ -42,7 +42,7 @@ pub(crate) fn bring_one<R: Wait>(
     }
 }
 
-// Brings the moment alone: whether a free cell was there.
+// Brings the moment alone: whether a free cell was there. A lane that sleeps sees it when it looks by itself.
 fn bring_moment<R: Wait>(rt: &R, queues: &LaneQueues, side: &mut ReaderLane, moment: u64) -> bool
     requires side { IsReaderOf queues.now side.old }
     ensures tries { Tries (record { moment = moment; says = told }) result side.old side.new }
@@ -50,7 +50,7 @@ fn bring_moment<R: Wait>(rt: &R, queues: &LaneQueues, side: &mut ReaderLane, mom
     match queues.free.take(rt, &mut side.free) {
         Some(free) => {
             let cell = ticking(free, moment);
-            queues.cells.give_waiting(rt, &mut side.cells, cell);
+            queues.cells.give_quietly(rt, &mut side.cells, cell);
             side.last = moment;
             true
         }

@@ -72,6 +72,13 @@ fn ask_at<R: Wait>(
     ask_one(rt, &queues[lane], &mut sides[lane])
 }
 
+impl ReaderEnds {
+    /// How many datagrams were brought to no lane, since none of its cells was free.
+    pub fn shed(&self) -> u64 {
+        self.shed
+    }
+}
+
 impl Lanes {
     ghost use Rattle.std.specs.Prelude.{◌≡◌, ◌<◌, ◌≤◌, length};
     ghost use Rattle.gev_lanes.specs.Sides.{AreReadersOf, KeptAt};
@@ -101,14 +108,16 @@ impl Lanes {
         ensures reader { AreReadersOf self.now reader.new }
         ensures brings { DoesAt (Tries (record { moment = moment; says = heard datagram.now }) result) lane reader.old reader.new }
     {
-        bring_at(
+        let brought = bring_at(
             rt,
             self.queues.as_slice(),
             reader.lanes.as_mut_slice(),
             lane,
             moment,
             datagram,
-        )
+        );
+        reader.shed = reader.shed.saturating_add(u64::from(!brought));
+        brought
     }
 
     /// Brings a moment, in milliseconds, to a lane whose last cell had a lower one, where a free cell is there.

@@ -14,8 +14,8 @@ use std::time::Duration;
 /// How many looks for an item come before the taker sleeps.
 const LOOKS: u32 = 20;
 
-/// How long the taker sleeps at most before it looks again, in milliseconds, so that no wake is needed.
-const SLEEP: u64 = 10;
+/// How long the taker sleeps at most before it looks again, in milliseconds, also where nobody wakes it.
+const SLEEP: u64 = 5;
 
 /// A bounded queue with one end that gives and one that takes.
 #[derive(Drop)]
@@ -83,9 +83,7 @@ impl<T: Drop> Line<T> {
         ensures same { IfErr result (λ _. giver.new ≡ giver.old) }
         ensures full { IfErr result (λ _. WasFull self.now.capacity giver.old) }
     {
-        let pushed = self.queue.push_as::<Gave, R>(rt, &mut giver.pass, item);
-        self.wake();
-        pushed
+        self.queue.push_as::<Gave, R>(rt, &mut giver.pass, item)
     }
 
     // Wakes the taker where it sleeps.
@@ -132,7 +130,10 @@ impl<T: Drop> Line<T> {
         ensures full { IfErr result (λ _. WasFull self.now.capacity giver.old) }
     {
         match self.push(rt, giver, item) {
-            Ok(()) => Ok(()),
+            Ok(()) => {
+                self.wake();
+                Ok(())
+            }
             Err(back) => {
                 self.queue.another::<Refused>(&mut giver.pass);
                 Err(back)
@@ -159,6 +160,15 @@ impl<T: Drop> Line<T> {
 
     /// Gives an item, once the queue has room for it. The tries before that count nothing.
     pub fn give_waiting<R: Wait>(&self, rt: &R, giver: &mut Giver<T>, item: T)
+        requires line { giver.old.line ≡ self.now.table }
+        ensures given { giver.new ≡ gave giver.old (item ∷ []) }
+    {
+        self.give_quietly(rt, giver, item);
+        self.wake();
+    }
+
+    /// The same, of an item that can wait for a few milliseconds: a taker that sleeps isn't woken for it.
+    pub fn give_quietly<R: Wait>(&self, rt: &R, giver: &mut Giver<T>, item: T)
         requires line { giver.old.line ≡ self.now.table }
         ensures given { giver.new ≡ gave giver.old (item ∷ []) }
     {
