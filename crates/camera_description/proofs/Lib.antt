@@ -1,0 +1,4 @@
+pub mod Alone
+pub mod Hearing
+pub mod Pieces
+pub mod Whole
