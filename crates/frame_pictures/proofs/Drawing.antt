@@ -1,16 +1,17 @@
 -- The picture of a frame without padding.
-use Rattle.std.proofs.Common.{rules, ◌≡◌, ◌⊎◌, inl, inr, ℕ, zero, suc, ◌+◌, ◌*◌, ◌/◌, ◌<◌, ◌≤◌, List, [], ◌∷◌, ◌++◌, length, take, drop, true, false, refl, ap, sym, ◌∙◌, arith}
-use Rattle.std.specs.Prelude.{◌==◌, ◌||◌, Ok, Err}
-use Rattle.std.proofs.lemmas.Bool.{or_cases, eqb-true, cond-false, false_from_ne_true}
+use Rattle.std.proofs.Common.{◌≡◌, ◌⊎◌, inl, inr, ℕ, zero, suc, ◌+◌, ◌*◌, ◌/◌, ◌<◌, ◌≤◌, List, [], ◌∷◌, ◌++◌, length, take, drop, true, false, refl, ap, sym, ◌∙◌, arith}
+use Rattle.std.specs.Prelude.{◌==◌, ◌||◌, ◌%◌, Ok, Err, if◌then◌else◌}
+use Rattle.std.proofs.lemmas.Bool.{or_cases, eqb-true, eq-eqb, cond-true, cond-false, false_from_ne_true}
 use Rattle.std.proofs.lemmas.List.{take_all, length-drop}
 use Rattle.std.proofs.Math.Seq.{take-suc, take-add}
 use Rattle.gev_types.specs.declared.image_info.ImageInfo.{ImageInfo}
 use Rattle.gev_types.specs.FrameSize.{bits_per_pixel}
 use Rattle.block_image.specs.Infos.{frame_info}
 use Rattle.frame_pictures.specs.declared.samples.Samples.TheVariants.{Grey8}
-use Rattle.frame_pictures.specs.declared.no_picture.NoPicture.TheVariants.{NoPixels}
+use Rattle.frame_pictures.specs.declared.no_picture.NoPicture.TheVariants.{NoPixels, PartBytes}
 use Rattle.frame_pictures.specs.Pictures.{head_text, byte_at, row_text, row_step, rows_text, drawing, drawn_as}
-use Rattle.frame_pictures.specs.Laws.{PlainFramesAreTheirPixels, PixelsAreAsWideAsTheirFormat}
+use Rattle.frame_pictures.specs.Laws.{PlainFramesAreTheirPixels}
+use Rattle.frame_pictures.proofs.Widths.{wide_as_format}
 
 whole_bytes : (m : ℕ) → (m * 8 + 7) / 8 ≡ m
 whole_bytes m = omega arith
@@ -19,14 +20,14 @@ add-mul-one : (n w : ℕ) → suc n * w ≡ n * w + w
 add-mul-one n w = omega arith
 
 step_of : (info : ImageInfo) → info.padding_x ≡ 0 → row_step Grey8 info ≡ info.size_x
-step_of info tight = let one : info.size_x * 1 ≡ info.size_x = omega arith in omega (arith, one, tight)
+step_of info tight = let eighth : info.size_x * 8 / 8 ≡ info.size_x = omega arith in omega (arith, eighth, tight)
 
 -- a row of grey bytes is what lies there
 grey_row : (row : List ℕ) (n : ℕ) → n ≤ length row → row_text Grey8 row n ≡ take n row
 grey_row row zero fits = refl
 grey_row row (suc n) fits =
-    let same : n * 1 ≡ n = omega arith in
-    ap (λ t. t ++ byte_at row (n * 1) ∷ []) (grey_row row n (omega arith))
+    let same : n * 8 / 8 ≡ n = omega arith in
+    ap (λ t. t ++ byte_at row (n * 8 / 8) ∷ []) (grey_row row n (omega arith))
     ∙ ap (λ j. take n row ++ byte_at row j ∷ []) same
     ∙ sym (take-suc row n 0 (omega arith))
 
@@ -62,17 +63,17 @@ some_pixels width rows some = false_from_ne_true (width == 0 || rows == 0) (λ e
   go (inl e) = let none : rows * width ≡ rows * 0 = ap (λ m. rows * m) (eqb-true width 0 e) in omega (arith, none)
   go (inr e) = let none : rows * width ≡ 0 * width = ap (λ m. m * width) (eqb-true rows 0 e) in omega (arith, none)
 
-pub wide_as_format : PixelsAreAsWideAsTheirFormat
-wide_as_format pixel s e = search rules
-
 pub plain_frames_are_their_pixels : PlainFramesAreTheirPixels
 plain_frames_are_their_pixels frame valid tight_x tight_y format =
     let info : ImageInfo = frame_info frame frame.rows in
     let len : length frame.pixels ≡ frame.rows * frame.size_x = length_of frame.size_x frame.rows (bits_per_pixel frame.pixel) frame.padding_x frame.padding_y (length frame.pixels)
     (wide_as_format frame.pixel Grey8 format) tight_x tight_y valid.size in
     let some : (frame.size_x == 0 || frame.rows == 0) ≡ false = some_pixels frame.size_x frame.rows (omega (arith, len, valid.in_limits.0)) in
-    ap (λ o. drawn_as o info (take (length frame.pixels) frame.pixels)) format
-    ∙ cond-false (frame.size_x == 0 || frame.rows == 0) (Err NoPixels) (Ok (drawing Grey8 info (take (length frame.pixels) frame.pixels))) some
+    let image : List ℕ = take (length frame.pixels) frame.pixels in
+    let whole : frame.size_x * 8 % 8 ≡ 0 = omega arith in
+    ap (λ o. drawn_as o info image) format
+    ∙ cond-false (frame.size_x == 0 || frame.rows == 0) (Err NoPixels) (if frame.size_x * 8 % 8 == 0 then Ok (drawing Grey8 info image) else Err PartBytes) some
+    ∙ cond-true (frame.size_x * 8 % 8 == 0) (Ok (drawing Grey8 info image)) (Err PartBytes) (eq-eqb (frame.size_x * 8 % 8) 0 whole)
     ∙ ap (λ (image : List ℕ). Ok (drawing Grey8 info image)) (take_all (length frame.pixels) frame.pixels (omega arith))
     ∙ ap (λ (t : List ℕ). Ok (head_text Grey8 frame.size_x frame.rows ++ t))
     (grey_rows info frame.pixels frame.rows tight_x (omega (arith, len))

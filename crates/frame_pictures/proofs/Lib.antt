@@ -1,3 +1,5 @@
+pub mod Widths
 pub mod Drawing
+pub mod Bits
 pub mod PixelPlaces
 pub mod Truth

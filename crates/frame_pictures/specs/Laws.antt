@@ -1,5 +1,5 @@
 -- What a picture shows of what its buffer holds, and of its block's frame.
-use Rattle.std.specs.Prelude.{◌≡◌, ℕ, ◌*◌, ◌<◌, ◌≤◌, List, ◌++◌, length, take, true, false, Option, Some, Result, Ok}
+use Rattle.std.specs.Prelude.{◌≡◌, ℕ, ◌<◌, ◌≤◌, List, ◌++◌, length, take, true, false, Option, Some, Result, Ok}
 use Rattle.std.specs.List.{Contains}
 use Rattle.gev_types.specs.declared.frame.Frame.{Frame}
 use Rattle.gev_types.specs.declared.image_info.ImageInfo.{ImageInfo}
@@ -14,13 +14,13 @@ use Rattle.block_image.specs.OneBlock.{HoldsFrame, HasBytesInPlace}
 use Rattle.frame_pictures.specs.declared.no_picture.NoPicture.{NoPicture}
 use Rattle.frame_pictures.specs.declared.samples.Samples.{Samples}
 use Rattle.frame_pictures.specs.declared.samples.Samples.TheVariants.{Grey8}
-use Rattle.frame_pictures.specs.Formats.{samples_of, pixel_bytes}
+use Rattle.frame_pictures.specs.Formats.{samples_of, pixel_bits}
 use Rattle.frame_pictures.specs.Pictures.{head_text, byte_at, picture, picture_of}
 use Rattle.frame_pictures.specs.Pixels.{ShowsPixels}
 
--- a pixel that is drawn takes as many bytes as its format's code says
+-- a pixel that is drawn takes as many bits as its format's code says
 abbrev pub PixelsAreAsWideAsTheirFormat : Type 0
-PixelsAreAsWideAsTheirFormat = (pixel : ℕ) (s : Samples) → samples_of pixel ≡ Some s → bits_per_pixel pixel ≡ 8 * pixel_bytes s
+PixelsAreAsWideAsTheirFormat = (pixel : ℕ) (s : Samples) → samples_of pixel ≡ Some s → bits_per_pixel pixel ≡ pixel_bits s
 
 -- ---- pixels
 

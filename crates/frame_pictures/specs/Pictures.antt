@@ -1,29 +1,32 @@
 -- A picture as a text: a PNM file in its binary form, of grey pixels a PGM, of colour a PPM.
-use Rattle.std.specs.Prelude.{ℕ, zero, suc, ◌+◌, ◌*◌, ◌==◌, ◌||◌, min, List, [], ◌∷◌, ◌++◌, take, drop, slice_index, codes, Option, Some, None, Result, Ok, Err, if◌then◌else◌}
+use Rattle.std.specs.Prelude.{ℕ, zero, suc, ◌+◌, ◌-◌, ◌*◌, ◌/◌, ◌%◌, ◌^◌, ◌==◌, ◌||◌, min, List, [], ◌∷◌, ◌++◌, take, drop, slice_index, codes, Option, Some, None, Result, Ok, Err, if◌then◌else◌}
 use Rattle.std.specs.List.{concat}
 use Rattle.std.specs.Fmt.{decimal}
 use Rattle.byteorder.specs.Endian.{big_bytes}
 use Rattle.gev_types.specs.declared.image_info.ImageInfo.{ImageInfo}
 use Rattle.gev_types.specs.Filling.{Filling}
 use Rattle.frame_pictures.specs.declared.no_picture.NoPicture.{NoPicture}
-use Rattle.frame_pictures.specs.declared.no_picture.NoPicture.TheVariants.{NoLeader, PixelFormat, NoPixels}
+use Rattle.frame_pictures.specs.declared.no_picture.NoPicture.TheVariants.{NoLeader, PixelFormat, NoPixels, PartBytes}
 use Rattle.frame_pictures.specs.declared.samples.Samples.{Samples}
-use Rattle.frame_pictures.specs.declared.samples.Samples.TheVariants.{Grey8, Grey16, Rgb, Bgr}
-use Rattle.frame_pictures.specs.Formats.{samples_of, pixel_bytes}
+use Rattle.frame_pictures.specs.declared.samples.Samples.TheVariants.{Grey8, Grey16, Rgb, Bgr, Rgba, Bgra, Yuyv, Uyvy, Packed10, Packed12, Lsb10, Lsb12}
+use Rattle.frame_pictures.specs.Formats.{samples_of, pixel_bits, fills_bytes}
 
 -- ---- the head
 
 abbrev pub magic : Samples → List ℕ
-magic Grey8 = codes "P5"
-magic (Grey16 greatest) = codes "P5"
 magic Rgb = codes "P6"
 magic Bgr = codes "P6"
+magic Rgba = codes "P6"
+magic Bgra = codes "P6"
+magic _ = codes "P5"
 
 abbrev pub greatest_in : Samples → ℕ
-greatest_in Grey8 = 255
 greatest_in (Grey16 greatest) = greatest
-greatest_in Rgb = 255
-greatest_in Bgr = 255
+greatest_in Packed10 = 1023
+greatest_in Packed12 = 4095
+greatest_in Lsb10 = 1023
+greatest_in Lsb12 = 4095
+greatest_in _ = 255
 
 abbrev pub head_text : Samples → ℕ → ℕ → List ℕ
 head_text s width rows = concat (
@@ -37,22 +40,47 @@ head_text s width rows = concat (
 abbrev pub byte_at : List ℕ → ℕ → ℕ
 byte_at bytes j = slice_index bytes j
 
--- The pixel whose bytes begin at position j, as it's written. A value of 16 bits has its most significant byte first
--- there, and one above the greatest is written as the greatest.
+-- A value of which the eight high bits are a byte of their own, and `low` bits are part of a byte that two pixels share,
+-- by the two bytes in which it lies. The first pixel begins with a byte and has the lowest bits of the next; the second
+-- begins with bit 4 of that one.
+abbrev pub shared_value : ℕ → ℕ → ℕ → ℕ → ℕ
+shared_value low first second bit =
+    if bit == 0 then 2 ^ low * first + second % 2 ^ low else 2 ^ low * second + first / 2 ^ 4 % 2 ^ low
+
+-- A value of so many bits that begins with this bit of the first byte, low bits first, and goes on in the lowest ones of
+-- the second.
+abbrev pub running_value : ℕ → ℕ → ℕ → ℕ → ℕ
+running_value bits first second bit =
+    first / 2 ^ bit % 2 ^ (8 - bit) + 2 ^ (8 - bit) * (second % 2 ^ (bits + bit - 8))
+
+-- The pixel that begins with this bit of byte j, as it's written: a value of more than 8 bits has its most significant
+-- byte first there, and one above the greatest is written as the greatest. What isn't a colour or brightness is left out.
+abbrev pub text_at : Samples → List ℕ → ℕ → ℕ → List ℕ
+text_at Grey8 row j bit = byte_at row j ∷ []
+text_at (Grey16 greatest) row j bit = big_bytes 2 (min (byte_at row j + 256 * byte_at row (j + 1)) greatest)
+text_at Rgb row j bit = byte_at row j ∷ byte_at row (j + 1) ∷ byte_at row (j + 2) ∷ []
+text_at Bgr row j bit = byte_at row (j + 2) ∷ byte_at row (j + 1) ∷ byte_at row j ∷ []
+text_at Rgba row j bit = byte_at row j ∷ byte_at row (j + 1) ∷ byte_at row (j + 2) ∷ []
+text_at Bgra row j bit = byte_at row (j + 2) ∷ byte_at row (j + 1) ∷ byte_at row j ∷ []
+text_at Yuyv row j bit = byte_at row j ∷ []
+text_at Uyvy row j bit = byte_at row (j + 1) ∷ []
+text_at Packed10 row j bit = big_bytes 2 (shared_value 2 (byte_at row j) (byte_at row (j + 1)) bit)
+text_at Packed12 row j bit = big_bytes 2 (shared_value 4 (byte_at row j) (byte_at row (j + 1)) bit)
+text_at Lsb10 row j bit = big_bytes 2 (running_value 10 (byte_at row j) (byte_at row (j + 1)) bit)
+text_at Lsb12 row j bit = big_bytes 2 (running_value 12 (byte_at row j) (byte_at row (j + 1)) bit)
+
+-- pixel x of the row that begins with these bytes
 abbrev pub pixel_text : Samples → List ℕ → ℕ → List ℕ
-pixel_text Grey8 row j = byte_at row j ∷ []
-pixel_text (Grey16 greatest) row j = big_bytes 2 (min (byte_at row j + 256 * byte_at row (j + 1)) greatest)
-pixel_text Rgb row j = byte_at row j ∷ byte_at row (j + 1) ∷ byte_at row (j + 2) ∷ []
-pixel_text Bgr row j = byte_at row (j + 2) ∷ byte_at row (j + 1) ∷ byte_at row j ∷ []
+pixel_text s row x = text_at s row (x * pixel_bits s / 8) (x * pixel_bits s % 8)
 
 -- the first n pixels of the row that begins with these bytes
 abbrev pub row_text : Samples → List ℕ → ℕ → List ℕ
 row_text s row zero = []
-row_text s row (suc n) = row_text s row n ++ pixel_text s row (n * pixel_bytes s)
+row_text s row (suc n) = row_text s row n ++ pixel_text s row n
 
 -- how many bytes lie between the begin of one row and that of the next
 abbrev pub row_step : Samples → ImageInfo → ℕ
-row_step s info = info.size_x * pixel_bytes s + info.padding_x
+row_step s info = info.size_x * pixel_bits s / 8 + info.padding_x
 
 -- the first n rows, from the top
 abbrev pub rows_text : Samples → ImageInfo → List ℕ → ℕ → List ℕ
@@ -66,7 +94,10 @@ drawing s info image = head_text s info.size_x info.rows ++ rows_text s info ima
 
 abbrev pub drawn_as : Option Samples → ImageInfo → List ℕ → Result (List ℕ) NoPicture
 drawn_as None info image = Err (PixelFormat info.pixel)
-drawn_as (Some s) info image = if info.size_x == 0 || info.rows == 0 then Err NoPixels else Ok (drawing s info image)
+drawn_as (Some s) info image =
+    if info.size_x == 0 || info.rows == 0 then Err NoPixels
+    else if fills_bytes s info.size_x then Ok (drawing s info image)
+    else Err PartBytes
 
 -- the picture of an image of these bytes, or why there is none
 abbrev pub drawn : Option ImageInfo → List ℕ → Result (List ℕ) NoPicture

@@ -3,7 +3,7 @@ use Rattle.std.specs.Prelude.{◌≡◌, ℕ, List, [], ◌∷◌, ◌++◌, cod
 use Rattle.gev_types.specs.declared.image_info.ImageInfo.{ImageInfo}
 use Rattle.stream_packets.specs.declared.fields.LeaderInfo.{LeaderInfo}
 use Rattle.block_image.specs.Infos.{info_of}
-use Rattle.frame_pictures.specs.declared.no_picture.NoPicture.TheVariants.{NoLeader, PixelFormat, NoPixels}
+use Rattle.frame_pictures.specs.declared.no_picture.NoPicture.TheVariants.{NoLeader, PixelFormat, NoPixels, PartBytes}
 use Rattle.frame_pictures.specs.Pictures.{picture}
 
 -- an image of so many columns and rows, and with so many bytes behind each row, all of whose announced lines are there
@@ -42,6 +42,14 @@ four_values = 0xff ∷ 0x0f ∷ 0x01 ∷ 0x10 ∷ 0x00 ∷ 0x34 ∷ 0x12 ∷ 0x0
 abbrev pub nine : List ℕ
 nine = 1 ∷ 2 ∷ 3 ∷ 4 ∷ 5 ∷ 6 ∷ 7 ∷ 8 ∷ 9 ∷ []
 
+-- three bytes of two values that share one of them
+abbrev pub three : List ℕ
+three = 0xab ∷ 0xcd ∷ 0xef ∷ []
+
+-- five bytes of four values of ten bits
+abbrev pub five : List ℕ
+five = 0x12 ∷ 0x34 ∷ 0x56 ∷ 0x78 ∷ 0x9a ∷ []
+
 pub record PicturesAreWorked : Type 0 where
   -- three pixels of Mono8 in one row
   pub grey : picture (info_with 0x01080001 3 0 1) 3 (97 ∷ 98 ∷ 99 ∷ []) ≡ Ok (codes "P5\n3 1\n255\nabc")
@@ -66,8 +74,28 @@ pub record PicturesAreWorked : Type 0 where
   -- values of 10 bits of a Bayer pattern, and of Mono14
   pub ten : picture (info_with 0x0110000f 1 0 1) 2 (0 ∷ 4 ∷ []) ≡ Ok (codes "P5\n1 1\n1023\n" ++ 3 ∷ 255 ∷ [])
   pub fourteen : picture (info_with 0x01100025 1 0 1) 2 (255 ∷ 255 ∷ []) ≡ Ok (codes "P5\n1 1\n16383\n" ++ 63 ∷ 255 ∷ [])
+  -- bytes that aren't drawn: alpha, and the colour differences
+  pub alpha_last : picture (info_with 0x02200016 2 0 1) 8 nine ≡ Ok (codes "P6\n2 1\n255\n" ++ 1 ∷ 2 ∷ 3 ∷ 5 ∷ 6 ∷ 7 ∷ [])
+  pub blue_and_alpha : picture (info_with 0x02200017 2 0 1) 8 nine ≡ Ok (codes "P6\n2 1\n255\n" ++ 3 ∷ 2 ∷ 1 ∷ 7 ∷ 6 ∷ 5 ∷ [])
+  pub brightness_first : picture (info_with 0x0210003b 2 1 2) 9 nine ≡ Ok (codes "P5\n2 2\n255\n" ++ 1 ∷ 3 ∷ 6 ∷ 8 ∷ [])
+  pub brightness_second : picture (info_with 0x0210001f 2 1 2) 9 nine ≡ Ok (codes "P5\n2 2\n255\n" ++ 2 ∷ 4 ∷ 7 ∷ 9 ∷ [])
+  -- two values in three bytes: 0xab and the low half of 0xcd, then 0xef and the other; of ten bits only two of each half
+  pub twelve_shared : picture (info_with 0x010c0006 2 0 1) 3 three ≡ Ok (codes "P5\n2 1\n4095\n" ++ 0x0a ∷ 0xbd ∷ 0x0e ∷ 0xfc ∷ [])
+  pub ten_shared : picture (info_with 0x010c0029 2 0 1) 3 three ≡ Ok (codes "P5\n2 1\n1023\n" ++ 0x02 ∷ 0xad ∷ 0x03 ∷ 0xbc ∷ [])
+  -- the bits of the values one behind the other, of which none came behind the second byte
+  pub twelve_running : picture (info_with 0x010c0047 2 0 1) 3 three ≡ Ok (codes "P5\n2 1\n4095\n" ++ 0x0d ∷ 0xab ∷ 0x0e ∷ 0xfc ∷ [])
+  pub ten_running :
+      picture (info_with 0x010a0058 4 0 1) 5 five
+      ≡ Ok (codes "P5\n4 1\n1023\n" ++ 0x00 ∷ 0x12 ∷ 0x01 ∷ 0x8d ∷ 0x03 ∷ 0x85 ∷ 0x02 ∷ 0x69 ∷ [])
+  pub ten_cut :
+      picture (info_with 0x010a0046 4 0 1) 2 five
+      ≡ Ok (codes "P5\n4 1\n1023\n" ++ 0x00 ∷ 0x12 ∷ 0x00 ∷ 0x0d ∷ 0x00 ∷ 0x00 ∷ 0x00 ∷ 0x00 ∷ [])
   -- why there is none: a format that isn't drawn goes before a picture without pixels
   pub without_leader : picture None 3 nine ≡ Err NoLeader
-  pub packed : picture (info_with 0x010c0006 0 0 1) 3 nine ≡ Err (PixelFormat 0x010c0006)
+  pub not_drawn : picture (info_with 0x020c001e 0 0 1) 3 nine ≡ Err (PixelFormat 0x020c001e)
   pub no_column : picture (info_with 0x01080001 0 5 1) 5 nine ≡ Err NoPixels
   pub no_row : picture (info_with 0x02180014 3 0 0) 4 nine ≡ Err NoPixels
+  -- and a picture without pixels before rows that end within a byte
+  pub part_bytes : picture (info_with 0x010c0006 3 0 1) 5 nine ≡ Err PartBytes
+  pub quarters : picture (info_with 0x010a0046 2 0 1) 3 nine ≡ Err PartBytes
+  pub no_part : picture (info_with 0x010a0046 1 0 0) 3 nine ≡ Err NoPixels

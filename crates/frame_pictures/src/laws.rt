@@ -3,7 +3,7 @@
 ghost use Rattle.frame_pictures.specs.Laws.{PixelsAreAsWideAsTheirFormat, PlainFramesAreTheirPixels, PicturesAreTheirPixels, HeldFramesAreShown, BytesInPlaceAreShown};
 ghost use Rattle.frame_pictures.specs.Worked.{PicturesAreWorked};
 
-/// A pixel that is drawn takes as many bytes as its format's code says.
+/// A pixel that is drawn takes as many bits as its format's code says.
 pub fn pixels_are_as_wide_as_their_format()
     ensures { PixelsAreAsWideAsTheirFormat }
 {}

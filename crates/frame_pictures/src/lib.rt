@@ -10,6 +10,6 @@ pub mod laws; // laws of the definitions, as contracts
 mod no_picture; // why there is none
 mod samples; // how a pixel is read
 
-pub use formats::{pixel_bytes, samples_of};
+pub use formats::{fills_bytes, pixel_bits, samples_of};
 pub use no_picture::NoPicture;
 pub use samples::Samples;

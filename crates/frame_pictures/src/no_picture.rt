@@ -11,4 +11,6 @@ pub enum NoPicture {
     PixelFormat(u32),
     /// The picture has no row, or rows without a pixel.
     NoPixels,
+    /// The pixels of a row don't fill whole bytes.
+    PartBytes,
 }
