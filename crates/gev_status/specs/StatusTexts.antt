@@ -39,6 +39,7 @@ picture_cause (picture.NoneOf count) = codes "none of " ++ (decimal count ++ cod
 picture_cause picture.NoLeader = codes "no leader"
 picture_cause (picture.PixelFormat code) = codes "pixel format 0x" ++ hex_text 8 code
 picture_cause picture.NoPixels = codes "no pixels"
+picture_cause picture.PartBytes = codes "rows of part bytes"
 
 abbrev pub status_text : Status → List ℕ
 status_text status.Done = codes "done"

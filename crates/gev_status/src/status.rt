@@ -182,6 +182,7 @@ impl fmt::Display for PictureCause {
             NoPicture::NoLeader => write!(f, "no leader"),
             NoPicture::PixelFormat(code) => write!(f, "pixel format 0x{code:08x}"),
             NoPicture::NoPixels => write!(f, "no pixels"),
+            NoPicture::PartBytes => write!(f, "rows of part bytes"),
         }
     }
 }

@@ -5,7 +5,6 @@ use Rattle.std.proofs.lemmas.List.{drop-drop}
 use Rattle.gev_links.specs.Told.{Appends, WritesFront}
 use Rattle.gev_types.specs.declared.image_info.ImageInfo.{ImageInfo}
 use Rattle.frame_pictures.specs.declared.samples.Samples.{Samples}
-use Rattle.frame_pictures.specs.Formats.{pixel_bytes}
 use Rattle.frame_pictures.specs.Pictures.{pixel_text, row_text, row_step, rows_text}
 use Rattle.picture_report.specs.Writing.{HoldsBack}
 
@@ -75,11 +74,11 @@ row_more s row n (suc k) =
     let same : n + suc k ≡ suc (n + k) = omega arith in
     let b = row_more s row n k in
     record {
-      rest = b.rest ++ pixel_text s row ((n + k) * pixel_bytes s);
+      rest = b.rest ++ pixel_text s row (n + k);
       is =
           ap (row_text s row) same
-          ∙ ap (λ (t : List ℕ). t ++ pixel_text s row ((n + k) * pixel_bytes s)) b.is
-          ∙ append_assoc (row_text s row n) b.rest (pixel_text s row ((n + k) * pixel_bytes s));
+          ∙ ap (λ (t : List ℕ). t ++ pixel_text s row (n + k)) b.is
+          ∙ append_assoc (row_text s row n) b.rest (pixel_text s row (n + k));
     }
 
 pub row_begins : (s : Samples) (row : List ℕ) (n m : ℕ) → n ≤ m → Begins (row_text s row n) (row_text s row m)
@@ -119,17 +118,15 @@ row_front w x y s row before held n m few h f =
     ∙ ap (λ (t : List ℕ). t ++ b.rest) (sym (append-nil (before ++ row_text s row n))))
 
 -- one pixel more
-pub row_more_held : (w x y : Option (List ℕ)) (s : Samples) (row before held held_now held_after : List ℕ) (n j : ℕ) → j ≡ n * pixel_bytes s
-    → HoldsBack w x (before ++ row_text s row n) held → HoldsBack x y held held_now → held_after ≡ held_now ++ pixel_text s row j
+pub row_more_held : (w x y : Option (List ℕ)) (s : Samples) (row before held held_now held_after : List ℕ) (n : ℕ)
+    → HoldsBack w x (before ++ row_text s row n) held → HoldsBack x y held held_now → held_after ≡ held_now ++ pixel_text s row n
     → HoldsBack w y (before ++ row_text s row (n + 1)) held_after
-row_more_held w x y s row before held held_now held_after n j at h less is =
+row_more_held w x y s row before held held_now held_after n h less is =
     let same : n + 1 ≡ suc n = omega arith in
-    let more = held_more w y (before ++ row_text s row n) held_now (pixel_text s row j) (held_less w x y (before ++ row_text s row n) held held_now h less) in
+    let more = held_more w y (before ++ row_text s row n) held_now (pixel_text s row n) (held_less w x y (before ++ row_text s row n) held held_now h less) in
     subst (λ (t : List ℕ). HoldsBack w y t held_after)
-    (append_assoc before (row_text s row n) (pixel_text s row j)
-    ∙ ap (λ i. before ++ (row_text s row n ++ pixel_text s row i)) at
-    ∙ ap (λ i. before ++ row_text s row i) (sym same))
-    (subst (λ (t : List ℕ). HoldsBack w y ((before ++ row_text s row n) ++ pixel_text s row j) t) (sym is) more)
+    (append_assoc before (row_text s row n) (pixel_text s row n) ∙ ap (λ i. before ++ row_text s row i) (sym same))
+    (subst (λ (t : List ℕ). HoldsBack w y ((before ++ row_text s row n) ++ pixel_text s row n) t) (sym is) more)
 
 -- writing failed in a row
 pub rows_front : (w x y : Option (List ℕ)) (s : Samples) (info : ImageInfo) (image row before held : List ℕ) (n m : ℕ) → n + 1 ≤ m

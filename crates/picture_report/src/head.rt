@@ -18,6 +18,14 @@ fn magic(samples: Samples) -> &'static [u8]
         Samples::Grey16(_) => b"P5",
         Samples::Rgb => b"P6",
         Samples::Bgr => b"P6",
+        Samples::Rgba => b"P6",
+        Samples::Bgra => b"P6",
+        Samples::Yuyv => b"P5",
+        Samples::Uyvy => b"P5",
+        Samples::Packed10 => b"P5",
+        Samples::Packed12 => b"P5",
+        Samples::Lsb10 => b"P5",
+        Samples::Lsb12 => b"P5",
     }
 }
 
@@ -30,6 +38,14 @@ fn greatest_in(samples: Samples) -> u16
         Samples::Grey16(greatest) => greatest,
         Samples::Rgb => 255,
         Samples::Bgr => 255,
+        Samples::Rgba => 255,
+        Samples::Bgra => 255,
+        Samples::Yuyv => 255,
+        Samples::Uyvy => 255,
+        Samples::Packed10 => 1023,
+        Samples::Packed12 => 4095,
+        Samples::Lsb10 => 1023,
+        Samples::Lsb12 => 4095,
     }
 }
 

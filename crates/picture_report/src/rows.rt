@@ -8,7 +8,7 @@ ghost use Rattle.frame_pictures.specs.Pictures.{row_step, row_text, rows_text};
 ghost use Rattle.picture_report.specs.Writing.{HoldsBack};
 
 use crate::pixels::add_pixel;
-use frame_pictures::{Samples, pixel_bytes};
+use frame_pictures::{Samples, pixel_bits};
 use gev_links::{Failed, Sink, write_all};
 use gev_types::ImageInfo;
 
@@ -48,10 +48,9 @@ fn write_row<K: Sink>(
     ensures front { OnErr result (WritesFront (K.written sink.old) (K.written sink.new) (piece.old.items ++ row_text samples row.now width)) }
     ensures failed { OnErr result (Rose (K.faults sink.old) (K.faults sink.new)) }
 {
-    let size = usize::from(pixel_bytes(samples));
     for x in 0..width {
         make_room(piece, sink)?;
-        add_pixel(samples, row, x as usize * size, piece);
+        add_pixel(samples, row, x, piece);
     }
     Ok(())
 }
@@ -71,7 +70,7 @@ fn behind(bytes: &[u8], count: usize) -> &[u8]
 fn row_step(samples: Samples, info: ImageInfo) -> usize
     ensures { result ≡ row_step samples info }
 {
-    info.size_x as usize * usize::from(pixel_bytes(samples)) + usize::from(info.padding_x)
+    info.size_x as usize * usize::from(pixel_bits(samples)) / 8 + usize::from(info.padding_x)
 }
 
 /// Adds the rows of an image of these bytes, from the top, and writes the piece as often as it's full.

@@ -1,4 +1,4 @@
-ghost use Rattle.std.specs.Prelude.{◌≡◌, ◌≤◌, ◌++◌, [], IfOk, OnOk, OnErr};
+ghost use Rattle.std.specs.Prelude.{◌≡◌, ◌≤◌, ◌++◌, [], take, IfOk, OnOk, OnErr};
 ghost use Rattle.std.specs.Vec.{vec_capacity};
 ghost use Rattle.gev_links.specs.Faults.{Rose};
 ghost use Rattle.gev_links.specs.Told.{Appends, WritesFront};
@@ -8,7 +8,7 @@ ghost use Rattle.picture_report.specs.Writing.{DrawsBy};
 use crate::head::add_head;
 use crate::rows::{PIECE, write_rows};
 use crate::stop::PictureStop;
-use frame_pictures::{NoPicture, Samples, samples_of};
+use frame_pictures::{NoPicture, Samples, fills_bytes, samples_of};
 use gev_links::{Failed, Sink, write_all};
 use gev_types::{ImageInfo, NoMemory};
 use std::alloc::Global;
@@ -42,6 +42,17 @@ fn write_drawing<K: Sink>(
     write_all(sink, piece.as_slice())
 }
 
+/// The first `count` bytes; all, where there are no more.
+fn front_of(bytes: &[u8], count: u32) -> &[u8]
+    ensures { result.now ≡ take count bytes.now }
+{
+    if (count as usize) < bytes.len() {
+        &bytes[..count as usize]
+    } else {
+        bytes
+    }
+}
+
 /// Writes the picture in a buffer with these bytes, of whose image the record tells this, and of which the first
 /// `data_len` are the image's; what lies behind them counts as 0. It's a PNM file in its binary form.
 ///
@@ -68,12 +79,14 @@ pub fn write_picture<K: Sink>(
     if info.size_x == 0 || info.rows == 0 {
         return Err(PictureStop::NoPicture(NoPicture::NoPixels));
     }
+    if !fills_bytes(samples, info.size_x) {
+        return Err(PictureStop::NoPicture(NoPicture::PartBytes));
+    }
     let mut piece = match begin(alloc, samples, info) {
         Ok(piece) => piece,
         Err(NoMemory) => return Err(PictureStop::NoMemory),
     };
-    let image = &bytes[..bytes.len().min(data_len as usize)];
-    match write_drawing(samples, info, image, &mut piece, sink) {
+    match write_drawing(samples, info, front_of(bytes, data_len), &mut piece, sink) {
         Ok(()) => Ok(()),
         Err(Failed) => Err(PictureStop::WriteFault),
     }

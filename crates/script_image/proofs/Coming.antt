@@ -11,10 +11,10 @@ use Rattle.gev_types.specs.Filling.{Filling}
 use Rattle.board_machine.specs.Machine.{Item, item}
 use Rattle.board_model.specs.Plain.{content_at, filling_of}
 use Rattle.frame_pictures.specs.declared.no_picture.NoPicture.{NoPicture}
-use Rattle.frame_pictures.specs.declared.no_picture.NoPicture.TheVariants.{Taken, NoneOf, NoLeader, PixelFormat, NoPixels}
+use Rattle.frame_pictures.specs.declared.no_picture.NoPicture.TheVariants.{Taken, NoneOf, NoLeader, PixelFormat, NoPixels, PartBytes}
 use Rattle.frame_pictures.specs.declared.samples.Samples.{Samples}
-use Rattle.frame_pictures.specs.declared.samples.Samples.TheVariants.{Grey8, Grey16, Rgb, Bgr}
-use Rattle.frame_pictures.specs.Formats.{samples_of}
+use Rattle.frame_pictures.specs.declared.samples.Samples.TheVariants.{Grey8, Grey16, Rgb, Bgr, Rgba, Bgra, Yuyv, Uyvy, Packed10, Packed12, Lsb10, Lsb12}
+use Rattle.frame_pictures.specs.Formats.{samples_of, fills_bytes}
 use Rattle.frame_pictures.specs.Pictures.{drawing, drawn_as, picture, picture_of}
 use Rattle.gev_script.specs.declared.kind.ScriptKind.{ScriptKind}
 use Rattle.gev_script.specs.Grammar.{line_of}
@@ -80,14 +80,23 @@ drawing_some Grey8 info image = refl
 drawing_some (Grey16 greatest) info image = refl
 drawing_some Rgb info image = refl
 drawing_some Bgr info image = refl
+drawing_some Rgba info image = refl
+drawing_some Bgra info image = refl
+drawing_some Yuyv info image = refl
+drawing_some Uyvy info image = refl
+drawing_some Packed10 info image = refl
+drawing_some Packed12 info image = refl
+drawing_some Lsb10 info image = refl
+drawing_some Lsb12 info image = refl
 
 drawn_some : (s : Option Samples) (info : ImageInfo) (image text : List ℕ) → drawn_as s info image ≡ Ok text → has_text text ≡ true
 drawn_some None info image text e = cc
-drawn_some (Some s) info image text e = go (info.size_x == 0 || info.rows == 0) e
+drawn_some (Some s) info image text e = go (info.size_x == 0 || info.rows == 0) (fills_bytes s info.size_x) e
   where
-    go : (b : Bool) → (if b then Err NoPixels else Ok (drawing s info image)) ≡ Ok text → has_text text ≡ true
-    go true h = cc
-    go false h = let same : drawing s info image ≡ text = cc in ap has_text (sym same) ∙ drawing_some s info image
+    go : (b c : Bool) → (if b then Err NoPixels else if c then Ok (drawing s info image) else Err PartBytes) ≡ Ok text → has_text text ≡ true
+    go true c h = cc
+    go false false h = cc
+    go false true h = let same : drawing s info image ≡ text = cc in ap has_text (sym same) ∙ drawing_some s info image
 
 picture_some : (told : Option ImageInfo) (data_len : ℕ) (bytes text : List ℕ) → picture told data_len bytes ≡ Ok text → has_text text ≡ true
 picture_some None data_len bytes text e = cc
@@ -96,11 +105,12 @@ picture_some (Some info) data_len bytes text e = drawn_some (samples_of info.pix
 -- a picture isn't lacking for a count of buffers
 drawn_never : (s : Option Samples) (info : ImageInfo) (image : List ℕ) (count : ℕ) → drawn_as s info image ≡ Err (Taken count) → ⊥
 drawn_never None info image count e = cc
-drawn_never (Some s) info image count e = go (info.size_x == 0 || info.rows == 0) e
+drawn_never (Some s) info image count e = go (info.size_x == 0 || info.rows == 0) (fills_bytes s info.size_x) e
   where
-    go : (b : Bool) → (if b then Err NoPixels else Ok (drawing s info image)) ≡ Err (Taken count) → ⊥
-    go true h = cc
-    go false h = cc
+    go : (b c : Bool) → (if b then Err NoPixels else if c then Ok (drawing s info image) else Err PartBytes) ≡ Err (Taken count) → ⊥
+    go true c h = cc
+    go false true h = cc
+    go false false h = cc
 
 never_taken : (told : Option ImageInfo) (data_len : ℕ) (bytes : List ℕ) (count : ℕ) → picture told data_len bytes ≡ Err (Taken count) → ⊥
 never_taken None data_len bytes count e = cc
@@ -108,11 +118,12 @@ never_taken (Some info) data_len bytes count e = drawn_never (samples_of info.pi
 
 drawn_not_of : (s : Option Samples) (info : ImageInfo) (image : List ℕ) (count : ℕ) → drawn_as s info image ≡ Err (NoneOf count) → ⊥
 drawn_not_of None info image count e = cc
-drawn_not_of (Some s) info image count e = go (info.size_x == 0 || info.rows == 0) e
+drawn_not_of (Some s) info image count e = go (info.size_x == 0 || info.rows == 0) (fills_bytes s info.size_x) e
   where
-    go : (b : Bool) → (if b then Err NoPixels else Ok (drawing s info image)) ≡ Err (NoneOf count) → ⊥
-    go true h = cc
-    go false h = cc
+    go : (b c : Bool) → (if b then Err NoPixels else if c then Ok (drawing s info image) else Err PartBytes) ≡ Err (NoneOf count) → ⊥
+    go true c h = cc
+    go false true h = cc
+    go false false h = cc
 
 never_of : (told : Option ImageInfo) (data_len : ℕ) (bytes : List ℕ) (count : ℕ) → picture told data_len bytes ≡ Err (NoneOf count) → ⊥
 never_of None data_len bytes count e = cc
@@ -267,6 +278,7 @@ module _ (line : List ℕ) (n : ℕ) (shown : List ℕ) (s : Taking) (script : O
     drawn_so (ends.NoPicture NoLeader) left reads reads_after written written_after writes writes_after drawn = (wanted_so (λ p. p ≡ Err NoLeader) drawn.0, drawn.1)
     drawn_so (ends.NoPicture (PixelFormat pixel)) left reads reads_after written written_after writes writes_after drawn = (wanted_so (λ p. p ≡ Err (PixelFormat pixel)) drawn.0, drawn.1)
     drawn_so (ends.NoPicture NoPixels) left reads reads_after written written_after writes writes_after drawn = (wanted_so (λ p. p ≡ Err NoPixels) drawn.0, drawn.1)
+    drawn_so (ends.NoPicture PartBytes) left reads reads_after written written_after writes writes_after drawn = (wanted_so (λ p. p ≡ Err PartBytes) drawn.0, drawn.1)
     drawn_so (ends.BadLine number kind) left reads reads_after written written_after writes writes_after drawn = absurd drawn
     drawn_so ends.ReadFault left reads reads_after written written_after writes writes_after drawn = absurd drawn
     drawn_so ends.WriteFault left reads reads_after written written_after writes writes_after drawn = (drawn.1, wanted_so (λ p. DrawsFront p written written_after) drawn.0)

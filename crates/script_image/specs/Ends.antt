@@ -8,7 +8,7 @@ use Rattle.gev_script.specs.Streams.{IsOpen, IsLine}
 use Rattle.board_machine.specs.Machine.{item}
 use Rattle.acquisition_machine.specs.declared.config.AcqConfig.{AcqConfig}
 use Rattle.frame_pictures.specs.declared.no_picture.NoPicture.{NoPicture}
-use Rattle.frame_pictures.specs.declared.no_picture.NoPicture.TheVariants.{Taken, NoneOf, NoLeader, PixelFormat, NoPixels}
+use Rattle.frame_pictures.specs.declared.no_picture.NoPicture.TheVariants.{Taken, NoneOf, NoLeader, PixelFormat, NoPixels, PartBytes}
 use Rattle.frame_pictures.specs.Pictures.{picture_of}
 use Rattle.picture_report.specs.Writing.{Draws, DrawsFront}
 use Rattle.script_runs.specs.declared.ran.Ran.TheVariants.{GoesOn, Ended}
@@ -61,6 +61,7 @@ HasNone wanted now n rest (NoneOf count) = ⊥
 HasNone wanted now n rest NoLeader = TakesWanted wanted now n rest (λ shown. shown ≡ Err NoLeader)
 HasNone wanted now n rest (PixelFormat pixel) = TakesWanted wanted now n rest (λ shown. shown ≡ Err (PixelFormat pixel))
 HasNone wanted now n rest NoPixels = TakesWanted wanted now n rest (λ shown. shown ≡ Err NoPixels)
+HasNone wanted now n rest PartBytes = TakesWanted wanted now n rest (λ shown. shown ≡ Err PartBytes)
 
 -- ---- one picture
 
@@ -92,6 +93,7 @@ ShowsNone (NoneOf count) taken = (count ≡ min taken 4294967295) × (1 ≤ take
 ShowsNone NoLeader taken = ⊥
 ShowsNone (PixelFormat pixel) taken = ⊥
 ShowsNone NoPixels taken = ⊥
+ShowsNone PartBytes taken = ⊥
 
 -- Behind these pictures a front of this one was written.
 pub record ShowsPart (written written_after : Option (List ℕ)) (shown picture : List ℕ) : Type 0 where
