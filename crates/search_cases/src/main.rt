@@ -1,0 +1,46 @@
+//! The rows of the commands that look for cameras: addresses, URLs, what a camera tells of itself, and whole commands
+//! over ports in memory.
+//!
+//! A row is a word and what it's given. Of `discover` and `describe` these are six fields: the moments of the clock; the
+//! numbers of the binds that fail, of the receives, of the sends and of the writes, each counted from 1; and what the
+//! link hears. A field that is `.` is empty.
+#![tactic(auto)]
+
+mod datagrams; // what a link hears
+mod ports; // ports in memory
+mod running; // whole commands
+mod telling; // addresses, URLs, acknowledges
+
+use anyhow::Result;
+use std::sync::Wait;
+
+fn main(rt: HostRuntime) -> Result<()> {
+    for line in rt.lines(rt.alloc()) {
+        let line = line?;
+        let row = line.as_str();
+        print!(rt; "{row}")?;
+        if !row.is_empty() && !row.starts_with('#') {
+            print!(rt; " = ")?;
+            answer(&rt, &rt, row)?;
+        }
+        println!(rt)?;
+    }
+    Ok(())
+}
+
+/// Prints the answer of a row.
+fn answer<R: Wait>(rt: &HostRuntime, handles: &R, row: &str) -> Result<()> {
+    let (word, rest) = row.split_once(' ').unwrap_or((row, ""));
+    match word {
+        "address" => telling::address(rt, rest),
+        "words" => telling::words(rt, rest),
+        "url" => telling::url(rt, rest),
+        "acknowledge" => telling::acknowledge(rt, rest),
+        "discover" => running::discover_row(rt, handles, rest),
+        "describe" => running::describe_row(rt, handles, rest),
+        _ => {
+            print!(rt; "not understood")?;
+            Ok(())
+        }
+    }
+}
