@@ -25,6 +25,8 @@ pub struct Client {
     body: [u8; MAX_BODY_SIZE],
     body_len: usize,
     limit: u64,
+    // How many heartbeats told 0. No clause speaks of it.
+    gone: u64,
 }
 
 impl Model for Client {
@@ -73,6 +75,7 @@ impl Client {
             body: [0; MAX_BODY_SIZE],
             body_len: 0,
             limit,
+            gone: 0,
         }
     }
 
@@ -193,6 +196,7 @@ impl Client {
         self.body_len = len;
         self.asked = None;
         self.ended = Some(moment);
+        self.gone = self.gone.saturating_add(u64::from(steps::tells_zero(ack)));
         steps::ack_outcome(ack.status)
     }
 
@@ -217,6 +221,12 @@ impl Client {
             self.asked = Some(steps::longer(asked, time));
         }
         Outcome::Waiting(asked.req)
+    }
+
+    /// How many reads of one register told 0. In a run that reads no register but CCP, as its heartbeats do, these
+    /// found that the camera had given control away.
+    pub fn gone(&self) -> u64 {
+        self.gone
     }
 
     /// The body of the last acknowledge that ended a command; empty before the first.

@@ -9,7 +9,9 @@ ghost use Rattle.control_client.specs.Seen.{IsSending};
 use crate::sending::Sending;
 use client_machine::Outcome;
 use client_machine::numbers::HEARTBEAT_TIME;
-use gvcp_wire::codes::{MAX_BODY_SIZE, READMEM_CMD, READREG_CMD, WRITEMEM_CMD, WRITEREG_CMD};
+use gvcp_wire::codes::{
+    MAX_BODY_SIZE, READMEM_CMD, READREG_ACK, READREG_CMD, WRITEMEM_CMD, WRITEREG_CMD,
+};
 use gvcp_wire::{Ack, Command, Status};
 
 // 2^64 milliseconds, a moment that never comes.
@@ -25,6 +27,11 @@ pub(crate) fn code_of(command: &Command<'_>) -> u16
         Command::WriteMem { .. } => WRITEMEM_CMD,
         Command::Other { code, .. } => code,
     }
+}
+
+// Whether the answer to a read of one register tells 0.
+pub(crate) fn tells_zero(ack: &Ack<'_>) -> bool {
+    ack.code == READREG_ACK && ack.status == 0 && ack.body == [0; 4].as_slice()
 }
 
 // The request number after this one.

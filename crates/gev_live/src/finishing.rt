@@ -4,6 +4,7 @@ ghost use Rattle.std.specs.Prelude.{◌≡◌, ◌++◌, true};
 ghost use Rattle.gev_report.specs.LiveLine.{live_line};
 ghost use Rattle.gev_live.specs.Endings.{taken_of, read_status, application_status, camera_status, status_by, is_told, IsAnswer, EndsSo};
 
+use crate::counting::{Tally, tell_counts};
 use gev_control::AcqEnd;
 use gev_links::{Sink, write_all};
 use gev_report::line_live;
@@ -149,8 +150,8 @@ fn write_lines<K: Sink>(
     }
 }
 
-/// Writes the lines and the last one, where the workers' answer wants that.
-pub fn finish<K: Sink>(
+// Writes the lines and the last one, where the workers' answer wants that.
+fn write_told<K: Sink>(
     alloc: Global,
     sink: &mut K,
     first: Status,
@@ -166,4 +167,21 @@ pub fn finish<K: Sink>(
     } else {
         first
     }
+}
+
+/// Tells what was counted, and writes the lines and the last one, where the workers' answer wants that.
+pub fn finish<K: Sink>(
+    alloc: Global,
+    sink: &mut K,
+    first: Status,
+    lines: Vec<u8>,
+    frames: u32,
+    taken: u32,
+    tally: Tally,
+) -> Status
+    requires an_answer { IsAnswer first }
+    ensures ends { EndsSo first result (lines.items ++ live_line frames taken) (K.written sink.old) (K.written sink.new) (K.faults sink.old) (K.faults sink.new) }
+{
+    tell_counts(alloc, sink, tally, &lines, frames, taken);
+    write_told(alloc, sink, first, lines, frames, taken)
 }

@@ -4,6 +4,7 @@
 //! `specs/Endings.antt` how a run ends, and `specs/LiveRun.antt` all of it together.
 #![tactic(auto)]
 
+mod counting; // what a run lost, as a line
 mod crew; // the three workers as threads
 mod ends; // the links and clocks of a run
 mod finishing; // the answer, and the lines that are written
@@ -11,6 +12,7 @@ mod live; // a run over links and clocks that are handed in
 mod running; // passes are split off and joined again
 mod tools; // what the workers work with
 
+pub use counting::Tally;
 pub use ends::Ends;
 pub use finishing::{finish, status_by, taken_of};
 pub use live::{live_over, live_with_journal};

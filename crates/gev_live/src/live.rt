@@ -88,12 +88,13 @@ fn run_prepared<
         taken,
         lines,
         journal,
+        tally,
     } = run_crew(
         rt, alloc, board, pass, seed, tools, ends, gate, turns, frames, mode,
     );
     let first = status_by(served, read, frames, turns, &taken);
     let count = taken_of(&taken);
-    let status = finish(alloc, sink, first, lines, frames, count);
+    let status = finish(alloc, sink, first, lines, frames, count, tally);
     (status, ends, journal)
 }
 

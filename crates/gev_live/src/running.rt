@@ -8,6 +8,7 @@ ghost use Rattle.gev_serve.specs.Wires.{wire};
 ghost use Rattle.gev_live.specs.Told.{live_config, live_camera, AreNew};
 ghost use Rattle.gev_live.specs.Ran.{RanCrew};
 
+use crate::counting::Tally;
 use crate::crew::work_crew;
 use crate::ends::Ends;
 use crate::tools::Tools;
@@ -38,6 +39,8 @@ pub(crate) struct CrewDone<L, S, C> {
     pub(crate) lines: Vec<u8>,
     /// The reader's turns.
     pub(crate) journal: Vec<Turn>,
+    /// What was counted.
+    pub(crate) tally: Tally,
 }
 
 /// Splits a pass off for each worker, runs the workers, and joins the passes.
@@ -101,11 +104,12 @@ pub(crate) fn run_crew<
     } = watched;
     let ReadDone {
         pass: reader_back,
-        client: _client,
+        client,
         stream,
         control,
         clock: host_clock,
         journal,
+        counts,
         end: read,
     } = told;
     let ApplicationWork {
@@ -132,5 +136,10 @@ pub(crate) fn run_crew<
         taken,
         lines,
         journal,
+        tally: Tally {
+            counts,
+            gone: client.gone(),
+            shed: None,
+        },
     }
 }

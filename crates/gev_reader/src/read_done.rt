@@ -1,3 +1,4 @@
+use acquisition_machine::Counts;
 use buffer_words::Pass;
 use control_client::Client;
 use gev_acq::{AcqEnd, Turn};
@@ -17,6 +18,8 @@ pub struct ReadDone<S, M, C> {
     pub clock: C,
     /// An entry for each turn.
     pub journal: Vec<Turn>,
+    /// What the receiver counted.
+    pub counts: Counts,
     /// How the setup ended where it wasn't done, else how the turns ended.
     pub end: AcqEnd,
 }

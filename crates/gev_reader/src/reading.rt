@@ -132,6 +132,7 @@ pub fn read<R: Wait, S: Link, M: Link, C: Clock, G: Gate>(
         control,
         clock,
         journal,
+        counts: acq.counts(),
         end,
     }
 }

@@ -216,7 +216,7 @@ pub fn read_by_lanes<
         control,
         clock,
     } = back;
-    bring_home(board, &mut pass, lanes, &mut reader, served);
+    let counts = bring_home(board, &mut pass, lanes, &mut reader, served);
     let _stopped = board.stop(&mut pass, false);
     LanesDone {
         pass,
@@ -224,6 +224,8 @@ pub fn read_by_lanes<
         stream,
         control,
         clock,
+        counts,
+        shed: reader.shed(),
         end,
     }
 }

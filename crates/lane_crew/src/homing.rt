@@ -9,17 +9,19 @@ ghost use Rattle.gev_lanes.specs.Sides.{AreReadersOf, MetAt};
 ghost use Rattle.lane_crew.specs.Tools.{IsBack, AreBack, IsJoined, AreJoined, AreMet, joins_of};
 
 use crate::lane_tools::LaneTools;
+use crate::summing::with_counts;
+use acquisition_machine::Counts;
 use buffer_words::{Board, Pass};
 use gev_lanes::{Lanes, ReaderEnds};
 
-// One lane comes home.
+// One lane comes home: what it counted.
 fn bring_one(
     board: &Board,
     pass: &mut Pass,
     lanes: &Lanes,
     reader: &mut ReaderEnds,
     tools: LaneTools,
-)
+) -> Counts
     requires table { pass.old.table ≡ board_id board.now }
     requires reader { AreReadersOf lanes.now reader.old }
     requires back { IsBack (board_id board.now) lanes.now tools }
@@ -32,20 +34,21 @@ fn bring_one(
     let LaneTools {
         pass: worked,
         ends,
-        acq: _acq,
+        acq,
     } = tools;
     board.join(pass, worked);
     lanes.meet(reader, ends);
+    acq.counts()
 }
 
-/// All lanes come home, the last one first.
+/// All lanes come home, the last one first: what they counted.
 pub(crate) fn bring_home(
     board: &Board,
     pass: &mut Pass,
     lanes: &Lanes,
     reader: &mut ReaderEnds,
     mut tools: Vec<LaneTools>,
-)
+) -> Counts
     requires table { pass.old.table ≡ board_id board.now }
     requires reader { AreReadersOf lanes.now reader.old }
     requires back { AreBack (board_id board.now) lanes.now tools.items }
@@ -55,7 +58,10 @@ pub(crate) fn bring_home(
     ensures same { reader.new ≡ reader.old }
     ensures hands { SameHands pass.old pass.new }
 {
+    let mut counts = Counts::default();
     'lanes: while let Some(lane) = tools.pop() {
-        bring_one(board, pass, lanes, reader, lane);
+        let counted = bring_one(board, pass, lanes, reader, lane);
+        counts = with_counts(counts, counted);
     }
+    counts
 }

@@ -1,3 +1,4 @@
+use acquisition_machine::Counts;
 use buffer_words::Pass;
 use control_client::Client;
 use gev_control::AcqEnd;
@@ -15,6 +16,10 @@ pub struct LanesDone<S, M, C> {
     pub control: M,
     /// The host's clock.
     pub clock: C,
+    /// What the lanes' receivers counted together.
+    pub counts: Counts,
+    /// How many datagrams found no free cell of their lane.
+    pub shed: u64,
     /// How the setup ended where it wasn't done, else how the reader's turns ended.
     pub end: AcqEnd,
 }

@@ -12,6 +12,7 @@ mod lanes_done; // what comes back of the whole crew
 mod laws; // a law of the lanes' parts, as a contract
 mod reading; // the reader, from the setup to its end
 mod serving; // the lanes as threads
+mod summing; // what all lanes counted
 
 pub use crew::read_by_lanes;
 pub use lane_tools::LaneTools;

@@ -44,6 +44,7 @@ fn read_over<R: Wait>(
         control,
         clock: _,
         journal,
+        counts: _,
         end,
     } = read(
         handles,

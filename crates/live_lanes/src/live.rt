@@ -86,12 +86,13 @@ fn run_prepared<
         read,
         taken,
         lines,
+        tally,
     } = run_crew(
         rt, alloc, board, pass, seed, lanes, tools, ends, gate, turns, frames, mode,
     );
     let first = status_by(served, read, frames, turns, &taken);
     let count = taken_of(&taken);
-    let status = finish(alloc, sink, first, lines, frames, count);
+    let status = finish(alloc, sink, first, lines, frames, count, tally);
     (status, ends)
 }
 

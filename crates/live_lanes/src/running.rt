@@ -16,7 +16,7 @@ use buffer_words::{Board, Pass};
 use gev_control::AcqEnd;
 use gev_crew::{ApplicationWork, CameraWork};
 use gev_links::{Clock, Gate, Link};
-use gev_live::Ends;
+use gev_live::{Ends, Tally};
 use gev_serve::ServeEnd;
 use gev_types::NoMemory;
 use lane_crew::LanesDone;
@@ -37,6 +37,8 @@ pub(crate) struct CrewDone<L, S, C> {
     pub(crate) taken: Result<u32, NoMemory>,
     /// Their lines.
     pub(crate) lines: Vec<u8>,
+    /// What was counted.
+    pub(crate) tally: Tally,
 }
 
 /// Splits a pass off for each worker and each lane, runs the workers, and joins the passes.
@@ -119,10 +121,12 @@ pub(crate) fn run_crew<
     } = watched;
     let LanesDone {
         pass: reader_back,
-        client: _client,
+        client,
         stream,
         control,
         clock: host_clock,
+        counts,
+        shed,
         end: read,
     } = told;
     let ApplicationWork {
@@ -148,5 +152,10 @@ pub(crate) fn run_crew<
         read,
         taken,
         lines,
+        tally: Tally {
+            counts,
+            gone: client.gone(),
+            shed: Some(shed),
+        },
     }
 }

@@ -78,8 +78,8 @@ fn write_run<L: Link, K: Sink>(
     }
 }
 
-/// The answer of a recorded run, after its script was written where the run's own answer wants that.
-fn finish<L: Link, K: Sink>(
+/// Writes a run's script where the run's own answer wants that.
+fn write_told<L: Link, K: Sink>(
     alloc: Global,
     sink: &mut K,
     lived: Status,
@@ -96,6 +96,22 @@ fn finish<L: Link, K: Sink>(
         return Status::NoMemory;
     }
     write_run(alloc, sink, lived, tape, journal)
+}
+
+/// The answer of a recorded run, after the text of its counts was told, and its script written where the run's own answer
+/// wants that.
+fn finish<L: Link, K: Sink>(
+    alloc: Global,
+    sink: &mut K,
+    lived: Status,
+    tape: &Tape<L>,
+    journal: &[Turn],
+    told: &[u8],
+) -> Status
+    ensures { Finishes lived result tape.now.kept journal.now (K.written sink.old) (K.written sink.new) (K.faults sink.old) (K.faults sink.new) }
+{
+    sink.tell(told);
+    write_told(alloc, sink, lived, tape, journal)
 }
 
 /// A live run with one lane that is recorded: what `live_over` runs with OldestFirst, over a tape as the link of
@@ -160,7 +176,7 @@ pub fn record_over<
         → Rose (L.faults ends.camera) (L.faults result.1.camera) ⊎ Rose (L.faults ends.stream.inner) (L.faults result.1.stream.inner) ⊎ Rose (L.faults ends.control) (L.faults result.1.control) }
     ensures writes_steady { result.0 ≢ Status.WriteFault → K.faults sink.new ≡ K.faults sink.old }
 {
-    let mut nowhere = Nowhere {};
+    let mut nowhere = Nowhere::new(alloc);
     let (lived, ends, journal) = live_with_journal(
         rt,
         alloc,
@@ -178,6 +194,13 @@ pub fn record_over<
     );
     pass.witness();
     ends.stream.witness();
-    let status = finish(alloc, sink, lived, &ends.stream, journal.as_slice());
+    let status = finish(
+        alloc,
+        sink,
+        lived,
+        &ends.stream,
+        journal.as_slice(),
+        nowhere.told(),
+    );
     (status, ends)
 }

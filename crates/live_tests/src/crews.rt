@@ -90,6 +90,8 @@ fn read_blocks<R: Threads + Wait + Sync>(
         stream: _,
         control,
         clock: _,
+        counts: _,
+        shed: _,
         end,
     } = read_by_lanes(
         rt,

@@ -9,8 +9,8 @@ use Rattle.lane_crew.proofs.crew.read_by_lanes.Goals as goal
 pub read_and_serve-served-requires-clause-kept : goal.read_and_serve-served-requires-clause-kept
 read_and_serve-served-requires-clause-kept g c = λ κs within. new_kept 0 c.args.lanes.now c.args.reader (ends_in c.args.tools.items) c.requires.new
 
-pub bring_home-requires-clause-back : goal.bring_home-requires-clause-back
-bring_home-requires-clause-back g c =
+pub bring_home-counts-requires-clause-back : goal.bring_home-counts-requires-clause-back
+bring_home-counts-requires-clause-back g c =
     served_back c.args.mode (board_id c.args.board.now) c.args.lanes.now c.args.tools.items c.read_and_serve-served.result.0.items c.requires.ready
     c.read_and_serve-served.ensures.served
 
@@ -18,9 +18,9 @@ pub returns-clause-reads : goal.returns-clause-reads
 returns-clause-reads g c =
     crew_reads c.args.mode c.args.camera c.args.own _ _ (board_id c.args.board.now) c.args.lanes.now c.args.reader c.read_and_serve-served.result.1.0.reader c.args.tools.items
     c.read_and_serve-served.result.0.items c.args.turns c.read_and_serve-served.result.1.1 c.stop-stopped.result c.args.pass
-    c.read_and_serve-served.result.1.0.pass c.bring_home.new.pass c.stop-stopped.new.pass c.requires.new c.requires.ready
-    c.read_and_serve-served.ensures.reads c.read_and_serve-served.ensures.served c.bring_home.ensures.enters c.bring_home.ensures.joined
-    (subst (λ us. AreMet us c.read_and_serve-served.result.0.items) c.bring_home.ensures.same c.bring_home.ensures.met) c.stop-stopped.ensures.entry
+    c.read_and_serve-served.result.1.0.pass c.bring_home-counts.new.pass c.stop-stopped.new.pass c.requires.new c.requires.ready
+    c.read_and_serve-served.ensures.reads c.read_and_serve-served.ensures.served c.bring_home-counts.ensures.enters c.bring_home-counts.ensures.joined
+    (subst (λ us. AreMet us c.read_and_serve-served.result.0.items) c.bring_home-counts.ensures.same c.bring_home-counts.ensures.met) c.stop-stopped.ensures.entry
 
 pub returns-clause-works : goal.returns-clause-works
 returns-clause-works g c =
