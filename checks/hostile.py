@@ -14,7 +14,7 @@ OF_REPLAY_SCRIPTS = ["replay", "explain", "image 1", "image 2", "image all"]
 OF_CAMERA_SCRIPTS = ["camera"]
 OF_CAPTURES = ["streams", "capture 49152 1464 4096"]
 # Those that read nothing. Their numbers are drawn anew, and now and then a word is changed.
-OF_NOTHING = ["make 1 3 50 50 50", "soak 1 3 50 50 50", "soak 1 3 50 0 0 short", "live 1 2 2 1 3", "record 1 2 2 3"]
+OF_NOTHING = ["make 1 3 50 50 50", "soak 1 3 50 50 50", "soak 1 3 50 0 0 short", "live 1 2 2 1 3", "record 1 2 2 3", "description 127.83.9.9"]
 
 # How long one run may take, and all together, in seconds.
 RUN_SECONDS = 20
@@ -32,6 +32,8 @@ STATUSES = {
     "soak": {0, 9, 10},
     "live": {0, 9, 10, 11},
     "record": {0, 9, 10, 11},
+    # no camera is there
+    "description": {9},
 }
 
 # The text on standard error, by the status.

@@ -6,3 +6,4 @@ pub mod Replaying
 pub mod Promised
 pub mod Recorded
 pub mod Completing
+pub mod Faced

@@ -13,16 +13,19 @@ ghost use Rattle.gev_top.specs.declared.errand.Errand.{Errand};
 ghost use Rattle.gev_top.specs.declared.errand.Errand.TheVariants as errands;
 ghost use Rattle.gev_top.specs.declared.live_numbers.LiveNumbers.{LiveNumbers};
 ghost use Rattle.gev_top.specs.Answers.{Answers, IsDecided, ReadsSteady};
-ghost use Rattle.gev_top.specs.LiveWords.{IsErrand, IfPorts, errand_of, errand_fault};
+ghost use Rattle.gev_top.specs.LiveWords.{IsErrand, IfPorts, IfCameras, errand_of, errand_fault};
 ghost use Rattle.gev_top.specs.Completeness.{NoneRose, CompletesErrand};
 ghost use Rattle.gev_call.specs.Runs.{IsBound, RunsOver, RecordsOver, RunsNothing};
+ghost use Rattle.gev_call.specs.Cameras.{DiscoversOver, DescribesOver};
 ghost use Rattle.gev_call.specs.Replayed.{ReplaysByHeadline};
 ghost use Rattle.gev_call.specs.Explained.{ExplainsByHeadline};
 
+use crate::meeting::{run_description, run_discover};
 use crate::recording::run_recorded;
 use crate::running::run_live;
 use buffer_words::{Board, Pass};
-use gev_links::{Gate, Ports, Sink, Source};
+use gev_far::FarPorts;
+use gev_links::{Gate, Sink, Source};
 use gev_status::Status;
 use gev_top::{Errand, read_errand, run_command};
 use std::alloc::Global;
@@ -40,7 +43,10 @@ use std::thread::Threads;
 ///
 /// `record` with a seed, a number of frames, of buffers and of turns does the same with one lane, and writes in place of
 /// the lines a replay script of what the receiver heard.
-pub fn gevacq_top<R: Threads + Wait + Sync, S: Source, K: Sink, P: Ports, G: Gate + Sync>(
+///
+/// `discover` with an address or none looks for cameras over a link of the ports and writes a line for each,
+/// `description` with a camera's address writes the description that lies in it. Nothing is kept.
+pub fn gevacq_top<R: Threads + Wait + Sync, S: Source, K: Sink, P: FarPorts, G: Gate + Sync>(
     rt: &R,
     alloc: Global,
     words: &[String],
@@ -99,6 +105,17 @@ pub fn gevacq_top<R: Threads + Wait + Sync, S: Source, K: Sink, P: Ports, G: Gat
         (P.clocks ports.old) (P.clocks ports.new) (K.written sink.old) (K.written sink.new) (K.faults sink.old) (K.faults sink.new)) }
     ensures few_binds { P.binds ports.new ≤ P.binds ports.old + 3 }
 
+    // A search for cameras, and a description: what was written is what the link of the ports gave, which came back.
+    // They read nothing, and nothing is kept.
+    ensures discovers { (address : ℕ) → errand_of (map (λ word. string_bytes word) words.now) ≡ Ok (errands.Discover address)
+        → DiscoversOver P.L.received P.L.sent P.C.told address result (P.links ports.old) (P.links ports.new)
+        (P.clocks ports.old) (P.clocks ports.new) (K.written sink.old) (K.written sink.new) }
+    ensures describes { (camera : ℕ) → errand_of (map (λ word. string_bytes word) words.now) ≡ Ok (errands.Description camera)
+        → DescribesOver P.L.received P.L.sent P.C.told camera result (P.links ports.old) (P.links ports.new)
+        (P.clocks ports.old) (P.clocks ports.new) (K.written sink.old) (K.written sink.new) }
+    ensures cameras { (errand : Errand) → errand_of (map (λ word. string_bytes word) words.now) ≡ Ok errand
+        → IfCameras errand ((S.left source.new ≡ S.left source.old) × (S.faults source.new ≡ S.faults source.old) × (kept.new ≡ None)) }
+
     // Where no count of faults rose, each command comes to one of its own ends, or memory was wanting.
     ensures complete { (errand : Errand) → errand_of (map (λ word. string_bytes word) words.now) ≡ Ok errand
         → NoneRose (S.faults source.old) (S.faults source.new) → NoneRose (K.faults sink.old) (K.faults sink.new)
@@ -119,7 +136,7 @@ pub fn gevacq_top<R: Threads + Wait + Sync, S: Source, K: Sink, P: Ports, G: Gat
 }
 
 /// Does what was asked for.
-fn run_errand<R: Threads + Wait + Sync, S: Source, K: Sink, P: Ports, G: Gate + Sync>(
+fn run_errand<R: Threads + Wait + Sync, S: Source, K: Sink, P: FarPorts, G: Gate + Sync>(
     rt: &R,
     alloc: Global,
     errand: Errand,
@@ -170,6 +187,16 @@ fn run_errand<R: Threads + Wait + Sync, S: Source, K: Sink, P: Ports, G: Gate + 
         (P.clocks ports.old) (P.clocks ports.new) (K.written sink.old) (K.written sink.new) (K.faults sink.old) (K.faults sink.new)) }
     ensures few_binds { P.binds ports.new ≤ P.binds ports.old + 3 }
 
+    // A search for cameras, and a description.
+    ensures discovers { (address : ℕ) → errand ≡ (errands.Discover address)
+        → DiscoversOver P.L.received P.L.sent P.C.told address result (P.links ports.old) (P.links ports.new)
+        (P.clocks ports.old) (P.clocks ports.new) (K.written sink.old) (K.written sink.new) }
+    ensures describes { (camera : ℕ) → errand ≡ (errands.Description camera)
+        → DescribesOver P.L.received P.L.sent P.C.told camera result (P.links ports.old) (P.links ports.new)
+        (P.clocks ports.old) (P.clocks ports.new) (K.written sink.old) (K.written sink.new) }
+    ensures cameras { (asked : Errand) → errand ≡ asked
+        → IfCameras asked ((S.left source.new ≡ S.left source.old) × (S.faults source.new ≡ S.faults source.old) × (kept.new ≡ None)) }
+
     // Where no count of faults rose, each command comes to one of its own ends, or memory was wanting.
     ensures complete { (asked : Errand) → errand ≡ asked
         → NoneRose (S.faults source.old) (S.faults source.new) → NoneRose (K.faults sink.old) (K.faults sink.new)
@@ -187,5 +214,7 @@ fn run_errand<R: Threads + Wait + Sync, S: Source, K: Sink, P: Ports, G: Gate + 
         Errand::Plain(command) => run_command(alloc, command, source, sink),
         Errand::Live(numbers) => run_live(rt, alloc, numbers, ports, gate, sink, kept),
         Errand::Record(numbers) => run_recorded(rt, alloc, numbers, ports, gate, sink, kept),
+        Errand::Discover(address) => run_discover(rt, alloc, address, ports, sink),
+        Errand::Description(camera) => run_description(rt, camera, ports, sink),
     }
 }

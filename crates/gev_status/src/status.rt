@@ -61,6 +61,27 @@ pub enum Status {
         /// Why it has none.
         why: NoPicture,
     },
+    /// Nothing came from the camera for as long as was to be waited.
+    Silent {
+        /// How many buffers were handed out.
+        frames: u32,
+    },
+    /// Another application controls the camera.
+    Controlled,
+    /// No URL of the camera says that its description lies in it.
+    NoDescription,
+    /// The camera gave its control away.
+    ControlLost {
+        /// How many buffers were handed out.
+        frames: u32,
+    },
+    /// The camera refused a read or a write of one register.
+    RefusedAt {
+        /// The register's address.
+        register: u32,
+        /// The status of the acknowledge.
+        status: u16,
+    },
 }
 
 impl Status {
@@ -81,6 +102,11 @@ impl Status {
             Status::TurnsSpent { .. } => 11,
             Status::BadCapture { .. } => 12,
             Status::NoPicture { .. } => 13,
+            Status::Silent { .. } => 14,
+            Status::Controlled => 15,
+            Status::NoDescription => 16,
+            Status::ControlLost { .. } => 17,
+            Status::RefusedAt { .. } => 10,
         }
     }
 }
@@ -116,6 +142,18 @@ impl fmt::Display for Status {
             Status::NoPicture { why } => {
                 let cause = PictureCause(*why);
                 write!(f, "no picture: {cause}")
+            }
+            Status::Silent { frames } => write!(f, "the camera is silent, {frames} frames"),
+            Status::Controlled => write!(f, "another application controls the camera"),
+            Status::NoDescription => write!(f, "the description isn't in the camera"),
+            Status::ControlLost { frames } => {
+                write!(f, "the camera gave its control away, {frames} frames")
+            }
+            Status::RefusedAt { register, status } => {
+                write!(
+                    f,
+                    "register 0x{register:08x} refused with status 0x{status:04x}"
+                )
             }
         }
     }

@@ -7,7 +7,7 @@ use Rattle.gev_world.specs.Runs.{RunsSoak}
 use Rattle.world_machine.specs.State.{Run}
 use Rattle.gev_make.specs.MakeText.{make_text}
 use Rattle.gev_status.specs.declared.status.Status.{Status}
-use Rattle.gev_status.specs.declared.status.Status.TheVariants.{Done, Usage, BadScript, ReadFault, WriteFault, LinkFault, NoMemory, NoAnswer, Refused, TurnsSpent, BadCapture, NoPicture}
+use Rattle.gev_status.specs.declared.status.Status.TheVariants.{Done, Usage, BadScript, ReadFault, WriteFault, LinkFault, NoMemory, NoAnswer, Refused, TurnsSpent, BadCapture, NoPicture, Silent, Controlled, NoDescription, ControlLost, RefusedAt}
 use Rattle.gev_top.specs.declared.command.Command.{Command}
 use Rattle.gev_top.specs.declared.command.Command.TheVariants.{Replay, Explain, Image, Streams, Capture, Camera, Make, Soak}
 use Rattle.gev_top.specs.Soaking.{status_after}
@@ -38,6 +38,11 @@ replayed LinkFault left left_after reads reads_after written written_after write
 replayed (TurnsSpent turns frames) left left_after reads reads_after written written_after writes writes_after h none none_written = h
 replayed (BadCapture number kind) left left_after reads reads_after written written_after writes writes_after h none none_written = h
 replayed (NoPicture why) left left_after reads reads_after written written_after writes writes_after h none none_written = h
+replayed (Silent frames) left left_after reads reads_after written written_after writes writes_after h none none_written = h
+replayed Controlled left left_after reads reads_after written written_after writes writes_after h none none_written = h
+replayed NoDescription left left_after reads reads_after written written_after writes writes_after h none none_written = h
+replayed (ControlLost frames) left left_after reads reads_after written written_after writes writes_after h none none_written = h
+replayed (RefusedAt register code) left left_after reads reads_after written written_after writes writes_after h none none_written = h
 
 explained : (status : Status) (left left_after : Option (List ℕ)) (reads reads_after : ℕ) (written written_after : Option (List ℕ)) (writes writes_after : ℕ)
     → Explains status left left_after reads reads_after written written_after writes writes_after → NoneRose reads reads_after → NoneRose writes writes_after → EndsScript status
@@ -53,6 +58,11 @@ explained LinkFault left left_after reads reads_after written written_after writ
 explained (TurnsSpent turns frames) left left_after reads reads_after written written_after writes writes_after h none none_written = h
 explained (BadCapture number kind) left left_after reads reads_after written written_after writes writes_after h none none_written = h
 explained (NoPicture why) left left_after reads reads_after written written_after writes writes_after h none none_written = h
+explained (Silent frames) left left_after reads reads_after written written_after writes writes_after h none none_written = h
+explained Controlled left left_after reads reads_after written written_after writes writes_after h none none_written = h
+explained NoDescription left left_after reads reads_after written written_after writes writes_after h none none_written = h
+explained (ControlLost frames) left left_after reads reads_after written written_after writes writes_after h none none_written = h
+explained (RefusedAt register code) left left_after reads reads_after written written_after writes writes_after h none none_written = h
 
 shown : (wanted : Wanted) (status : Status) (left left_after : Option (List ℕ)) (reads reads_after : ℕ) (written written_after : Option (List ℕ)) (writes writes_after : ℕ)
     → Images wanted status left left_after reads reads_after written written_after writes writes_after → NoneRose reads reads_after → NoneRose writes writes_after → EndsImage status
@@ -70,6 +80,11 @@ shown wanted (Refused status) left left_after reads reads_after written written_
 shown wanted LinkFault left left_after reads reads_after written written_after writes writes_after h none none_written = h
 shown wanted (TurnsSpent turns frames) left left_after reads reads_after written written_after writes writes_after h none none_written = h
 shown wanted (BadCapture number kind) left left_after reads reads_after written written_after writes writes_after h none none_written = h
+shown wanted (Silent frames) left left_after reads reads_after written written_after writes writes_after h none none_written = h
+shown wanted Controlled left left_after reads reads_after written written_after writes writes_after h none none_written = h
+shown wanted NoDescription left left_after reads reads_after written written_after writes writes_after h none none_written = h
+shown wanted (ControlLost frames) left left_after reads reads_after written written_after writes writes_after h none none_written = h
+shown wanted (RefusedAt register code) left left_after reads reads_after written written_after writes writes_after h none none_written = h
 
 served : (status : Status) (left left_after : Option (List ℕ)) (reads reads_after : ℕ) (written written_after : Option (List ℕ)) (writes writes_after : ℕ)
     → Serves status left left_after reads reads_after written written_after writes writes_after → NoneRose reads reads_after → NoneRose writes writes_after → EndsScript status
@@ -85,6 +100,11 @@ served LinkFault left left_after reads reads_after written written_after writes 
 served (TurnsSpent turns frames) left left_after reads reads_after written written_after writes writes_after h none none_written = h
 served (BadCapture number kind) left left_after reads reads_after written written_after writes writes_after h none none_written = h
 served (NoPicture why) left left_after reads reads_after written written_after writes writes_after h none none_written = h
+served (Silent frames) left left_after reads reads_after written written_after writes writes_after h none none_written = h
+served Controlled left left_after reads reads_after written written_after writes writes_after h none none_written = h
+served NoDescription left left_after reads reads_after written written_after writes writes_after h none none_written = h
+served (ControlLost frames) left left_after reads reads_after written written_after writes writes_after h none none_written = h
+served (RefusedAt register code) left left_after reads reads_after written written_after writes writes_after h none none_written = h
 
 captured : (whole begun : List Sighting → List ℕ) (status : Status) (left left_after : Option (List ℕ)) (reads reads_after : ℕ) (written written_after : Option (List ℕ)) (writes writes_after : ℕ)
     → IfCaptured (λ ending. RunEnds whole begun ending left left_after reads reads_after written written_after writes writes_after) status → NoneRose reads reads_after → NoneRose writes writes_after → EndsCapture status
@@ -100,6 +120,11 @@ captured whole begun (Refused status) left left_after reads reads_after written 
 captured whole begun LinkFault left left_after reads reads_after written written_after writes writes_after h none none_written = h
 captured whole begun (TurnsSpent turns frames) left left_after reads reads_after written written_after writes writes_after h none none_written = h
 captured whole begun (NoPicture why) left left_after reads reads_after written written_after writes writes_after h none none_written = h
+captured whole begun (Silent frames) left left_after reads reads_after written written_after writes writes_after h none none_written = h
+captured whole begun Controlled left left_after reads reads_after written written_after writes writes_after h none none_written = h
+captured whole begun NoDescription left left_after reads reads_after written written_after writes writes_after h none none_written = h
+captured whole begun (ControlLost frames) left left_after reads reads_after written written_after writes writes_after h none none_written = h
+captured whole begun (RefusedAt register code) left left_after reads reads_after written written_after writes writes_after h none none_written = h
 
 made : (text : List ℕ) (status : Status) (written written_after : Option (List ℕ)) (writes writes_after : ℕ)
     → Writes text status written written_after writes writes_after → NoneRose writes writes_after → EndsText status
@@ -115,6 +140,11 @@ made text LinkFault written written_after writes writes_after h none = h
 made text (TurnsSpent turns frames) written written_after writes writes_after h none = h
 made text (BadCapture number kind) written written_after writes writes_after h none = h
 made text (NoPicture why) written written_after writes writes_after h none = h
+made text (Silent frames) written written_after writes writes_after h none = h
+made text Controlled written written_after writes writes_after h none = h
+made text NoDescription written written_after writes writes_after h none = h
+made text (ControlLost frames) written written_after writes writes_after h none = h
+made text (RefusedAt register code) written written_after writes writes_after h none = h
 
 soaked : (end : SoakEnd) (run : Run) (written written_after : Option (List ℕ)) (writes writes_after : ℕ)
     → RunsSoak end run written written_after writes writes_after → NoneRose writes writes_after → EndsWorld (status_after end)

@@ -56,6 +56,11 @@ if_ended P Q f statuses.LinkFault h = h
 if_ended P Q f (statuses.TurnsSpent turns frames) h = h
 if_ended P Q f (statuses.BadCapture number kind) h = h
 if_ended P Q f (statuses.NoPicture why) h = h
+if_ended P Q f (statuses.Silent frames) h = h
+if_ended P Q f statuses.Controlled h = h
+if_ended P Q f statuses.NoDescription h = h
+if_ended P Q f (statuses.ControlLost frames) h = h
+if_ended P Q f (statuses.RefusedAt register code) h = h
 
 pub ended : (P : Ending → Type 0) (ending : Ending) → P ending → IfEnded P (status_of ending)
 ended P endings.Done h = h

@@ -6,3 +6,4 @@ pub mod ExplainedRuns
 pub mod Captured
 pub mod Imaged
 pub mod Completing
+pub mod Named

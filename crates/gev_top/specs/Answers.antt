@@ -9,7 +9,7 @@ use Rattle.camera_trace.specs.Standing as camera
 use Rattle.camera_trace.specs.Laws.{IsTold, CameraTells, HasOnePrimary}
 use Rattle.gev_make.specs.MakeText.{make_text}
 use Rattle.gev_status.specs.declared.status.Status.{Status}
-use Rattle.gev_status.specs.declared.status.Status.TheVariants.{Done, Usage, BadScript, ReadFault, WriteFault, LinkFault, NoMemory, NoAnswer, Refused, TurnsSpent, BadCapture, NoPicture}
+use Rattle.gev_status.specs.declared.status.Status.TheVariants.{Done, Usage, BadScript, ReadFault, WriteFault, LinkFault, NoMemory, NoAnswer, Refused, TurnsSpent, BadCapture, NoPicture, Silent, Controlled, NoDescription, ControlLost, RefusedAt}
 use Rattle.gev_top.specs.declared.command.Command.{Command}
 use Rattle.gev_top.specs.declared.command.Command.TheVariants.{Replay, Explain, Image, Streams, Capture, Camera, Make, Soak}
 use Rattle.gev_top.specs.Scripts.{Ends, IfEnded, AnswersContent}
@@ -52,6 +52,11 @@ Writes text LinkFault written written_after writes writes_after = ⊥
 Writes text (TurnsSpent turns frames) written written_after writes writes_after = ⊥
 Writes text (BadCapture number kind) written written_after writes writes_after = ⊥
 Writes text (NoPicture why) written written_after writes writes_after = ⊥
+Writes text (Silent frames) written written_after writes writes_after = ⊥
+Writes text Controlled written written_after writes writes_after = ⊥
+Writes text NoDescription written written_after writes writes_after = ⊥
+Writes text (ControlLost frames) written written_after writes writes_after = ⊥
+Writes text (RefusedAt register code) written written_after writes writes_after = ⊥
 
 -- A text is made, and nothing is read.
 pub record Makes (text : List ℕ) (status : Status) (left left_after : Option (List ℕ)) (reads reads_after : ℕ) (written written_after : Option (List ℕ)) (writes writes_after : ℕ) : Type 0 where

@@ -6,7 +6,7 @@ use Rattle.capture_runs.specs.Ends.{RunEnds, IsWhole, AnswersContent}
 use Rattle.capture_streams.specs.Texts.{streams_text, listed_text}
 use Rattle.capture_script.specs.Script.{capture_script, begun_script}
 use Rattle.gev_status.specs.declared.status.Status.{Status}
-use Rattle.gev_status.specs.declared.status.Status.TheVariants.{Done, Usage, BadScript, ReadFault, WriteFault, LinkFault, NoMemory, NoAnswer, Refused, TurnsSpent, BadCapture, NoPicture}
+use Rattle.gev_status.specs.declared.status.Status.TheVariants.{Done, Usage, BadScript, ReadFault, WriteFault, LinkFault, NoMemory, NoAnswer, Refused, TurnsSpent, BadCapture, NoPicture, Silent, Controlled, NoDescription, ControlLost, RefusedAt}
 
 -- the answer by how the run over a capture ended
 abbrev pub status_from : Ending → Status
@@ -30,6 +30,11 @@ IfCaptured P (Refused status) = ⊥
 IfCaptured P LinkFault = ⊥
 IfCaptured P (TurnsSpent turns frames) = ⊥
 IfCaptured P (NoPicture why) = ⊥
+IfCaptured P (Silent frames) = ⊥
+IfCaptured P Controlled = ⊥
+IfCaptured P NoDescription = ⊥
+IfCaptured P (ControlLost frames) = ⊥
+IfCaptured P (RefusedAt register code) = ⊥
 
 -- The streams of a capture: the text of the capture's packets was written.
 abbrev pub ListsStreams : Status → Option (List ℕ) → Option (List ℕ) → ℕ → ℕ → Option (List ℕ) → Option (List ℕ) → ℕ → ℕ → Type 0

@@ -3,12 +3,12 @@ use Rattle.std.specs.Prelude.{⊤, ℕ, List, Option}
 use Rattle.gev_links.specs.Faults.{Rose}
 use Rattle.script_runs.specs.Verdicts.{IfTold}
 use Rattle.gev_status.specs.declared.status.Status.{Status}
-use Rattle.gev_status.specs.declared.status.Status.TheVariants.{Done, BadScript, NoMemory, NoAnswer, Refused, TurnsSpent, BadCapture, NoPicture}
+use Rattle.gev_status.specs.declared.status.Status.TheVariants.{Done, BadScript, NoMemory, NoAnswer, Refused, TurnsSpent, BadCapture, NoPicture, NoDescription}
 use Rattle.gev_top.specs.declared.command.Command.{Command}
 use Rattle.gev_top.specs.declared.command.Command.TheVariants.{Replay, Explain, Image, Streams, Capture, Camera, Make, Soak}
 use Rattle.gev_top.specs.Answers.{IsDecided}
 use Rattle.gev_top.specs.declared.errand.Errand.{Errand}
-use Rattle.gev_top.specs.declared.errand.Errand.TheVariants.{Plain, Live, Record}
+use Rattle.gev_top.specs.declared.errand.Errand.TheVariants.{Plain, Live, Record, Discover, Description}
 
 -- the count of faults didn't rise
 abbrev pub NoneRose : ℕ → ℕ → Type 0
@@ -61,6 +61,20 @@ EndsLive (TurnsSpent turns frames) = ⊤
 EndsLive NoMemory = ⊤
 EndsLive _ = ⊥
 
+-- cameras were looked for until the time was over
+abbrev pub EndsSearch : Status → Type 0
+EndsSearch Done = ⊤
+EndsSearch NoMemory = ⊤
+EndsSearch _ = ⊥
+
+-- a description was fetched or isn't in the camera, or a read had no answer or was refused
+abbrev pub EndsDescription : Status → Type 0
+EndsDescription Done = ⊤
+EndsDescription NoDescription = ⊤
+EndsDescription (NoAnswer req) = ⊤
+EndsDescription (Refused status) = ⊤
+EndsDescription _ = ⊥
+
 -- ---- the commands, a row each
 
 abbrev pub IsComplete : Command → Status → Type 0
@@ -83,3 +97,5 @@ abbrev pub CompletesErrand : Errand → Option (List ℕ) → Status → Type 0
 CompletesErrand (Plain command) left status = Completes command left status
 CompletesErrand (Live n) left status = EndsLive status
 CompletesErrand (Record n) left status = EndsLive status
+CompletesErrand (Discover address) left status = EndsSearch status
+CompletesErrand (Description camera) left status = EndsDescription status

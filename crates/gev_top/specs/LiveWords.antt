@@ -5,9 +5,10 @@ use Rattle.gev_script.specs.Numbers.{number_in}
 use Rattle.mode_calls.specs.declared.mode.Mode.{Mode}
 use Rattle.mode_calls.specs.declared.mode.Mode.TheVariants.{OldestFirst}
 use Rattle.script_trace.specs.Modes.{mode_of}
+use Rattle.camera_words.specs.Words.{discover_of, description_of}
 use Rattle.gev_top.specs.declared.live_numbers.LiveNumbers.{LiveNumbers}
 use Rattle.gev_top.specs.declared.errand.Errand.{Errand}
-use Rattle.gev_top.specs.declared.errand.Errand.TheVariants.{Plain, Live, Record}
+use Rattle.gev_top.specs.declared.errand.Errand.TheVariants.{Plain, Live, Record, Discover, Description}
 use Rattle.gev_top.specs.Usage as plain
 use Rattle.gev_top.specs.Usage.{Said, ◌>>=◌, read_at, number_at, none_at, named}
 
@@ -63,12 +64,16 @@ abbrev pub IsErrand : Errand → Type 0
 IsErrand (Plain command) = plain.IsInRange command
 IsErrand (Live n) = IsInRange n
 IsErrand (Record n) = IsRecordable n
+IsErrand (Discover address) = ⊤
+IsErrand (Description camera) = ⊤
 
 -- the words of which the first is this name
 abbrev pub errand_named : List ℕ → List (List ℕ) → Said Errand
 errand_named name words =
     if bytes_eq name (codes "live") then (live_of words >>= λ n. Ok (Live n))
     else if bytes_eq name (codes "record") then (record_of words >>= λ n. Ok (Record n))
+    else if bytes_eq name (codes "discover") then (discover_of words >>= λ address. Ok (Discover address))
+    else if bytes_eq name (codes "description") then (description_of words >>= λ camera. Ok (Description camera))
     else (named name words >>= λ command. Ok (Plain command))
 
 abbrev pub errand_of : List (List ℕ) → Said Errand
@@ -83,8 +88,18 @@ place_in (Err place) = Some place
 abbrev pub errand_fault : List (List ℕ) → Option ℕ
 errand_fault words = place_in (errand_of words)
 
--- this of the numbers, where a run over ports is asked for
+-- this of the numbers, where a live run is asked for
 abbrev pub IfPorts : Errand → (LiveNumbers → Type 0) → Type 0
 IfPorts (Plain command) P = ⊤
 IfPorts (Live n) P = P n
 IfPorts (Record n) P = P n
+IfPorts (Discover address) P = ⊤
+IfPorts (Description camera) P = ⊤
+
+-- this, where a camera on the network is asked for what it tells of itself
+abbrev pub IfCameras : Errand → Type 0 → Type 0
+IfCameras (Plain command) P = ⊤
+IfCameras (Live n) P = ⊤
+IfCameras (Record n) P = ⊤
+IfCameras (Discover address) P = P
+IfCameras (Description camera) P = P

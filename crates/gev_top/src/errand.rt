@@ -10,4 +10,8 @@ pub enum Errand {
     Live(LiveNumbers),
     /// A live run with one lane, and its script in place of its lines.
     Record(LiveNumbers),
+    /// Which cameras answer at an IPv4 address, which may be a network's broadcast address.
+    Discover(u32),
+    /// The description that lies in the camera at an IPv4 address.
+    Description(u32),
 }

@@ -9,6 +9,7 @@ ghost use Rattle.gev_top.specs.LiveWords.{IsInRange, IsRecordable, IsErrand, mod
 use crate::errand::Errand;
 use crate::live_numbers::LiveNumbers;
 use crate::usage::{is, none_at, number_at, read_named};
+use camera_words::{read_description, read_discover};
 use gev_script::number_in;
 use mode_calls::Mode;
 
@@ -36,6 +37,14 @@ fn read_errand_named(name: &[u8], words: &[String]) -> Result<Errand, u32>
     if is(name, b"record") {
         let numbers = read_record_numbers(words)?;
         return Ok(Errand::Record(numbers));
+    }
+    if is(name, b"discover") {
+        let address = read_discover(words)?;
+        return Ok(Errand::Discover(address));
+    }
+    if is(name, b"description") {
+        let camera = read_description(words)?;
+        return Ok(Errand::Description(camera));
     }
     let command = read_named(name, words)?;
     Ok(Errand::Plain(command))

@@ -53,6 +53,15 @@ gevacq record <seed> <frames> <buffers> <turns>
     replay script of what the host heard: replayed, it takes the images that the
     run filled.
 
+gevacq discover [<address>]
+    Looks for cameras on the network: asks at the address, or at all addresses of
+    the own network, and writes a line for each camera that answers within
+    1.6 seconds.
+
+gevacq description <camera>
+    Writes the description of the camera's registers, as it lies in the camera at
+    this address: mostly a zip file, else XML.
+
 gevacq --help, gevacq -h
     Prints this text.
 
@@ -70,6 +79,7 @@ gevacq --version
 <lanes>                     1 to 4
 <turns>                     1 to 100000000, of `record` 1 to 100000
 <mode>                      0 to 2, and 0 where it isn't given
+<address>, <camera>         four numbers of 0 to 255, joined by dots
 
 Numbers are decimal, without a sign and without a leading zero. The lines of
 scripts and reports, the wire formats and the exit statuses are described in
@@ -88,4 +98,6 @@ usage: gevacq make <seed> <frames> <loss> <repeat> <swap>
 usage: gevacq soak <seed> <frames> <loss> <repeat> <swap> [short]
 usage: gevacq live <seed> <frames> <buffers> <lanes> <turns> [<mode>]
 usage: gevacq record <seed> <frames> <buffers> <turns>
+usage: gevacq discover [<address>]
+usage: gevacq description <camera>
 ";

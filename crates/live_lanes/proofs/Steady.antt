@@ -4,7 +4,7 @@ use Rattle.board_machine.specs.declared.events.Entry.{Entry}
 use Rattle.gev_links.specs.Links.{Address}
 use Rattle.gev_links.specs.Faults.{Rose}
 use Rattle.gev_status.specs.declared.status.Status.{Status}
-use Rattle.gev_status.specs.declared.status.Status.TheVariants.{Done, Usage, BadScript, BadCapture, ReadFault, WriteFault, LinkFault, NoMemory, NoAnswer, Refused, TurnsSpent, NoPicture}
+use Rattle.gev_status.specs.declared.status.Status.TheVariants.{Done, Usage, BadScript, BadCapture, ReadFault, WriteFault, LinkFault, NoMemory, NoAnswer, Refused, TurnsSpent, NoPicture, Silent, Controlled, NoDescription, ControlLost, RefusedAt}
 use Rattle.gev_live.specs.Told.{Told}
 use Rattle.gev_live.specs.Endings.{Wrote}
 use Rattle.gev_live.specs.LiveRun.{Numbers, LinkFailed}
@@ -40,6 +40,11 @@ wrote_steady (Usage place) text written written_after faults faults_after wrote 
 wrote_steady (BadScript line kind) text written written_after faults faults_after wrote ne = absurd wrote
 wrote_steady (BadCapture number kind) text written written_after faults faults_after wrote ne = absurd wrote
 wrote_steady (NoPicture why) text written written_after faults faults_after wrote ne = absurd wrote
+wrote_steady (Silent frames) text written written_after faults faults_after wrote ne = absurd wrote
+wrote_steady Controlled text written written_after faults faults_after wrote ne = absurd wrote
+wrote_steady NoDescription text written written_after faults faults_after wrote ne = absurd wrote
+wrote_steady (ControlLost frames) text written written_after faults faults_after wrote ne = absurd wrote
+wrote_steady (RefusedAt register code) text written written_after faults faults_after wrote ne = absurd wrote
 
 pub runs_writes_steady : (n : Numbers) (lanes : ℕ) (camera stream : Address) (answer : Status) (o e : Told) (written written_after : Option (List ℕ)) (faults faults_after : ℕ) (h : List Entry)
     → RunsLanes n lanes camera stream answer o e written written_after faults faults_after h → answer ≢ WriteFault → faults_after ≡ faults

@@ -11,6 +11,15 @@ returns-in-Ok-clause-live g c = λ n is. c.run_errand.ensures.live n (said_is _ 
 pub returns-in-Ok-clause-recorded : goal.returns-in-Ok-clause-recorded
 returns-in-Ok-clause-recorded g c = λ n is. c.run_errand.ensures.recorded n (said_is _ _ _ c.in-Ok.ensures.said is)
 
+pub returns-in-Ok-clause-discovers : goal.returns-in-Ok-clause-discovers
+returns-in-Ok-clause-discovers g c = λ address is. c.run_errand.ensures.discovers address (said_is _ _ _ c.in-Ok.ensures.said is)
+
+pub returns-in-Ok-clause-describes : goal.returns-in-Ok-clause-describes
+returns-in-Ok-clause-describes g c = λ camera is. c.run_errand.ensures.describes camera (said_is _ _ _ c.in-Ok.ensures.said is)
+
+pub returns-in-Ok-clause-cameras : goal.returns-in-Ok-clause-cameras
+returns-in-Ok-clause-cameras g c = λ asked is. c.run_errand.ensures.cameras asked (said_is _ _ _ c.in-Ok.ensures.said is)
+
 pub returns-in-Ok-clause-none : goal.returns-in-Ok-clause-none
 returns-in-Ok-clause-none g c = λ asked is. c.run_errand.ensures.none asked (said_is _ _ _ c.in-Ok.ensures.said is)
 

@@ -1,5 +1,6 @@
 use Rattle.std.proofs.Common.{refl, sym, subst}
-use Rattle.gev_top.specs.Answers.{Answers}
+use Rattle.script_runs.specs.Verdicts.{IfTold}
+use Rattle.gev_top.specs.Answers.{Answers, IsDecided}
 use Rattle.gev_top.proofs.plain.run_command.Goals as goal
 
 pub returns-in-Make-clause-cause : goal.returns-in-Make-clause-cause
@@ -23,3 +24,10 @@ returns-in-Soak-clause-cause g c =
     (g.K.Sink.faults c.args.sink.now) (g.K.Sink.faults c.soak.new.sink))
     (sym c.in-Soak.is)
     (record { unread = refl; no_faults = refl; wrote = c.soak.ensures.cause })
+
+pub returns-in-Image-clause-exact : goal.returns-in-Image-clause-exact
+returns-in-Image-clause-exact g c =
+    subst
+    (λ command. IfTold (g.S.Source.left c.args.source.now) (λ content. IsDecided command c.image.result content))
+    (sym c.in-Image.is)
+    c.image.ensures.exact

@@ -1,0 +1,258 @@
+#!/usr/bin/env python3
+"""Runs PROGRAM's `discover` and `description` against cameras that this script plays, each at an address of
+127.0.0.0/8 and port 3956, and compares statuses, texts and bytes with what the formats say.
+
+It needs Linux, where each such address is this machine's. Prints a line for each thing that differs, and ends with 1
+where there is one."""
+import os
+import shutil
+import socket
+import struct
+import subprocess
+import sys
+import tempfile
+import threading
+import time
+
+PROGRAM = sys.argv[1]
+PORT = 3956
+BROADCAST_ACK, SUCCESS = 0x11, 0
+DISCOVERY, READREG, WRITEREG, READMEM = 0x0002, 0x0080, 0x0082, 0x0084
+faults = []
+
+
+def note(case, text):
+    faults.append("checks/cameras: %s: %s" % (case, text))
+
+
+def acknowledge(code, req, body, status=SUCCESS):
+    return struct.pack(">HHHH", status, code + 1, len(body), req) + body
+
+
+def registers(address, mac="0211aabbccdd", mask="255.255.255.0", manufacturer=b"ACME", model=b"One", version=b"1.0", serial=b"7", name=b""):
+    """The registers 0x0000 to 0x00F7, as DISCOVERY tells them."""
+    out = bytearray(248)
+    out[0:8] = struct.pack(">II", 0x00020000, 0x80000001)
+    out[10:16] = bytes.fromhex(mac)
+    out[0x24:0x28] = socket.inet_aton(address)
+    out[0x34:0x38] = socket.inet_aton(mask)
+    for place, size, text in ((0x48, 32, manufacturer), (0x68, 32, model), (0x88, 32, version), (0xD8, 16, serial), (0xE8, 16, name)):
+        out[place : place + size] = text.ljust(size, b"\0")
+    return bytes(out)
+
+
+def shown(text):
+    return "".join(chr(b) if 0x20 <= b <= 0x7E and b not in b'"\\' else "\\x%02x" % b for b in text.split(b"\0")[0])
+
+
+def line(address, mac="0211aabbccdd", mask="255.255.255.0", manufacturer=b"ACME", model=b"One", version=b"1.0", serial=b"7", name=b""):
+    return 'camera %s mac=%s mask=%s manufacturer="%s" model="%s" version="%s" serial="%s" name="%s"' % (
+        address, ":".join(mac[i : i + 2] for i in range(0, 12, 2)), mask,
+        shown(manufacturer), shown(model), shown(version), shown(serial), shown(name))
+
+
+class Camera:
+    """Answers each command by what `answers` makes of it: a list of datagrams."""
+
+    def __init__(self, address, answers):
+        self.answers, self.commands, self.running = answers, [], True
+        self.socket = socket.socket(socket.AF_INET, socket.SOCK_DGRAM)
+        self.socket.bind((address, PORT))
+        self.socket.settimeout(0.05)
+        self.thread = threading.Thread(target=self.serve)
+        self.thread.start()
+
+    def serve(self):
+        while self.running:
+            try:
+                command, sender = self.socket.recvfrom(1024)
+            except socket.timeout:
+                continue
+            self.commands.append((time.monotonic(), command))
+            for datagram in self.answers(command):
+                self.socket.sendto(datagram, sender)
+
+    def end(self):
+        self.running = False
+        self.thread.join()
+        self.socket.close()
+
+
+def run(cameras, *words):
+    try:
+        done = subprocess.run([PROGRAM, *words], capture_output=True, timeout=60)
+    finally:
+        for camera in cameras:
+            camera.end()
+    return done.returncode, done.stdout, done.stderr.decode()
+
+
+# ---- discover
+
+
+def finds(*bodies):
+    """A camera that answers DISCOVERY with these bodies, status 0 and the command's request number."""
+
+    def answers(command):
+        flags, code, _, req = struct.unpack(">xBHHH", command[:8])
+        return [acknowledge(DISCOVERY, req, body) for body in bodies] if (flags, code) == (BROADCAST_ACK, DISCOVERY) else []
+
+    return answers
+
+
+def discover(case, address, answers, lines):
+    camera = Camera(address, answers)
+    begun = time.monotonic()
+    status, out, err = run([camera], "discover", address)
+    took = time.monotonic() - begun
+    if (status, err) != (0, ""):
+        note(case, "status %d, %r" % (status, err))
+    want = lines + ["end cameras=%d" % len(lines)]
+    if out.decode().split("\n") != want + [""]:
+        note(case, "wrote %r in place of %r" % (out, want))
+    if took < 1.59:
+        note(case, "ended after %.2f s" % took)
+    if [bytes(c) for _, c in camera.commands] != [bytes.fromhex("421100020000ffff")] * 2:
+        note(case, "sent %r" % camera.commands)
+    elif camera.commands[1][0] - camera.commands[0][0] < 0.49:
+        note(case, "the second DISCOVERY came too soon")
+
+
+def check_discover():
+    texts = dict(mac="000a0b0c0d0e", mask="255.255.0.0", manufacturer=b"m" * 32, model=b'a"b\\c\x7f\x80\xff\x01 ~', version=b"", serial=b"s" * 16, name=b"x\0y")
+    a = "127.83.1.1"
+    discover("one camera", a, finds(registers(a)), [line(a)])
+    discover("texts without a zero byte and bytes that aren't text", a, finds(registers("10.1.2.3", **texts)), [line("10.1.2.3", **texts)])
+    discover("a body that is too short", a, finds(registers(a)[:-4]), [])
+    discover("a body that is too long", a, finds(registers(a) + bytes(4)), [])
+    discover("another request", a, lambda c: [acknowledge(DISCOVERY, 0xFFFE, registers(a)), acknowledge(DISCOVERY, 1, registers(a))], [])
+    discover("another code", a, lambda c: [acknowledge(READMEM, 0xFFFF, registers(a))], [])
+    discover("a status", a, lambda c: [acknowledge(DISCOVERY, 0xFFFF, registers(a), 0x8006)], [])
+    discover("bytes that are no acknowledge", a, lambda c: [b"", b"\0", c, acknowledge(DISCOVERY, 0xFFFF, registers(a))[:-1]], [])
+    discover("two cameras of one MAC address", a, finds(registers(a), registers("127.83.1.2", serial=b"8")), [line(a)])
+    discover("two cameras", a, finds(registers(a), registers("127.83.1.2", mac="0211aabbccde")), [line(a), line("127.83.1.2", mac="0211aabbccde")])
+    discover("300 cameras", a, finds(*(registers(a, mac="%012x" % n) for n in range(300))), [line(a, mac="%012x" % n) for n in range(256)])
+    status, out, err = run([], "discover", "127.83.1.9")
+    if (status, out, err) != (0, b"end cameras=0\n", ""):
+        note("no camera", "status %d, %r, %r" % (status, out, err))
+
+
+# ---- description
+
+
+def memory(urls, at, data, change=lambda address, count, seen, answer: [answer]):
+    """A camera with these URLs and these bytes of memory from `at` on. `change` makes what is sent of an answer; `seen`
+    is how often that address was read before."""
+    reads = {}
+
+    def answers(command):
+        code, _, req = struct.unpack(">xxHHH", command[:8])
+        if code != READMEM:
+            return [acknowledge(code, req, b"", 0x8001)]
+        address, count = struct.unpack(">IxxH", command[8:])
+        seen = reads[address] = reads.get(address, -1) + 1
+        body = bytearray(count)
+        for place, held in ((0x200, urls[0]), (0x400, urls[1]), (at, data)):
+            part = held[max(0, address - place) : max(0, address - place + count)] if place <= address else b""
+            body[: len(part)] = part
+        return change(address, count, seen, acknowledge(READMEM, req, command[8:12] + bytes(body)))
+
+    return answers
+
+
+def description(case, answers, want, status=0, text="", reads=None):
+    camera = Camera("127.83.2.1", answers)
+    got = run([camera], "description", "127.83.2.1")
+    if got != (status, want, text):
+        note(case, "status %d, %d bytes, %r in place of status %d, %d bytes, %r" % (got[0], len(got[1]), got[2], status, len(want), text))
+    if reads is not None and [struct.unpack(">IxxH", c[8:]) for _, c in camera.commands] != reads:
+        note(case, "read %r" % camera.commands)
+
+
+def check_description():
+    data = bytes((7 * n + n // 256) % 256 for n in range(1501))
+    where = b"Local:a.xml;10000;5dd"
+    reads = [(0x200, 512), (0x10000, 512), (0x10200, 512), (0x10400, 480)]
+    nowhere = "gevacq: the description isn't in the camera\n"
+    description("1501 bytes", memory((where, b""), 0x10000, data), data, reads=reads)
+    for url in (b"LOCAL:;10000;5DD", b"local:///a b.zip;0x10000;0X5dd", b"lOcAl:a;00010000;000005dd?SchemaVersion=1.1.0", b"Local:a;10000;5dd\0;1;2"):
+        description("URL %r" % url, memory((url, b""), 0x10000, data), data, reads=reads)
+        description("second URL %r" % url, memory((b"http://a.example/a.xml", url), 0x10000, data), data, reads=[reads[0], (0x400, 512)] + reads[1:])
+    for url in (b"", b"File:a.xml;10000;5dd", b" Local:a;10000;5dd", b"Local;a;10000;5dd", b"Local:a;10000", b"Local:a;10000;5dd;", b"Local:10000;5dd", b"Local:a;;5dd", b"Local:a;0x;5dd",
+                b"Local:a;0x0x1;5dd", b"Local:a;000010000;5dd", b"Local:a;10000;0000005dd", b"Local:a;1000g;5dd", b"Local:a;10000;+5dd", b"Local:a;10000;0", b"Local:a;ffffff00;101", b"Local:a?;10000;5dd"):
+        description("URL %r" % url, memory((url, url), 0x10000, data), b"", 16, nowhere, [reads[0], (0x400, 512)])
+    description("the last bytes of the memory", memory((b"Local:a;ffffff00;100", b""), 0xFFFFFF00, data), data[:256], reads=[reads[0], (0xFFFFFF00, 256)])
+    refused = lambda command, answer: [acknowledge(READMEM, struct.unpack(">H", answer[6:8])[0], b"", 0x8003)]
+    description("a URL that is refused", memory((where, b""), 0x10000, data, lambda a, c, s, r: refused(a, r)), b"", 10, "gevacq: refused with status 0x8003\n", reads[:1])
+    description("a read that is refused", memory((where, b""), 0x10000, data, lambda a, c, s, r: refused(a, r) if a == 0x10200 else [r]), data[:512], 10, "gevacq: refused with status 0x8003\n", reads[:3])
+    description("a read that isn't answered", memory((where, b""), 0x10000, data, lambda a, c, s, r: [] if a == 0x10200 else [r]), data[:512], 9, "gevacq: no answer to request 3\n", reads[:3] + reads[2:3] * 2)
+    description("half the reads", memory((where, b""), 0x10000, data, lambda a, c, s, r: [r] if s == 1 else []), data, reads=[r for r in reads for _ in (0, 1)])
+    wrong = lambda r: [r[:8] + struct.pack(">I", 0) + r[12:], r[:4] + struct.pack(">H", 4) + r[6:12], r[:4] + struct.pack(">H", len(r) - 12) + r[6:-4], b"", r[:-1]]
+    description("acknowledges without what was asked for", memory((where, b""), 0x10000, data, lambda a, c, s, r: wrong(r) + [r]), data, reads=reads)
+    description("more bytes than asked for", memory((where, b""), 0x10000, data, lambda a, c, s, r: [r[:4] + struct.pack(">H", len(r) - 4) + r[6:] + b"more"]), data, reads=reads)
+    pending = lambda r: struct.pack(">HHHHHH", 0, 0x89, 4, struct.unpack(">H", r[6:8])[0], 0, 300)
+    description("PENDING", memory((where, b""), 0x10000, data, lambda a, c, s, r: [pending(r), r]), data, reads=reads)
+
+
+def check_words():
+    for words, place in ((["discover", "x"], 1), (["discover", "127.0.0.1", "127.0.0.1"], 2), (["discover", "1.2.3.256"], 1), (["discover", "01.2.3.4"], 1), (["discover", "1.2.3"], 1),
+                         (["discover", "1.2.3.4.5"], 1), (["discover", ""], 1), (["description"], 1), (["description", "1.2.3"], 1), (["description", "127.0.0.1", "1"], 2)):
+        status, out, err = run([], *words)
+        if (status, out, err.split("\n")[0]) != (2, b"", "gevacq: word %d isn't understood" % place):
+            note(" ".join(words), "status %d, %r, %r" % (status, out, err))
+
+
+# ---- somebody else's camera
+
+ARAVIS = """
+ip link set lo up
+arv-fake-gv-camera-0.8 -i lo >"$1/camera" 2>&1 &
+sleep 1
+"$2" discover 127.0.0.1 >"$1/lines" 2>"$1/said"
+"$2" description 127.0.0.1 >"$1/description" 2>>"$1/said"
+kill $!
+"""
+
+
+def check_aravis():
+    """Aravis' fake camera, in a network of its own. Answers why it isn't run, or nothing."""
+    for tool in ("arv-fake-gv-camera-0.8", "unshare", "ip"):
+        if not shutil.which(tool):
+            return "there is no " + tool
+    if os.geteuid() != 0 or subprocess.run(["unshare", "-n", "true"], capture_output=True).returncode:
+        return "a network of its own can't be made here"
+    with tempfile.TemporaryDirectory() as here:
+        subprocess.run(["unshare", "-n", "sh", "-c", ARAVIS, "sh", here, os.path.abspath(PROGRAM)], timeout=60)
+        with open(here + "/said") as it:
+            said = it.read()
+        with open(here + "/lines") as it:
+            lines = it.read().split("\n")
+        with open(here + "/description", "rb") as it:
+            description = it.read()
+    if said or len(lines) != 3 or not lines[0].startswith("camera 127.0.0.1 ") or lines[1] != "end cameras=1":
+        note("Aravis' fake camera", "%r, %r" % (said, lines))
+    if not (description.startswith(b"<?xml") and description.rstrip(b"\0 \n\r").endswith(b">")):
+        note("Aravis' fake camera", "a description of %d bytes, which begins with %r" % (len(description), description[:40]))
+    return ""
+
+
+def main():
+    try:
+        Camera("127.83.1.1", lambda command: []).end()
+    except OSError as error:
+        print("checks/cameras: skipped, since port %d of 127.83.1.1 can't be bound: %s" % (PORT, error))
+        return 0
+    check_words()
+    check_discover()
+    check_description()
+    why = check_aravis()
+    if why:
+        print("checks/cameras: Aravis' fake camera is skipped, since " + why)
+    for fault in faults:
+        print(fault, file=sys.stderr)
+    if not faults:
+        print("checks/cameras: discover and description answer as they have to")
+    return 1 if faults else 0
+
+
+sys.exit(main())
