@@ -33,8 +33,8 @@ stream 192.168.1.11:50002 192.168.1.2:49153 ids=standard datagrams=17 payload=60
 images=5 complete=3 incomplete=2 leader=0 small=0 trailer=0 payloads=2 short=0 absent=0 missing=3 late=0 repeat=0
 @50 block=65535 cause=displaced why=payloads missing=1 ids=2
 @130 block=65537[2] cause=stopped why=payloads missing=2 ids=1-2
-warning: the capture itself dropped 3 packets: so many of those that are missing here may have come. See (a) in docs/LOST_FRAMES.md
-6 packets of 5 images and 1 whole image never came to where the capture was made, and 1 packet came when the image was done: see (c) in docs/LOST_FRAMES.md.
+warning: the capture itself dropped 3 packets: so many of those that are missing here may have come
+6 packets of 5 images and 1 whole image aren't in the capture, and 1 packet came when the image was done: see (a) in docs/LOST_FRAMES.md, since the capture itself dropped 3 packets.
 """
 
 # Two streams to one port.
@@ -155,6 +155,8 @@ def timed(text, begins):
     if begins:
         return f"{HEAD}\n" + re.sub(r"^@(\d+)", clock, text, flags=re.M)
     text = re.sub(r"^warning: the capture itself dropped .*\n", "", text, flags=re.M)
+    unknown = ": where it dropped none itself, they were lost before it: see (a), then (c), in docs/LOST_FRAMES.md."
+    text = re.sub(r": see \(a\) in docs/LOST_FRAMES.md, since .*", unknown, text)
     return re.sub(r"^@(\d+)", r"\1 ms", text, flags=re.M)
 
 
