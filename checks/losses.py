@@ -47,6 +47,22 @@ warning: nothing is told of 192.168.1.11:50002 to 192.168.1.2:49152, since anoth
   tshark -r PATH -w alone.pcapng 'ip.src==192.168.1.11 && udp.srcport==50002 && ip.dst==192.168.1.2 && udp.dstport==49152'
 """
 
+# A camera that was started anew.
+ANEW = """\
+stream 192.168.1.10:50001 192.168.1.2:49152 ids=extended datagrams=20 payload=1000 leaders=4 width=60 height=50 pixel=0x01080001 bytes=3000 first=1 last=2 ms=160
+images=2 complete=2 incomplete=0 leader=0 small=0 trailer=0 payloads=0 short=0 absent=0 missing=0 late=10 repeat=0
+warning: 192.168.1.10:50001 to 192.168.1.2:49152: of 2 images whose block ids aren't new nothing is told: if the camera was started anew, cut the capture there (editcap)
+No packet is missing of the images that are told here; the warnings say of what nothing is told.
+"""
+
+# One whose images are whole, and the last of which the capture doesn't hear to its end.
+WHOLE = """\
+stream 192.168.1.10:50001 192.168.1.2:49152 ids=extended datagrams=7 payload=1000 leaders=2 width=60 height=50 pixel=0x01080001 bytes=3000 first=1 last=2 ms=40
+images=2 complete=1 incomplete=1 leader=0 small=0 trailer=1 payloads=1 short=0 absent=0 missing=3 late=0 repeat=0
+@40 block=2 cause=stopped why=trailer,payloads missing=3 ids=2-4 (the capture may end within it)
+All packets of all images are in the capture, but for what may lie before its begin or behind its end: what the application lacks was lost behind it: see (b) in docs/LOST_FRAMES.md.
+"""
+
 
 class Camera:
     """A camera that sends images of so many rows and columns in payloads of so many bytes to a port of the host."""
@@ -160,62 +176,83 @@ def timed(text, begins):
     return re.sub(r"^@(\d+)", r"\1 ms", text, flags=re.M)
 
 
-def main():
-    program = os.path.abspath(sys.argv[1])
-    faults = []
+class Check:
+    """What differs, of a program over captures that are written into a room of their own."""
 
-    def wants(path, wanted, tool="tools/losses"):
-        found = tell(path, tool)
+    def __init__(self, program, room):
+        self.program, self.room, self.faults = program, room, []
+        self.begins = b" begin=" in run(program, ["streams"], capture_of(two_streams(), []))
+
+    def write(self, name, data):
+        with open(f"{self.room}/{name}", "wb") as file:
+            file.write(data)
+        return f"{self.room}/{name}"
+
+    def wants(self, path, status, output, errors="", tool="tools/losses"):
+        wanted, found = (status, output, errors), tell(path, tool)
         for left, right in itertools.zip_longest(*("\n".join(map(str, it)).splitlines() for it in (wanted, found))):
             if left != right:
-                faults.append(f"{path}: {right!r}, not {left!r}")
-                break
+                self.faults.append(f"{path}: {right!r}, not {left!r}")
+                return
 
-    with tempfile.TemporaryDirectory() as room:
+    def warns(self, path, text):
+        status, output, _ = tell(path)
+        if status or f"warning: {text}" not in output:
+            self.faults.append(f"{path}: no warning of {text}")
 
-        def write(name, data):
-            with open(f"{room}/{name}", "wb") as file:
-                file.write(data)
-            return f"{room}/{name}"
-
+    def losses(self):
+        """The capture of two streams, as it is, packed, and read by a program that tells neither drops nor its begin."""
         capture = capture_of(two_streams(), [2, 3])
-        begins = b" begin=" in run(program, ["streams"], capture)
-        two = write("two.pcapng", capture)
-        wants(two, (0, timed(WANTED, begins), ""))
+        path = self.write("two.pcapng", capture)
+        self.wants(path, 0, timed(WANTED, self.begins))
         if shutil.which("gzip"):
             packed = gzip.compress(capture)
-            wants(write("two.pcapng.gz", packed), (0, timed(WANTED, begins), ""))
-            status, text, _ = tell(write("half.gz", packed[: len(packed) // 2]))
-            if status or "warning: gzip couldn't unpack all of it" not in text:
-                faults.append("nothing is said of a file that gzip can't unpack")
-        # a program that tells neither drops nor the time of its begin
-        os.makedirs(f"{room}/tools")
-        shutil.copy("tools/losses", f"{room}/tools")
-        write("gevacq", f"#!/bin/sh\n'{program}' \"$@\" | sed 's/ dropped=[0-9]* begin=[0-9]*$//'\n".encode())
-        os.chmod(f"{room}/gevacq", 0o755)
-        wants(two, (0, timed(WANTED, False), ""), f"{room}/tools/losses")
-        status, text, _ = tell(write("cut.pcapng", capture[:-5]))
-        if status or "cut off: the capture is refused there, and nothing is told of the rest" not in text:
-            faults.append("nothing is said of a capture that is cut off")
-        mixed = Camera(10, 50001, 49152, True, 60, 50, 1000).image(0, 1) + Camera(11, 50002, 49152, False, 40, 30, 600).image(0, 9)
-        path = write("mixed.pcapng", capture_of(mixed, []))
-        wants(path, (0, timed(MIXED, begins).replace("PATH", path), ""))
-        path = write("none.pcapng", capture_of([], []))
-        wants(path, (0, "There is no image stream in 0 packets: a stream begins with a leader.\n", ""))
-        path = write("script", b"gevacq 1 528 1 1000 100 2\n")
-        wants(path, (1, "", f"losses: {path}: record 1: magic: the capture is refused there, and nothing is told of the rest\n"))
-        wants(f"{room}/missing", (1, "", f"losses: {room}/missing: No such file or directory\n"))
-        for path in (EXAMPLE, two):
-            status, text, _ = tell(path)
-            lines = text.splitlines()
-            for line, counts in figures(program, path):
-                if status or line not in lines or lines[lines.index(line) + 1] != counts:
-                    faults.append(f"{path}: explain counts {counts} of {line}")
-    for fault in faults:
+            self.wants(self.write("two.pcapng.gz", packed), 0, timed(WANTED, self.begins))
+            self.warns(self.write("half.gz", packed[: len(packed) // 2]), "gzip couldn't unpack all of it")
+        self.warns(self.write("cut.pcapng", capture[:-5]), "record 61: cut off: the capture is refused there")
+        os.makedirs(f"{self.room}/tools")
+        shutil.copy("tools/losses", f"{self.room}/tools")
+        self.write("gevacq", f"#!/bin/sh\n'{self.program}' \"$@\" | sed 's/ dropped=[0-9]* begin=[0-9]*$//'\n".encode())
+        os.chmod(f"{self.room}/gevacq", 0o755)
+        self.wants(path, 0, timed(WANTED, False), tool=f"{self.room}/tools/losses")
+        return path
+
+    def untold(self):
+        """Captures of which not all can be told."""
+        one, two = Camera(10, 50001, 49152, True, 60, 50, 1000), Camera(11, 50002, 49152, False, 40, 30, 600)
+        path = self.write("mixed.pcapng", capture_of(one.image(0, 1) + two.image(0, 9), []))
+        self.wants(path, 0, timed(MIXED, self.begins).replace("PATH", path))
+        anew = one.image(0, 1) + one.image(40, 2) + one.image(120, 1) + one.image(160, 2)
+        self.wants(self.write("anew.pcapng", capture_of(anew, [])), 0, timed(ANEW, self.begins))
+        whole = one.image(0, 1) + one.image(40, 2, [2, 3, TRAILER])
+        self.wants(self.write("whole.pcapng", capture_of(whole, [])), 0, timed(WHOLE, self.begins))
+        none = "There is no image stream in 0 packets: a stream begins with a leader.\n"
+        self.wants(self.write("none.pcapng", capture_of([], [])), 0, none)
+        path = self.write("script", b"gevacq 1 528 1 1000 100 2\n")
+        self.wants(path, 1, "", f"losses: {path}: record 1: magic: the capture is refused there, and nothing is told of the rest\n")
+        path = f"{self.room}/missing"
+        self.wants(path, 1, "", f"losses: {path}: No such file or directory\n")
+
+    def counts(self, path):
+        """Compares the counts with those of the notes; gives how many streams there are."""
+        lines, wanted = tell(path)[1].splitlines(), figures(self.program, path)
+        for line, counts in wanted:
+            if line not in lines or lines[lines.index(line) + 1] != counts:
+                self.faults.append(f"{path}: explain counts {counts} of {line}")
+        return len(wanted)
+
+
+def main():
+    with tempfile.TemporaryDirectory() as room:
+        check = Check(os.path.abspath(sys.argv[1]), room)
+        two = check.losses()
+        check.untold()
+        streams = check.counts(EXAMPLE) + check.counts(two)
+    for fault in check.faults:
         print(f"checks/losses: {fault}", file=sys.stderr)
-    if faults:
+    if check.faults or streams != 3:
         sys.exit(1)
-    print("checks/losses: its figures of 3 streams are those of explain, and of 2 what was lost; so are its faults")
+    print("checks/losses: its figures of 3 streams are those of explain, and of 2 what was lost; so are its faults and warnings")
 
 
 if __name__ == "__main__":
