@@ -7,7 +7,7 @@ use Rattle.gev_status.specs.declared.status.Status.TheVariants.{LinkFault}
 use Rattle.gev_top.specs.declared.command.Command.{Command}
 use Rattle.gev_top.specs.declared.command.Command.TheVariants.{Replay, Explain, Image, Streams, Capture, Camera, Make, Soak}
 use Rattle.gev_top.specs.declared.errand.Errand.{Errand}
-use Rattle.gev_top.specs.declared.errand.Errand.TheVariants.{Plain}
+use Rattle.gev_top.specs.declared.errand.Errand.TheVariants.{Plain, Discover, Description}
 use Rattle.gev_top.specs.Usage.{Said}
 use Rattle.gev_top.specs.Answers.{Answers}
 use Rattle.gev_top.specs.Soaking.{status_after}
@@ -42,3 +42,9 @@ said_is made asked said a b = let e : Ok made ≡ Ok asked = a ∙ b in cc
 
 pub command_is : (made asked : Command) (errand : Errand) → errand ≡ Plain made → errand ≡ Plain asked → made ≡ asked
 command_is made asked errand a b = let e : Plain made ≡ Plain asked = sym a ∙ b in cc
+
+pub discover_is : (made asked : ℕ) (errand : Errand) → errand ≡ Discover made → errand ≡ Discover asked → made ≡ asked
+discover_is made asked errand a b = let e : Discover made ≡ Discover asked = sym a ∙ b in cc
+
+pub description_is : (made asked : ℕ) (errand : Errand) → errand ≡ Description made → errand ≡ Description asked → made ≡ asked
+description_is made asked errand a b = let e : Description made ≡ Description asked = sym a ∙ b in cc

@@ -1,4 +1,4 @@
-use Rattle.std.proofs.Common.{ℕ, sym, ◌∙◌, subst, arith}
+use Rattle.std.proofs.Common.{ℕ, refl, sym, ◌∙◌, subst, arith}
 use Rattle.gev_status.specs.declared.status.Status.{Status}
 use Rattle.gev_top.specs.Completeness.{EndsSearch}
 use Rattle.gev_call.proofs.Faced.{search_links, search_writes, search_says, search_ends}

@@ -1,7 +1,8 @@
 -- A command over source and sink alone.
-use Rattle.std.proofs.Common.{sym, ◌∙◌}
+use Rattle.std.proofs.Common.{sym, ◌∙◌, subst}
 use Rattle.gev_top.specs.declared.command.Command.TheVariants as commands
-use Rattle.gev_call.proofs.Errands.{command_is, never_links}
+use Rattle.gev_call.specs.Cameras.{DiscoversOver, DescribesOver}
+use Rattle.gev_call.proofs.Errands.{command_is, discover_is, description_is, never_links}
 use Rattle.gev_call.proofs.Replaying.{replay_headline, explain_headline}
 use Rattle.gev_call.proofs.Completing.{plain_completes}
 use Rattle.gev_call.proofs.top.run_errand.Goals as goal
@@ -21,3 +22,25 @@ returns-in-Plain-clause-complete g c =
 
 pub returns-in-Plain-clause-link_fault : goal.returns-in-Plain-clause-link_fault
 returns-in-Plain-clause-link_fault g c = λ is. absurd (never_links c.in-Plain.command c.run_command.result _ _ _ _ _ _ _ _ c.run_command.ensures.cause is)
+
+pub returns-in-Discover-clause-discovers : goal.returns-in-Discover-clause-discovers
+returns-in-Discover-clause-discovers g c =
+    λ asked is.
+    subst
+    (λ at. DiscoversOver g.P.L.Link.received g.P.L.Link.sent g.P.C.Clock.told at c.run_discover.result
+    (g.P.Ports.links c.args.ports.now) (g.P.Ports.links c.run_discover.new.ports)
+    (g.P.Ports.clocks c.args.ports.now) (g.P.Ports.clocks c.run_discover.new.ports)
+    (g.K.Sink.written c.args.sink.now) (g.K.Sink.written c.run_discover.new.sink))
+    (discover_is c.in-Discover.address asked c.args.errand c.in-Discover.is is)
+    c.run_discover.ensures.discovers
+
+pub returns-in-Description-clause-describes : goal.returns-in-Description-clause-describes
+returns-in-Description-clause-describes g c =
+    λ asked is.
+    subst
+    (λ at. DescribesOver g.P.L.Link.received g.P.L.Link.sent g.P.C.Clock.told at c.run_description.result
+    (g.P.Ports.links c.args.ports.now) (g.P.Ports.links c.run_description.new.ports)
+    (g.P.Ports.clocks c.args.ports.now) (g.P.Ports.clocks c.run_description.new.ports)
+    (g.K.Sink.written c.args.sink.now) (g.K.Sink.written c.run_description.new.sink))
+    (description_is c.in-Description.camera asked c.args.errand c.in-Description.is is)
+    c.run_description.ensures.describes
