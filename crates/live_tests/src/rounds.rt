@@ -1,7 +1,7 @@
 //! What goes round between a reader and its lanes, on one thread.
 
 ghost use Rattle.std.specs.Prelude.{◌<◌, length, IfSome};
-ghost use Rattle.gev_lanes.specs.Sides.{AreReadersOf, AreLanesOf, IsLaneAt};
+ghost use Rattle.gev_lanes.specs.Sides.{AreReadersOf, AreKept, AreLanesOf, IsLaneAt};
 
 use gev_lanes::{CellKind, LaneEnds, Lanes, ReaderEnds, lane_ends_cross, lanes_are_shared};
 use gev_links::MemoryLink;
@@ -47,6 +47,7 @@ fn goes_round<R: Wait>(
     lane: &mut LaneEnds,
 ) -> bool
     requires reader { AreReadersOf lanes.now reader.old }
+    requires kept { AreKept reader.old }
     requires number { number < length lanes.now }
     requires lane { IsLaneAt lanes.now lane.old }
 {
@@ -86,7 +87,9 @@ fn cells_and_requests_go_round(rt: HostRuntime) -> Result<(), Fail> {
 fn hear_many<R: Wait>(rt: &R, lanes: &Lanes, reader: &mut ReaderEnds)
     requires reader { AreReadersOf lanes.now reader.old }
     requires some { 0 < length lanes.now }
+    requires kept { AreKept reader.old }
     ensures reader { AreReadersOf lanes.now reader.new }
+    ensures kept { AreKept reader.new }
 {
     'moments: for moment in 1..66 {
         bring_to_lane(rt, lanes, reader, moment, &[1, 2, 3]);
