@@ -36,6 +36,8 @@ STATUSES = {
     "description": {9},
 }
 
+# What a live run tells of its losses, where it began, before that text.
+TOLD_COUNTS = r"(counts( [a-z]+=\d+)+\n)?"
 # The text on standard error, by the status.
 TEXTS = {
     0: r"",
@@ -548,7 +550,8 @@ def judge(program, words, data):
     """Runs the program and judges what it wrote."""
     status, text, error = output_of(program, words, data)
     wants(status in TEXTS, f"status {status}")
-    wants(re.fullmatch(TEXTS[status].encode(), error), f"status {status} with the text {error[:200]}")
+    told = TOLD_COUNTS if words[:1] in ([b"live"], [b"record"]) else ""
+    wants(re.fullmatch((told + TEXTS[status]).encode(), error), f"status {status} with the text {error[:200]}")
     if status == 2:
         wants(text == b"", "words that aren't understood, and an output")
         return
