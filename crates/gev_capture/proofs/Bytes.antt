@@ -8,7 +8,7 @@ use Rattle.gev_capture.specs.declared.kind.CaptureKind.{CaptureKind}
 use Rattle.gev_capture.specs.declared.kind.CaptureKind.TheVariants.{Magic, Version, Length, Interface}
 use Rattle.gev_capture.specs.declared.form.SectionInterface.{SectionInterface}
 use Rattle.gev_capture.specs.Numbers.{number}
-use Rattle.gev_capture.specs.Files.{Packet, Format, fresh, classic, section, Told, wants, refused, given, need, test, packet_at, classic_magic, classic_header, classic_time, classic_record, told_classic, byte_order, is_total, whole, interface_block, block_time, on_interface, counted_packet, packet_block, simple_count, simple_on, simple_block, body_told, sized_block, versioned, told_section, section_type, begun_section, told_block, opens_as, told}
+use Rattle.gev_capture.specs.Files.{Packet, Format, fresh, classic, section, Told, wants, refused, given, need, test, packet_at, classic_magic, classic_header, classic_time, classic_record, told_classic, byte_order, is_total, whole, interface_block, block_time, on_interface, counted_packet, packet_block, simple_count, simple_on, simple_block, told_dropped, statistics_in, statistics_on, statistics_block, body_told, sized_block, versioned, told_section, section_type, begun_section, told_block, opens_as, told}
 use Rattle.gev_capture.specs.Captures.{Read, Refusal, AreRecords, with_packet, packets_in}
 use Rattle.gev_capture.specs.Laws.{AreBytes, HasBytes, PacketsHaveBytes}
 
@@ -90,12 +90,23 @@ simple_tells : (order : Order) (interfaces : List SectionInterface) (time total 
 simple_tells order interfaces time total bytes all =
     test_tells (nat_le 16 total) Length _ (simple_on_tells order interfaces time total (slice_get interfaces 0) bytes all)
 
+statistics_on_tells : (order : Order) (interfaces : List SectionInterface) (time total i : ℕ) (interface : Option SectionInterface) (found : Option ℕ) → TellsBytes (statistics_on order interfaces time total i interface found)
+statistics_on_tells order interfaces time total i (Some interface) (Some n) = tt
+statistics_on_tells order interfaces time total i (Some interface) None = tt
+statistics_on_tells order interfaces time total i None found = tt
+
+statistics_tells : (order : Order) (interfaces : List SectionInterface) (time total : ℕ) (bytes : List ℕ) → TellsBytes (statistics_block order interfaces time total bytes)
+statistics_tells order interfaces time total bytes =
+    if_tells (nat_lt total 24) _ _ tt
+    (statistics_on_tells order interfaces time total (number order 8 4 bytes) (slice_get interfaces (number order 8 4 bytes)) (told_dropped order (statistics_in total bytes)))
+
 body_tells : (order : Order) (interfaces : List SectionInterface) (time total type : ℕ) (bytes : List ℕ) → AreBytes bytes → TellsBytes (body_told order interfaces time total type bytes)
 body_tells order interfaces time total type bytes all =
     if_tells (type == 1) _ _ (interface_tells order interfaces time total bytes)
     (if_tells (type == 6) _ _ (packet_tells order interfaces total (number order 8 4 bytes) bytes all)
     (if_tells (type == 2) _ _ (packet_tells order interfaces total (number order 8 2 bytes) bytes all)
-    (if_tells (type == 3) _ _ (simple_tells order interfaces time total bytes all) tt)))
+    (if_tells (type == 3) _ _ (simple_tells order interfaces time total bytes all)
+    (if_tells (type == 5) _ _ (statistics_tells order interfaces time total bytes) tt))))
 
 sized_tells : (order : Order) (interfaces : List SectionInterface) (time total : ℕ) (bytes : List ℕ) → AreBytes bytes → TellsBytes (sized_block order interfaces time total bytes)
 sized_tells order interfaces time total bytes all =

@@ -10,7 +10,7 @@ use Rattle.gev_capture.specs.declared.kind.CaptureKind.{CaptureKind}
 use Rattle.gev_capture.specs.declared.kind.CaptureKind.TheVariants.{Magic, Version, Length, Interface}
 use Rattle.gev_capture.specs.declared.form.SectionInterface.{SectionInterface}
 use Rattle.gev_capture.specs.Numbers.{number}
-use Rattle.gev_capture.specs.Files.{Packet, Format, fresh, classic, section, Told, wants, given, need, test, packet_at, classic_magic, classic_header, classic_time, classic_record, told_classic, resolution, parts_of, options_in, interface_in, byte_order, is_total, whole, interface_block, block_time, on_interface, counted_packet, packet_block, simple_count, simple_sized, simple_on, simple_block, body_told, sized_block, versioned, sized_section, told_section, section_type, begun_section, told_block, opens_as}
+use Rattle.gev_capture.specs.Files.{Packet, captured, Format, fresh, classic, section, Told, wants, given, need, test, packet_at, classic_magic, classic_header, classic_time, classic_record, told_classic, resolution, parts_of, options_in, interface_in, byte_order, is_total, whole, interface_block, block_time, on_interface, counted_packet, packet_block, simple_count, simple_sized, simple_on, simple_block, told_dropped, statistics_in, statistics_on, statistics_block, body_told, sized_block, versioned, sized_section, told_section, section_type, begun_section, told_block, opens_as}
 use Rattle.gev_capture.specs.Laws.{Stays, PiecesTell}
 
 -- numbers and slices that are there
@@ -70,7 +70,7 @@ same_packet time time' link at n bytes more e there =
     ap (λ (t : ℕ). packet_at t link at n (bytes ++ more)) e ∙ ap (λ (bs : List ℕ). packed time link bs) (same_slice at n bytes more there)
   where
     packed : ℕ → ℕ → List ℕ → Packet
-    packed t l bs = record { time = t; link = l; bytes = bs }
+    packed t l bs = captured (record { time = t; link = l; bytes = bs })
 
 classic_record_stays : (order : Order) (parts link n : ℕ) (bytes more : List ℕ) → 16 ≤ length bytes
     → Stays (length bytes) (classic_record order parts link n bytes) (classic_record order parts link n (bytes ++ more))
@@ -115,7 +115,7 @@ same_interface order total bytes more some within =
     ∙ ap (λ (os : List ℕ). of_interface (number order 8 2 bytes) (number order 12 4 bytes) os) (same_slice 16 (total - 4 - 16) bytes more (omega arith))
   where
     of_interface : ℕ → ℕ → List ℕ → SectionInterface
-    of_interface l m os = record { link = l; most = m; parts = parts_of (resolution (length os) order 6 os) }
+    of_interface l m os = record { link = l; most = m; parts = parts_of (resolution (length os) order 6 os); dropped = 0 }
 
 interface_block_stays : (order : Order) (interfaces : List SectionInterface) (time total : ℕ) (bytes more : List ℕ) → 12 ≤ total → total ≤ length bytes
     → Stays (length bytes) (interface_block order interfaces time total bytes) (interface_block order interfaces time total (bytes ++ more))
@@ -190,6 +190,32 @@ simple_block_stays order interfaces time total bytes more within =
     test_stays (length bytes) (nat_le 16 total) (nat_le 16 total) Length _ _ refl (λ has.
     simple_on_stays order interfaces time total (slice_get interfaces 0) bytes more (leb-true 16 total has) within)
 
+statistics_on_stays : (order : Order) (interfaces : List SectionInterface) (time total i n : ℕ) (interface : Option SectionInterface) (found : Option ℕ) → 12 ≤ total → total ≤ n
+    → Stays n (statistics_on order interfaces time total i interface found) (statistics_on order interfaces time total i interface found)
+statistics_on_stays order interfaces time total i n (Some interface) (Some m) some within = (refl, omega arith, within)
+statistics_on_stays order interfaces time total i n (Some interface) None some within = (refl, omega arith, within)
+statistics_on_stays order interfaces time total i n None found some within = (refl, omega arith, within)
+
+statistics_block_stays : (order : Order) (interfaces : List SectionInterface) (time total : ℕ) (bytes more : List ℕ) → 12 ≤ total → total ≤ length bytes
+    → Stays (length bytes) (statistics_block order interfaces time total bytes) (statistics_block order interfaces time total (bytes ++ more))
+statistics_block_stays order interfaces time total bytes more some within = go (nat_lt total 24) refl where
+  skipped : Told
+  skipped = given total (section order interfaces time) None
+
+  by : ℕ → List ℕ → Told
+  by i options = statistics_on order interfaces time total i (slice_get interfaces i) (told_dropped order options)
+
+  go : (b : Bool) → nat_lt total 24 ≡ b
+      → Stays (length bytes) (if b then skipped else by (number order 8 4 bytes) (statistics_in total bytes)) (if b then skipped else by (number order 8 4 (bytes ++ more)) (statistics_in total (bytes ++ more)))
+  go true few = (refl, omega arith, within)
+  go false many =
+      let has : 24 ≤ total = ltb-false total 24 many in
+      let same = same_number order 8 4 bytes more (omega arith) in
+      let options = same_slice 20 (total - 4 - 20) bytes more (omega arith) in
+      subst (λ (i : ℕ). Stays (length bytes) (by (number order 8 4 bytes) (statistics_in total bytes)) (by i (statistics_in total (bytes ++ more)))) (sym same)
+      (subst (λ (os : List ℕ). Stays (length bytes) (by (number order 8 4 bytes) (statistics_in total bytes)) (by (number order 8 4 bytes) os)) (sym options)
+      (statistics_on_stays order interfaces time total (number order 8 4 bytes) (length bytes) (slice_get interfaces (number order 8 4 bytes)) (told_dropped order (statistics_in total bytes)) some within))
+
 body_told_stays : (order : Order) (interfaces : List SectionInterface) (time total type : ℕ) (bytes more : List ℕ) → 12 ≤ total → total ≤ length bytes
     → Stays (length bytes) (body_told order interfaces time total type bytes) (body_told order interfaces time total type (bytes ++ more))
 body_told_stays order interfaces time total type bytes more some within =
@@ -202,7 +228,8 @@ body_told_stays order interfaces time total type bytes more some within =
     (subst (λ (i : ℕ). Stays n (packet_block order interfaces total (number order 8 2 bytes) bytes) (packet_block order interfaces total i (bytes ++ more)))
     (sym (same_number order 8 2 bytes more (omega arith))) (packet_block_stays order interfaces total (number order 8 2 bytes) bytes more within))
     (if_stays n (type == 3) (type == 3) _ _ _ _ refl (simple_block_stays order interfaces time total bytes more within)
-    (refl, omega arith, within))))
+    (if_stays n (type == 5) (type == 5) _ _ _ _ refl (statistics_block_stays order interfaces time total bytes more some within)
+    (refl, omega arith, within)))))
 
 sized_block_stays : (order : Order) (interfaces : List SectionInterface) (time total : ℕ) (bytes more : List ℕ) → 8 ≤ length bytes
     → Stays (length bytes) (sized_block order interfaces time total bytes) (sized_block order interfaces time total (bytes ++ more))

@@ -20,12 +20,15 @@ pub data Seen : Type 0 where
   -- one of which not all bytes were captured
   cut : Seen
   datagram : Carried → Seen
+  -- no packet: the capturing program has dropped so many of an interface's, as it told before and as it tells now
+  lost : ℕ → ℕ → Seen
 
 -- what a packet of the code is
 abbrev pub seen_as : Content → Seen
 seen_as content.Other = other
 seen_as content.Fragment = fragment
 seen_as content.Cut = cut
+seen_as (content.Dropped before now) = lost before now
 seen_as (content.Datagram sender receiver bytes) = datagram (record { sender = sender; receiver = receiver; bytes = bytes.now })
 
 -- ---- where the network layer begins
@@ -132,6 +135,7 @@ abbrev pub IsShort : Seen → Type 0
 IsShort other = ⊤
 IsShort fragment = ⊤
 IsShort cut = ⊤
+IsShort (lost before now) = ⊤
 IsShort (datagram carried) = length carried.bytes ≤ 65527
 
 -- ---- moments

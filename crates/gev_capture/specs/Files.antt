@@ -1,6 +1,6 @@
 -- What the bytes of a capture are: a pcap file (the classic format of libpcap) or a pcapng file, record
 -- after record, with the packets that were captured and how the capture ends.
-use Rattle.std.specs.Prelude.{ℕ, zero, suc, ◌+◌, ◌-◌, ◌*◌, ◌/◌, ◌%◌, ◌^◌, ◌==◌, ◌&&◌, ◌||◌, nat_le, nat_lt, min, List, [], ◌∷◌, ◌++◌, length, take, drop, slice_index, slice_get, Bool, Option, Some, None, if◌then◌else◌}
+use Rattle.std.specs.Prelude.{ℕ, zero, suc, ◌+◌, ◌-◌, ◌*◌, ◌/◌, ◌%◌, ◌^◌, ◌==◌, ◌&&◌, ◌||◌, nat_le, nat_lt, min, List, [], ◌∷◌, ◌++◌, length, take, drop, slice_index, slice_get, slice_set, Bool, Option, Some, None, if◌then◌else◌}
 use Rattle.gev_capture.specs.declared.order.Order.{Order}
 use Rattle.gev_capture.specs.declared.order.Order.TheVariants.{Big, Little}
 use Rattle.gev_capture.specs.declared.kind.CaptureKind.{CaptureKind}
@@ -9,10 +9,18 @@ use Rattle.gev_capture.specs.declared.form.SectionInterface.{SectionInterface}
 use Rattle.gev_capture.specs.Numbers.{number}
 
 -- A packet as it was captured: its time in nanoseconds, rounded down, its link type and its bytes.
-pub record Packet : Type 0 where
+pub record Frame : Type 0 where
   pub time : ℕ
   pub link : ℕ
   pub bytes : List ℕ
+
+-- What a record tells of packets.
+pub data Packet : Type 0 where
+  -- one was captured
+  captured : Frame → Packet
+  -- the capturing program has dropped so many of an interface's: as it told of the interface before, 0 where it
+  -- hadn't, and as it tells now
+  dropped : ℕ → ℕ → Packet
 
 -- What is known of the format behind the records so far.
 pub data Format : Type 0 where
@@ -42,7 +50,7 @@ test good kind next = if good then next else refused kind
 
 -- the n bytes from a place on, as a packet
 abbrev pub packet_at : ℕ → ℕ → ℕ → ℕ → List ℕ → Packet
-packet_at time link at n bytes = record { time = time; link = link; bytes = take n (drop at bytes) }
+packet_at time link at n bytes = captured (record { time = time; link = link; bytes = take n (drop at bytes) })
 
 -- ---- pcap
 
@@ -114,6 +122,7 @@ interface_in order total bytes = record {
   link = number order 8 2 bytes;
   most = number order 12 4 bytes;
   parts = parts_of (resolution (length (options_in total bytes)) order 6 (options_in total bytes));
+  dropped = 0;
 }
 
 -- ---- pcapng: blocks
@@ -179,6 +188,42 @@ abbrev pub simple_block : Order → List SectionInterface → ℕ → ℕ → Li
 simple_block order interfaces time total bytes =
     test (nat_le 16 total) Length (simple_on order interfaces time total (slice_get interfaces 0) bytes)
 
+-- ---- pcapng: the statistics of an interface
+
+-- the first option tells how many packets were dropped: it has the code 5 and eight bytes
+abbrev pub is_dropped : Order → List ℕ → Bool
+is_dropped order bytes = number order 0 2 bytes == 5 && number order 2 2 bytes == 8
+
+abbrev pub with_dropped : Order → Option ℕ → List ℕ → Option ℕ
+with_dropped order found bytes = if is_dropped order bytes then Some (number order 4 8 bytes) else found
+
+-- How many were dropped by the options, the last that tells it. The first number only counts down.
+abbrev pub dropped_in : ℕ → Order → Option ℕ → List ℕ → Option ℕ
+dropped_in zero order found bytes = found
+dropped_in (suc more) order found bytes =
+    if has_ended order bytes then found
+    else dropped_in more order (with_dropped order found bytes) (drop (option_size order bytes) bytes)
+
+-- the options of a block of so many bytes, behind the 12 bytes of a statistics block's body
+abbrev pub statistics_in : ℕ → List ℕ → List ℕ
+statistics_in total bytes = take (total - 4 - 20) (drop 20 bytes)
+
+abbrev pub told_dropped : Order → List ℕ → Option ℕ
+told_dropped order options = dropped_in (length options) order None options
+
+-- of interface i, where it's there and this is told
+abbrev pub statistics_on : Order → List SectionInterface → ℕ → ℕ → ℕ → Option SectionInterface → Option ℕ → Told
+statistics_on order interfaces time total i (Some interface) (Some n) =
+    given total (section order (slice_set interfaces i (record interface { dropped = n })) time) (Some (dropped interface.dropped n))
+statistics_on order interfaces time total i (Some interface) None = given total (section order interfaces time) None
+statistics_on order interfaces time total i None found = given total (section order interfaces time) None
+
+-- It's never refused: where it tells nothing, it's skipped.
+abbrev pub statistics_block : Order → List SectionInterface → ℕ → ℕ → List ℕ → Told
+statistics_block order interfaces time total bytes =
+    if nat_lt total 24 then given total (section order interfaces time) None
+    else statistics_on order interfaces time total (number order 8 4 bytes) (slice_get interfaces (number order 8 4 bytes)) (told_dropped order (statistics_in total bytes))
+
 -- by the block's type; what isn't known is skipped
 abbrev pub body_told : Order → List SectionInterface → ℕ → ℕ → ℕ → List ℕ → Told
 body_told order interfaces time total type bytes =
@@ -186,6 +231,7 @@ body_told order interfaces time total type bytes =
     else if type == 6 then packet_block order interfaces total (number order 8 4 bytes) bytes
     else if type == 2 then packet_block order interfaces total (number order 8 2 bytes) bytes
     else if type == 3 then simple_block order interfaces time total bytes
+    else if type == 5 then statistics_block order interfaces time total bytes
     else given total (section order interfaces time) None
 
 abbrev pub sized_block : Order → List SectionInterface → ℕ → ℕ → List ℕ → Told

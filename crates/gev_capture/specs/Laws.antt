@@ -1,7 +1,7 @@
 -- Laws of captures, in words of their own.
-use Rattle.std.specs.Prelude.{◌≡◌, ℕ, ◌<◌, ◌≤◌, List, ◌++◌, length, Option}
+use Rattle.std.specs.Prelude.{⊤, ◌≡◌, ℕ, ◌<◌, ◌≤◌, List, ◌++◌, length, Option}
 use Rattle.std.specs.List.{AllByRecursion}
-use Rattle.gev_capture.specs.Files.{Packet, Format, Told, wants, refused, given, told}
+use Rattle.gev_capture.specs.Files.{Packet, captured, dropped, Format, Told, wants, refused, given, told}
 use Rattle.gev_capture.specs.Captures.{Refusal, HasCaptured}
 
 -- What n bytes tell, beside what they tell with more behind them: more bytes are wanted than there are, or the
@@ -35,7 +35,8 @@ AreBytes bytes = AllByRecursion (λ b. b < 256) bytes
 
 -- the bytes of a packet are bytes
 abbrev pub HasBytes : Packet → Type 0
-HasBytes packet = AreBytes packet.bytes
+HasBytes (captured frame) = AreBytes frame.bytes
+HasBytes (dropped before now) = ⊤
 
 -- The packets of a capture of bytes have bytes.
 abbrev pub PacketsHaveBytes : Type 0

@@ -3,12 +3,13 @@ use Rattle.std.specs.Prelude.{◌≡◌, ℕ, ◌≤◌, List, [], ◌∷◌, le
 use Rattle.gev_links.specs.Given.{one_more}
 use Rattle.gev_capture.specs.declared.form.SectionInterface.{SectionInterface}
 use Rattle.gev_capture.specs.declared.form.Form.{Form}
-use Rattle.gev_capture.specs.declared.step.Slot.{Slot}
+use Rattle.gev_capture.specs.declared.step.Entry.{Entry}
 use Rattle.gev_capture.specs.declared.captured.Captured.{Captured}
+use Rattle.gev_capture.specs.declared.captured.Captured.TheVariants as lent
 use Rattle.gev_capture.specs.declared.capture_end.CaptureEnd.{CaptureEnd}
-use Rattle.gev_capture.specs.Files.{Packet, Format, given, told}
+use Rattle.gev_capture.specs.Files.{Packet, captured, dropped, Format, given, told}
 use Rattle.gev_capture.specs.Captures.{Read}
-use Rattle.gev_capture.specs.Steps.{format_of, slot_packet, HasParts, HaveParts, StandsWithin}
+use Rattle.gev_capture.specs.Steps.{format_of, entry_packet, HasParts, HaveParts, StandsWithin}
 use Rattle.gev_capture.specs.Reading.{ReadsOn, CauseOfEnd}
 
 pub record CaptureState : Type 0 where
@@ -22,24 +23,25 @@ pub record CaptureState : Type 0 where
   pub held : List ℕ
 
 -- what a reader shows: the record that was given last stands at the front of its room
-abbrev pub state_of : Form → List SectionInterface → ℕ → ℕ → Option Slot → List ℕ → CaptureState
-state_of form interfaces records size slot room = record {
+abbrev pub state_of : Form → List SectionInterface → ℕ → ℕ → Option Entry → List ℕ → CaptureState
+state_of form interfaces records size entry room = record {
   format = format_of form interfaces;
   records = records;
-  packet = option_map (slot_packet room) slot;
+  packet = option_map (entry_packet room) entry;
   held = drop size room;
 }
 
-pub record IsReader (form : Form) (interfaces : List SectionInterface) (size : ℕ) (slot : Option Slot) (room : List ℕ) : Type 0 where
+pub record IsReader (form : Form) (interfaces : List SectionInterface) (size : ℕ) (entry : Option Entry) (room : List ℕ) : Type 0 where
   pub few : length room ≤ 1114112
   pub within : size ≤ length room
   pub form_parts : HasParts form
   pub interface_parts : HaveParts interfaces
-  pub packet : StandsWithin size slot
+  pub packet : StandsWithin size entry
 
--- a packet that is lent
+-- what is lent
 abbrev pub captured_packet : Captured → Packet
-captured_packet captured = record { time = captured.time; link = captured.link; bytes = captured.bytes.now }
+captured_packet (lent.Packet time link bytes) = captured (record { time = time; link = link; bytes = bytes.now })
+captured_packet (lent.Dropped before now) = dropped before now
 
 -- The bytes begin with a record, behind which the reader is now.
 pub record IsNext (format : Format) (bytes : List ℕ) (new : CaptureState) : Type 0 where

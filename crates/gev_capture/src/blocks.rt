@@ -1,18 +1,18 @@
 //! The blocks of a pcapng file.
 
-ghost use Rattle.std.specs.Prelude.{◌≡◌, ℕ, ◌+◌, ◌-◌, ◌*◌, ◌/◌, ◌%◌, ◌^◌, ◌≤◌, ◌<◌, ◌==◌, ◌&&◌, nat_le, min, List, length, slice_get, Some, None, IfNone, option_map};
+ghost use Rattle.std.specs.Prelude.{◌≡◌, ℕ, ◌+◌, ◌-◌, ◌*◌, ◌/◌, ◌%◌, ◌^◌, ◌≤◌, ◌<◌, ◌==◌, ◌&&◌, nat_le, min, List, length, slice_get, slice_set, Some, None, IfNone, option_map};
 ghost use Rattle.gev_capture.specs.declared.form.SectionInterface.{SectionInterface as SectionInterfaceOf};
 ghost use Rattle.gev_capture.specs.Numbers.{number};
-ghost use Rattle.gev_capture.specs.Files.{Told, is_total, whole, interface_in, interface_block, block_time, on_interface, counted_packet, packet_block, simple_count, simple_sized, simple_on, simple_block, body_told, sized_block};
+ghost use Rattle.gev_capture.specs.Files.{Told, is_total, whole, interface_in, interface_block, block_time, on_interface, counted_packet, packet_block, simple_count, simple_sized, simple_on, simple_block, told_dropped, statistics_in, statistics_on, statistics_block, body_told, sized_block};
 ghost use Rattle.gev_capture.specs.Steps.{told_by, or_next, IsStep, HaveParts};
 
 use crate::classic::MOST_CAPTURED;
 use crate::form::{Form, SectionInterface};
 use crate::kind::CaptureKind;
 use crate::numbers::{u16_in, u32_in};
-use crate::options::{parts_of, resolution};
+use crate::options::{dropped, parts_of, resolution};
 use crate::order::Order;
-use crate::step::{Change, Found, Slot, Step};
+use crate::step::{Change, Entry, Found, Slot, Step};
 
 /// The most bytes of a block.
 const MOST_OF_BLOCK: u32 = 1_048_576;
@@ -60,6 +60,7 @@ fn interface_in(order: Order, total: u32, bytes: &[u8]) -> SectionInterface
         link: u16_in(order, bytes, 8),
         most: u32_in(order, bytes, 12),
         parts: parts_of(resolution(order, options)),
+        dropped: 0,
     }
 }
 
@@ -125,19 +126,19 @@ fn interface_packet(
     requires header { 32 ≤ total }
     requires within { total ≤ length bytes.now }
     ensures { let time = block_time order interface.parts bytes.now in
-        result ≡ record { size = total; form = Form.Section order time; change = Change.Same; packet = Some (record { time = time; link = interface.link; at = 28; count = count }) } }
+        result ≡ record { size = total; form = Form.Section order time; change = Change.Same; packet = Some (Entry.Packet (record { time = time; link = interface.link; at = 28; count = count })) } }
 {
     let time = block_time(order, interface.parts, bytes);
     Found {
         size: total as usize,
         form: Form::Section { order, time },
         change: Change::Same,
-        packet: Some(Slot {
+        packet: Some(Entry::Packet(Slot {
             time,
             link: interface.link,
             at: 28,
             count: count as usize,
-        }),
+        })),
     }
 }
 
@@ -227,12 +228,12 @@ fn simple_sized(order: Order, time: u128, total: u32, link: u16, count: u32, byt
         size: total as usize,
         form: Form::Section { order, time },
         change: Change::Same,
-        packet: Some(Slot {
+        packet: Some(Entry::Packet(Slot {
             time,
             link,
             at: 12,
             count: count as usize,
-        }),
+        })),
     })
 }
 
@@ -259,6 +260,63 @@ fn simple_block(
         }
         None => Step::Refused(CaptureKind::Interface),
     }
+}
+
+/// The interface with this number has dropped so many packets, if that is told.
+fn statistics_on(
+    order: Order,
+    interfaces: &[SectionInterface],
+    time: u128,
+    total: u32,
+    i: usize,
+    found: Option<u64>,
+) -> Step
+    requires parts { HaveParts interfaces.now }
+    requires some { 12 ≤ total }
+    ensures told { (bytes : List ℕ) → told_by interfaces.now bytes result ≡ statistics_on order interfaces.now time total i (slice_get interfaces.now i) found }
+    ensures sound { (bytes : List ℕ) → total ≤ length bytes → IsStep interfaces.now bytes result }
+{
+    let Some(interface) = interfaces.get(i) else {
+        return without_packet(order, time, total, Change::Same);
+    };
+    let Some(now) = found else {
+        return without_packet(order, time, total, Change::Same);
+    };
+    let known = SectionInterface {
+        dropped: now,
+        ..*interface
+    };
+    Step::Record(Found {
+        size: total as usize,
+        form: Form::Section { order, time },
+        change: Change::Now(i, known),
+        packet: Some(Entry::Dropped {
+            before: interface.dropped,
+            now,
+        }),
+    })
+}
+
+/// A block with the statistics of an interface.
+fn statistics_block(
+    order: Order,
+    interfaces: &[SectionInterface],
+    time: u128,
+    total: u32,
+    bytes: &[u8],
+) -> Step
+    requires parts { HaveParts interfaces.now }
+    requires some { 12 ≤ total }
+    requires within { total ≤ length bytes.now }
+    ensures told { told_by interfaces.now bytes.now result ≡ statistics_block order interfaces.now time total bytes.now }
+    ensures sound { IsStep interfaces.now bytes.now result }
+{
+    if total < 24 {
+        return without_packet(order, time, total, Change::Same);
+    }
+    let options = &bytes[20..total as usize - 4];
+    let i = u32_in(order, bytes, 8) as usize;
+    statistics_on(order, interfaces, time, total, i, dropped(order, options))
 }
 
 /// What a whole block tells, by its type.
@@ -293,6 +351,7 @@ fn body_told(
             bytes,
         ),
         3 => simple_block(order, interfaces, time, total, bytes),
+        5 => statistics_block(order, interfaces, time, total, bytes),
         _ => without_packet(order, time, total, Change::Same),
     }
 }

@@ -10,7 +10,7 @@ use crate::form::Form;
 use crate::kind::CaptureKind;
 use crate::numbers::{u16_in, u32_in};
 use crate::order::Order;
-use crate::step::{Change, Found, Slot, Step};
+use crate::step::{Change, Entry, Found, Slot, Step};
 
 /// The most bytes of a packet that were captured.
 pub(crate) const MOST_CAPTURED: u32 = 262_144;
@@ -77,7 +77,7 @@ fn classic_record(order: Order, parts: u64, link: u16, count: u32, bytes: &[u8])
         size,
         form: Form::Classic { order, parts, link },
         change: Change::Same,
-        packet: Some(slot),
+        packet: Some(Entry::Packet(slot)),
     })
 }
 

@@ -9,6 +9,13 @@ pub enum Content<'a> {
     Fragment,
     /// A datagram of which not all bytes were captured.
     Cut,
+    /// No packet: the capturing program has dropped so many of an interface's.
+    Dropped {
+        /// As it told of the interface before, 0 where it hadn't.
+        before: u64,
+        /// As it tells now.
+        now: u64,
+    },
     /// A datagram: who sent it, to whom, and its bytes.
     Datagram {
         /// Who sent it.

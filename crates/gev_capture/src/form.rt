@@ -9,6 +9,8 @@ pub struct SectionInterface {
     pub most: u32,
     /// Into how many parts a second is divided.
     pub parts: u64,
+    /// How many packets the capturing program has dropped, as it told last; at first 0.
+    pub dropped: u64,
 }
 
 /// What is known of a capture's format behind the records that were read, the interfaces of its section

@@ -35,6 +35,6 @@ pub use order::Order;
 pub use reader::Reader;
 pub use reading::find_record;
 pub use room::Room;
-pub use seeing::{content_of, moment_of};
-pub use step::{Change, Found, Slot, Step};
+pub use seeing::{content_of, moment_of, what_of};
+pub use step::{Change, Entry, Found, Slot, Step};
 pub use telling::next_step;

@@ -1,6 +1,8 @@
 ghost use Rattle.std.specs.Prelude.{◌≡◌};
-ghost use Rattle.gev_capture.specs.Sightings.{no_moments, moment_in, moments_after};
+ghost use Rattle.gev_capture.specs.Sightings.{no_moments, moment_in, moments_after, moments_with, begin_of};
+ghost use Rattle.gev_capture.specs.Walking.{captured_packet};
 
+use crate::captured::Captured;
 use crate::seeing::moment_of;
 
 /// The moments of a capture's packets so far: the time of the first packet in nanoseconds, and the moment of
@@ -22,15 +24,40 @@ impl Moments {
         }
     }
 
-    /// The moment of the next packet, which came at this time.
-    pub fn next(&mut self, time: u128) -> u64
-        ensures moment { result ≡ moment_in self.old time }
-        ensures after { self.new ≡ moments_after self.old time }
+    /// The next packet came at this time.
+    fn next(&mut self, time: u128)
+        ensures { self.new ≡ moments_after self.old time }
     {
         let first = self.first.unwrap_or(time);
-        let moment = moment_of(first, self.last, time);
+        self.last = moment_of(first, self.last, time);
         self.first = Some(first);
-        self.last = moment;
-        moment
+    }
+
+    /// The next record told this of packets.
+    pub fn note(&mut self, packet: Captured<'_>)
+        ensures { self.new ≡ moments_with self.old (captured_packet packet.entry) }
+    {
+        match packet {
+            Captured::Packet { time, .. } => self.next(time),
+            Captured::Dropped { .. } => {}
+        }
+    }
+
+    /// The time of the first packet in whole milliseconds since 1970, at most 18,446,744,073,709,551,615; 0 where
+    /// there is none.
+    pub fn begin(&self) -> u64
+        ensures { result ≡ begin_of self.now.first }
+    {
+        match self.first {
+            Some(first) => (first / 1_000_000).min(u128::from(u64::MAX)) as u64,
+            None => 0,
+        }
+    }
+
+    /// The moment of the last packet in milliseconds from the first, 0 where there is none.
+    pub fn last(&self) -> u64
+        ensures { result ≡ self.now.last }
+    {
+        self.last
     }
 }

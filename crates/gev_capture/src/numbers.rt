@@ -31,3 +31,16 @@ pub(crate) fn u32_in(order: Order, bytes: &[u8], place: usize) -> u32
         Order::Little => LittleEndian::read_u32(field),
     }
 }
+
+/// The eight bytes from a place on, as a number.
+#[tactic(auto, unfolding(crate::specs::Numbers::number))]
+pub(crate) fn u64_in(order: Order, bytes: &[u8], place: usize) -> u64
+    requires { place + 8 ≤ length bytes.now }
+    ensures { result ≡ number order place 8 bytes.now }
+{
+    let field = &bytes[place..];
+    match order {
+        Order::Big => BigEndian::read_u64(field),
+        Order::Little => LittleEndian::read_u64(field),
+    }
+}

@@ -1,10 +1,10 @@
-//! The options of an interface: the resolution of its times.
+//! The options of an interface: the resolution of its times, and how many packets were dropped.
 
-ghost use Rattle.std.specs.Prelude.{◌≡◌, ◌+◌, ◌-◌, ◌*◌, ◌/◌, ◌≤◌, ◌<◌, ◌||◌, ◌&&◌, ◌==◌, false, length, drop};
+ghost use Rattle.std.specs.Prelude.{◌≡◌, ◌+◌, ◌-◌, ◌*◌, ◌/◌, ◌≤◌, ◌<◌, ◌||◌, ◌&&◌, ◌==◌, false, None, length, drop};
 ghost use Rattle.gev_capture.specs.Numbers.{number};
-ghost use Rattle.gev_capture.specs.Files.{option_size, is_resolution, with_option, has_ended, resolution, parts_of};
+ghost use Rattle.gev_capture.specs.Files.{option_size, is_resolution, with_option, has_ended, resolution, parts_of, is_dropped, with_dropped, told_dropped};
 
-use crate::numbers::u16_in;
+use crate::numbers::{u16_in, u64_in};
 use crate::order::Order;
 
 /// The bytes of an option's code and length.
@@ -12,6 +12,9 @@ const OPTION_HEADER_SIZE: usize = 4;
 
 /// The code of the option that tells the resolution of an interface's times.
 const RESOLUTION_CODE: u16 = 9;
+
+/// The code of the option that tells how many packets were dropped.
+const DROPPED_CODE: u16 = 5;
 
 /// The resolution of microseconds, which is meant where none is told.
 const MICROSECONDS: u8 = 6;
@@ -69,6 +72,39 @@ pub(crate) fn resolution(order: Order, options: &[u8]) -> u8
         rest = behind(order, rest);
     }
     r
+}
+
+/// Whether the first option tells how many packets were dropped.
+fn is_dropped(order: Order, bytes: &[u8]) -> bool
+    requires { 4 ≤ length bytes.now }
+    ensures { result ≡ is_dropped order bytes.now }
+{
+    u16_in(order, bytes, 0) == DROPPED_CODE && u16_in(order, bytes, 2) == 8
+}
+
+/// How many packets were dropped, as it's known behind the first option.
+fn with_dropped(order: Order, found: Option<u64>, bytes: &[u8]) -> Option<u64>
+    requires { has_ended order bytes.now ≡ false }
+    ensures { result ≡ with_dropped order found bytes.now }
+{
+    if is_dropped(order, bytes) {
+        Some(u64_in(order, bytes, 4))
+    } else {
+        found
+    }
+}
+
+/// How many packets were dropped by the options, the last one that tells it.
+pub(crate) fn dropped(order: Order, options: &[u8]) -> Option<u64>
+    ensures { result ≡ told_dropped order options.now }
+{
+    let mut found = None;
+    let mut rest = options;
+    'options: while !has_ended(order, rest) {
+        found = with_dropped(order, found, rest);
+        rest = behind(order, rest);
+    }
+    found
 }
 
 /// Into how many parts a second is divided by a resolution.

@@ -1,7 +1,7 @@
-ghost use Rattle.std.specs.Prelude.{◌≡◌, ◌≢◌, ◌≤◌, ◌+◌, None, Err, IfOk, option_map, length, []};
+ghost use Rattle.std.specs.Prelude.{◌≡◌, ◌≢◌, ◌≤◌, ◌+◌, None, Some, Err, IfOk, option_map, length, []};
 ghost use Rattle.gev_capture.specs.declared.form.SectionInterface.{SectionInterface as SectionInterfaceOf};
 ghost use Rattle.gev_capture.specs.Files.{fresh};
-ghost use Rattle.gev_capture.specs.Steps.{MayChange, interfaces_after, slot_packet};
+ghost use Rattle.gev_capture.specs.Steps.{MayChange, StandsWithin, interfaces_after, entry_packet};
 ghost use Rattle.gev_capture.specs.Walking.{captured_packet, Nexts};
 
 use crate::capture_end::CaptureEnd;
@@ -9,7 +9,7 @@ use crate::captured::Captured;
 use crate::form::{Form, SectionInterface};
 use crate::reading::find_record;
 use crate::room::Room;
-use crate::step::{Change, Slot};
+use crate::step::{Change, Entry};
 use arrayvec::ArrayVec;
 use gev_links::Source;
 use gev_types::NoMemory;
@@ -27,7 +27,7 @@ pub struct Reader {
     interfaces: ArrayVec<SectionInterface, 256>,
     records: u64,
     size: usize,
-    slot: Option<Slot>,
+    entry: Option<Entry>,
 }
 
 impl Model for Reader {
@@ -35,9 +35,9 @@ impl Model for Reader {
 
     ghost Value = { CaptureState };
 
-    ghost view = { λ r. state_of r.form r.interfaces.items r.records r.size r.slot r.room };
+    ghost view = { λ r. state_of r.form r.interfaces.items r.records r.size r.entry r.room };
 
-    ghost invariant = { λ r. IsReader r.form r.interfaces.items r.size r.slot r.room };
+    ghost invariant = { λ r. IsReader r.form r.interfaces.items r.size r.entry r.room };
 }
 
 /// The interfaces behind a record.
@@ -49,18 +49,22 @@ fn change_interfaces(interfaces: &mut ArrayVec<SectionInterface, 256>, change: C
         Change::Same => {}
         Change::Cleared => interfaces.clear(),
         Change::More(interface) => interfaces.push(interface),
+        Change::Now(place, interface) => interfaces.as_mut_slice()[place] = interface,
     }
 }
 
 /// The packet that stands so in these bytes.
-fn lent(slot: Slot, bytes: &[u8]) -> Captured<'_>
-    requires { slot.at + slot.count ≤ length bytes.now }
-    ensures { captured_packet result ≡ slot_packet bytes.now slot }
+fn lent(entry: Entry, bytes: &[u8]) -> Captured<'_>
+    requires { StandsWithin (length bytes.now) (Some entry) }
+    ensures { captured_packet result ≡ entry_packet bytes.now entry }
 {
-    Captured {
-        time: slot.time,
-        link: slot.link,
-        bytes: &bytes[slot.at..][..slot.count],
+    match entry {
+        Entry::Packet(slot) => Captured::Packet {
+            time: slot.time,
+            link: slot.link,
+            bytes: &bytes[slot.at..][..slot.count],
+        },
+        Entry::Dropped { before, now } => Captured::Dropped { before, now },
     }
 }
 
@@ -76,7 +80,7 @@ impl Reader {
             interfaces: ArrayVec::new(),
             records: 0,
             size: 0,
-            slot: None,
+            entry: None,
         })
     }
 
@@ -91,7 +95,7 @@ impl Reader {
     {
         self.room.skip(self.size);
         self.size = 0;
-        self.slot = None;
+        self.entry = None;
         let found = match find_record(
             &mut self.room,
             source,
@@ -104,7 +108,7 @@ impl Reader {
         change_interfaces(&mut self.interfaces, found.change);
         self.form = found.form;
         self.size = found.size;
-        self.slot = found.packet;
+        self.entry = found.packet;
         self.records = self.records.saturating_add(1);
         Ok(())
     }
@@ -116,12 +120,12 @@ impl Reader {
         self.records
     }
 
-    /// The packet in the record that was given last, if there is one.
+    /// What the record that was given last tells of packets, if anything.
     pub fn packet(&self) -> Option<Captured<'_>>
         ensures { option_map captured_packet result ≡ self.now.packet }
     {
-        match self.slot {
-            Some(slot) => Some(lent(slot, self.room.held())),
+        match self.entry {
+            Some(entry) => Some(lent(entry, self.room.held())),
             None => None,
         }
     }

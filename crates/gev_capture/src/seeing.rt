@@ -3,8 +3,11 @@
 ghost use Rattle.std.specs.Prelude.{◌≡◌, ◌+◌, ◌-◌, ◌*◌, ◌/◌, ◌%◌, ◌^◌, ◌≤◌, ◌<◌, ◌==◌, ◌&&◌, ◌||◌, nat_le, min, max, length, drop, Some};
 ghost use Rattle.std.specs.Option.{option_copied};
 ghost use Rattle.wire_fields.specs.Fields.{number_at};
+ghost use Rattle.gev_capture.specs.Sightings.{what_of};
+ghost use Rattle.gev_capture.specs.Walking.{captured_packet};
 ghost use Rattle.gev_capture.specs.Contents.{seen_as, ipv4, untagged, is_tag, once_tagged, twice_tagged, looped, cooked, network, header_size, total_length, is_udp, is_fragment, datagram_in, udp_sized, udp_seen, ip_seen, network_seen, seen, IsShort, moment_of};
 
+use crate::captured::Captured;
 use crate::content::Content;
 use gev_types::Peer;
 use wire_fields::{u16_at, u32_at};
@@ -220,6 +223,17 @@ pub fn content_of(link: u16, bytes: &[u8]) -> Content<'_>
     match network(link, bytes) {
         Some(ip) => ip_seen(ip),
         None => Content::Other,
+    }
+}
+
+/// What this is that a record tells of packets. Bytes are lent.
+pub fn what_of(packet: Captured<'_>) -> Content<'_>
+    ensures seen { seen_as result ≡ what_of (captured_packet packet.entry) }
+    ensures short { IsShort (seen_as result) }
+{
+    match packet {
+        Captured::Packet { link, bytes, .. } => content_of(link, bytes),
+        Captured::Dropped { before, now } => Content::Dropped { before, now },
     }
 }
 

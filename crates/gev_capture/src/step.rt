@@ -14,6 +14,20 @@ pub struct Slot {
     pub count: usize,
 }
 
+/// What a record tells of packets.
+#[derive(Clone, Copy, Debug, PartialEq, Eq)]
+pub enum Entry {
+    /// One was captured.
+    Packet(Slot),
+    /// The capturing program has dropped so many of an interface's.
+    Dropped {
+        /// As it told of the interface before, 0 where it hadn't.
+        before: u64,
+        /// As it tells now.
+        now: u64,
+    },
+}
+
 /// What becomes of the interfaces.
 #[derive(Clone, Copy, Debug, PartialEq, Eq)]
 pub enum Change {
@@ -23,6 +37,8 @@ pub enum Change {
     Cleared,
     /// There is one more.
     More(SectionInterface),
+    /// Of the one at this place more is known.
+    Now(usize, SectionInterface),
 }
 
 /// A record of a capture.
@@ -34,8 +50,8 @@ pub struct Found {
     pub form: Form,
     /// What becomes of the interfaces.
     pub change: Change,
-    /// The packet in it, if there is one.
-    pub packet: Option<Slot>,
+    /// What it tells of packets, if anything.
+    pub packet: Option<Entry>,
 }
 
 /// What the bytes of a capture that are left begin with.
