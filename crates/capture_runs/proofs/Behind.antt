@@ -2,17 +2,17 @@
 use Rattle.std.proofs.Common.{◌≡◌, ℕ, List, [], ◌∷◌, ◌++◌, refl, ap, sym, ◌∙◌, append_assoc}
 use Rattle.gev_capture.specs.declared.moments.Moments.{Moments}
 use Rattle.gev_capture.specs.Files.{Packet}
-use Rattle.gev_capture.specs.Sightings.{Sighting, moments_after, sighting_of, sighted}
+use Rattle.gev_capture.specs.Sightings.{Sighting, moments_with, sighting_of, sighted}
 use Rattle.capture_runs.specs.Texts.{Texts, said, state}
 use Rattle.capture_runs.specs.Turns.{moments_behind}
 
 pub moments_behind-append : (m : Moments) (xs ys : List Packet) → moments_behind m (xs ++ ys) ≡ moments_behind (moments_behind m xs) ys
 moments_behind-append m [] ys = refl
-moments_behind-append m (x ∷ xs) ys = moments_behind-append (moments_after m x.time) xs ys
+moments_behind-append m (x ∷ xs) ys = moments_behind-append (moments_with m x) xs ys
 
 pub sighted-append : (m : Moments) (xs ys : List Packet) → sighted m (xs ++ ys) ≡ sighted m xs ++ sighted (moments_behind m xs) ys
 sighted-append m [] ys = refl
-sighted-append m (x ∷ xs) ys = ap (λ (l : List Sighting). sighting_of m x ∷ l) (sighted-append (moments_after m x.time) xs ys)
+sighted-append m (x ∷ xs) ys = ap (λ (l : List Sighting). sighting_of m x ∷ l) (sighted-append (moments_with m x) xs ys)
 
 module _ {P : Type 0} where
   pub said-append : (t : Texts P) (p : P) (xs ys : List Sighting) → said t p (xs ++ ys) ≡ said t p xs ++ said t (state t p xs) ys

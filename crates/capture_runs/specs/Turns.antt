@@ -8,7 +8,7 @@ use Rattle.gev_capture.specs.declared.capture_end.CaptureEnd.TheVariants.{Ended,
 use Rattle.gev_capture.specs.declared.moments.Moments.{Moments}
 use Rattle.gev_capture.specs.Files.{Packet, Format, refused, told}
 use Rattle.gev_capture.specs.Captures.{Read, IsOpen, IsAtEnd, IsRefused, with_packet, packets_in}
-use Rattle.gev_capture.specs.Sightings.{moments_after, sighted}
+use Rattle.gev_capture.specs.Sightings.{moments_with, sighted}
 use Rattle.gev_capture.specs.Reading.{most_held, ReadsOn, CauseOfEnd}
 use Rattle.gev_capture.specs.Walking.{CaptureState, IsNext, Walks}
 use Rattle.capture_runs.specs.declared.ending.Ending.{Ending}
@@ -20,7 +20,7 @@ use Rattle.capture_runs.specs.Texts.{Texts, said, state}
 -- the moments behind packets
 abbrev pub moments_behind : Moments → List Packet → Moments
 moments_behind m [] = m
-moments_behind m (packet ∷ packets) = moments_behind (moments_after m packet.time) packets
+moments_behind m (packet ∷ packets) = moments_behind (moments_with m packet) packets
 
 -- Of this text a front was written, and the rest is still held back.
 pub record Drains (written written_after : Option (List ℕ)) (text held : List ℕ) : Type 0 where

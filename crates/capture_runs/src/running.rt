@@ -13,7 +13,7 @@ use crate::ending::Ending;
 use crate::stop::Stop;
 use crate::telling::Telling;
 use crate::writing::{write_if_long, write_rest};
-use gev_capture::{CaptureEnd, Moments, Reader, content_of};
+use gev_capture::{CaptureEnd, Moments, Reader, what_of};
 use gev_links::{Failed, Sink, Source};
 use gev_types::NoMemory;
 use std::alloc::Global;
@@ -30,9 +30,9 @@ fn tell_packet<T: Telling>(
         → Tells T.texts p (sighted moments.old (with_packet reader.now.packet [])) (T.stands_for telling.new) out.old.items out.new.items) }
 {
     match reader.packet() {
-        Some(captured) => {
-            let moment = moments.next(captured.time);
-            telling.packet(moment, content_of(captured.link, captured.bytes), out)
+        Some(packet) => {
+            moments.note(packet);
+            telling.packet(moments.begin(), moments.last(), what_of(packet), out)
         }
         None => Ok(()),
     }

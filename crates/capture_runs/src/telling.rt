@@ -16,11 +16,18 @@ pub trait Telling {
     /// The state stands for this plain one.
     ghost stands_for: { Self → Plain → Type 0 };
 
-    /// Adds the text of the next packet, which came at this moment, in milliseconds from the first packet.
-    fn packet(&mut self, moment: u64, what: Content<'_>, out: &mut Vec<u8>) -> Result<(), NoMemory>
+    /// Adds the text of what comes next: a packet at this moment, in milliseconds from the first packet, or what was
+    /// dropped before the packets behind it. The moment 0 was at `begin`, in milliseconds since 1970.
+    fn packet(
+        &mut self,
+        begin: u64,
+        moment: u64,
+        what: Content<'_>,
+        out: &mut Vec<u8>,
+    ) -> Result<(), NoMemory>
         requires { IsShort (seen_as what) }
         ensures { OnOk result ((p : Plain) → stands_for self.old p
-            → Tells texts p (record { moment = moment; what = seen_as what.entry } ∷ []) (stands_for self.new) out.old.items out.new.items) };
+            → Tells texts p (record { begin = begin; moment = moment; what = seen_as what.entry } ∷ []) (stands_for self.new) out.old.items out.new.items) };
 
     /// Adds what stands behind the last packet that was read.
     fn finish(&self, out: &mut Vec<u8>) -> Result<(), NoMemory>
