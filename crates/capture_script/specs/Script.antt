@@ -3,7 +3,7 @@ use Rattle.std.specs.Prelude.{ℕ, ◌==◌, ◌&&◌, nat_lt, nat_le, List, [],
 use Rattle.hex.specs.Hex.{encode_lower}
 use Rattle.gev_script.specs.Lines as line
 use Rattle.gev_script.specs.Lines.{ScriptLine}
-use Rattle.gev_capture.specs.Contents.{Seen, other, fragment, cut, datagram}
+use Rattle.gev_capture.specs.Contents.{Seen, other, fragment, cut, datagram, lost}
 use Rattle.gev_capture.specs.Sightings.{Sighting}
 use Rattle.capture_runs.specs.Texts.{Texts}
 pub use Rattle.take_lines.specs.Texts.{text_of, take_lines}
@@ -84,6 +84,7 @@ seen moment other s = no_lines s
 seen moment fragment s = no_lines s
 seen moment cut s = no_lines s
 seen moment (datagram c) s = carried moment c.receiver.port c.bytes s
+seen moment (lost before now) s = no_lines s
 
 -- the lines of a packet
 abbrev pub sighted : Scripted → Sighting → Lines

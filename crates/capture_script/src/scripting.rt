@@ -123,6 +123,7 @@ impl Telling for Scripting {
 
     fn packet(
         &mut self,
+        _begin: u64,
         moment: u64,
         what: Content<'_>,
         out: &mut Vec<u8>,
@@ -136,6 +137,7 @@ impl Telling for Scripting {
             Content::Other => Ok(()),
             Content::Fragment => Ok(()),
             Content::Cut => Ok(()),
+            Content::Dropped { .. } => Ok(()),
         }
     }
 
