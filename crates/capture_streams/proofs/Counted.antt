@@ -1,17 +1,17 @@
 -- Each packet is counted, and by what it is.
-use Rattle.std.proofs.Common.{◌≡◌, ℕ, suc, ◌+◌, ◌-◌, ◌^◌, ◌<◌, ◌≤◌, List, [], ◌∷◌, ◌++◌, length, Bool, true, false, Option, Some, None, refl, ◌∙◌, arith}
-use Rattle.std.specs.Prelude.{nat_lt, position, if◌then◌else◌}
+use Rattle.std.proofs.Common.{◌≡◌, ℕ, zero, suc, ◌+◌, ◌-◌, ◌^◌, ◌<◌, ◌≤◌, List, [], ◌∷◌, ◌++◌, length, Bool, true, false, Option, Some, None, refl, ◌∙◌, arith}
+use Rattle.std.specs.Prelude.{◌==◌, nat_lt, position, if◌then◌else◌}
 use Rattle.gev_types.specs.declared.peer.Peer.{Peer}
 use Rattle.gev_links.specs.Given.{one_more}
-use Rattle.gev_capture.specs.Contents.{Seen, Carried, other, fragment, cut, datagram}
+use Rattle.gev_capture.specs.Contents.{Seen, Carried, other, fragment, cut, datagram, lost}
 use Rattle.gev_capture.specs.Sightings.{Sighting}
 use Rattle.capture_streams.specs.declared.counts.Counts.{Counts}
 use Rattle.capture_streams.specs.declared.sign.Sign.{Sign}
 use Rattle.capture_streams.specs.declared.sign.Sign.TheVariants.{Leader, Payload, Other}
 use Rattle.capture_streams.specs.Signs.{sign}
-use Rattle.capture_streams.specs.Streams.{TableState, empty_table, is_between, begun, with_unlisted, with_new, with_datagram, with_carried, counts_after, with_seen, counted}
+use Rattle.capture_streams.specs.Streams.{TableState, empty_table, is_between, begun, with_unlisted, with_new, with_datagram, with_carried, counts_by, counts_after, with_seen, counted}
 use Rattle.capture_streams.specs.Texts.{table_from, table_of}
-use Rattle.capture_streams.specs.Laws.{AddUp, PacketsAreCounted}
+use Rattle.capture_streams.specs.Laws.{AddUp, packets_of, packets_among, PacketsAreCounted}
 
 -- the same of each packet
 record SamePackets (a b : Counts) : Type 0 where
@@ -45,14 +45,31 @@ seen_keeps : (moment : ℕ) (what : Seen) (t : TableState) → SamePackets (with
 seen_keeps moment other t = same_packets t.counts
 seen_keeps moment fragment t = same_packets t.counts
 seen_keeps moment cut t = same_packets t.counts
+seen_keeps moment (lost before now) t = same_packets t.counts
 seen_keeps moment (datagram c) t = datagram_keeps (position (is_between c.sender c.receiver) t.streams) c.sender c.receiver moment (sign c.bytes) t
 
--- one packet more
-after_packets : (what : Seen) (a : Counts) → (counts_after what a).packets ≡ one_more a.packets
-after_packets other a = refl
-after_packets fragment a = refl
-after_packets cut a = refl
-after_packets (datagram c) a = refl
+-- one packet more, or none
+abbrev more_packets : ℕ → ℕ → ℕ
+more_packets k n = if k == 0 then n else one_more n
+
+after_packets : (begin : ℕ) (what : Seen) (a : Counts) → (counts_after begin what a).packets ≡ more_packets (packets_of what) a.packets
+after_packets begin other a = refl
+after_packets begin fragment a = refl
+after_packets begin cut a = refl
+after_packets begin (datagram c) a = refl
+after_packets begin (lost before now) a = refl
+
+one_or_none : (what : Seen) → packets_of what ≤ 1
+one_or_none other = omega arith
+one_or_none fragment = omega arith
+one_or_none cut = omega arith
+one_or_none (datagram c) = omega arith
+one_or_none (lost before now) = omega arith
+
+more_few : (k n : ℕ) → k ≤ 1 → k + n < 2 ^ 64 - 1 → more_packets k n ≡ k + n
+more_few zero n small few = omega arith
+more_few (suc zero) n small few = omega (arith, few)
+more_few (suc (suc k)) n small few = absurd (omega (arith, small))
 
 one_part : (n d f c o e : ℕ) → (n < 2 ^ 64 - 1 → n ≡ d + f + c + o) → e ≤ d + f + c + o → one_more n < 2 ^ 64 - 1 → (one_more n ≡ n + 1) × (one_more e ≡ e + 1) × (n ≡ d + f + c + o)
 one_part n d f c o e h within few =
@@ -60,7 +77,7 @@ one_part n d f c o e h within few =
     let sum : n ≡ d + f + c + o = h small in
     (omega (arith, few), omega (arith, few, sum, within), sum)
 
-after_adds : (what : Seen) (a : Counts) → AddUp a → AddUp (counts_after what a)
+after_adds : (what : Seen) (a : Counts) → AddUp a → AddUp (counts_by what a)
 after_adds other a h few =
     let p = one_part a.packets a.datagrams a.fragments a.cut a.other a.other h (omega arith) few in omega (arith, p.0, p.1, p.2)
 after_adds fragment a h few =
@@ -69,27 +86,28 @@ after_adds cut a h few =
     let p = one_part a.packets a.datagrams a.fragments a.cut a.other a.cut h (omega arith) few in omega (arith, p.0, p.1, p.2)
 after_adds (datagram c) a h few =
     let p = one_part a.packets a.datagrams a.fragments a.cut a.other a.datagrams h (omega arith) few in omega (arith, p.0, p.1, p.2)
+after_adds (lost before now) a h few = h few
 
 same_adds : (a b : Counts) → SamePackets a b → AddUp b → AddUp a
 same_adds a b s h few =
     let sum = h (omega (arith, s.packets, few)) in omega (arith, s.packets, s.datagrams, s.fragments, s.cut, s.other, sum)
 
-counted_packets : (x : Sighting) (t : TableState) → (counted x t).counts.packets ≡ one_more t.counts.packets
+counted_packets : (x : Sighting) (t : TableState) → (counted x t).counts.packets ≡ more_packets (packets_of x.what) t.counts.packets
 counted_packets x t =
-    (seen_keeps x.moment x.what (record { streams = t.streams; counts = counts_after x.what t.counts })).packets ∙ after_packets x.what t.counts
+    (seen_keeps x.moment x.what (record { streams = t.streams; counts = counts_after x.begin x.what t.counts })).packets ∙ after_packets x.begin x.what t.counts
 
 counted_adds : (x : Sighting) (t : TableState) → AddUp t.counts → AddUp (counted x t).counts
 counted_adds x t h =
-    same_adds (counted x t).counts (counts_after x.what t.counts) (seen_keeps x.moment x.what (record { streams = t.streams; counts = counts_after x.what t.counts }))
+    same_adds (counted x t).counts (counts_after x.begin x.what t.counts) (seen_keeps x.moment x.what (record { streams = t.streams; counts = counts_after x.begin x.what t.counts }))
     (after_adds x.what t.counts h)
 
 -- ---- all packets
 
-all_counted : (t : TableState) (xs : List Sighting) → t.counts.packets + length xs < 2 ^ 64 - 1 → (table_from t xs).counts.packets ≡ t.counts.packets + length xs
+all_counted : (t : TableState) (xs : List Sighting) → t.counts.packets + packets_among xs < 2 ^ 64 - 1 → (table_from t xs).counts.packets ≡ t.counts.packets + packets_among xs
 all_counted t [] few = omega arith
 all_counted t (x ∷ xs) few =
     let e = counted_packets x t in
-    let more : (counted x t).counts.packets ≡ t.counts.packets + 1 = omega (arith, e, few) in
+    let more : (counted x t).counts.packets ≡ packets_of x.what + t.counts.packets = e ∙ more_few (packets_of x.what) t.counts.packets (one_or_none x.what) (omega (arith, few)) in
     omega (arith, all_counted (counted x t) xs (omega (arith, more, few)), more)
 
 all_add : (t : TableState) (xs : List Sighting) → AddUp t.counts → AddUp (table_from t xs).counts
@@ -98,6 +116,6 @@ all_add t (x ∷ xs) h = all_add (counted x t) xs (counted_adds x t h)
 
 pub packets_are_counted : PacketsAreCounted
 packets_are_counted xs = record {
-  packets = λ few. let all : (table_from empty_table xs).counts.packets ≡ 0 + length xs = all_counted empty_table xs (omega (arith, few)) in omega (arith, all);
+  packets = λ few. let all : (table_from empty_table xs).counts.packets ≡ 0 + packets_among xs = all_counted empty_table xs (omega (arith, few)) in omega (arith, all);
   add_up = all_add empty_table xs (λ few. refl);
 }

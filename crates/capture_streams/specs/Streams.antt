@@ -1,9 +1,10 @@
--- The image streams in a capture, and what is counted of each. Counts stand still at 2 ^ 64 - 1.
-use Rattle.std.specs.Prelude.{ℕ, ◌-◌, ◌==◌, ◌&&◌, ◌||◌, not, max, nat_lt, List, [], ◌∷◌, ◌++◌, length, position, slice_get, slice_set, Bool, true, false, Option, Some, None, if◌then◌else◌}
+-- The image streams in a capture, and what is counted of each. Counts stand still at 2 ^ 64 - 1, and that of what was
+-- dropped at 2 ^ 128 - 1.
+use Rattle.std.specs.Prelude.{ℕ, ◌+◌, ◌-◌, ◌^◌, ◌==◌, ◌&&◌, ◌||◌, not, min, max, nat_lt, List, [], ◌∷◌, ◌++◌, length, position, slice_get, slice_set, Bool, true, false, Option, Some, None, if◌then◌else◌}
 use Rattle.gev_types.specs.declared.peer.Peer.{Peer}
 use Rattle.gev_links.specs.Given.{one_more}
 use Rattle.stream_packets.specs.declared.fields.LeaderInfo.{LeaderInfo}
-use Rattle.gev_capture.specs.Contents.{Seen, Carried, other, fragment, cut, datagram}
+use Rattle.gev_capture.specs.Contents.{Seen, Carried, other, fragment, cut, datagram, lost}
 use Rattle.gev_capture.specs.Sightings.{Sighting}
 use Rattle.capture_streams.specs.declared.counts.Counts.{Counts}
 use Rattle.capture_streams.specs.declared.sign.Sign.{Sign}
@@ -17,7 +18,7 @@ pub record TableState : Type 0 where
   pub counts : Counts
 
 abbrev pub no_counts : Counts
-no_counts = record { packets = 0; datagrams = 0; fragments = 0; cut = 0; other = 0; unlisted = 0 }
+no_counts = record { packets = 0; datagrams = 0; fragments = 0; cut = 0; other = 0; unlisted = 0; dropped = 0; begin = 0 }
 
 abbrev pub empty_table : TableState
 empty_table = record { streams = []; counts = no_counts }
@@ -105,19 +106,29 @@ abbrev pub with_carried : Carried → ℕ → TableState → TableState
 with_carried c moment t =
     with_datagram (position (is_between c.sender c.receiver) t.streams) c.sender c.receiver moment (sign c.bytes) t
 
--- one packet more, by what it is
-abbrev pub counts_after : Seen → Counts → Counts
-counts_after other counts = record counts { packets = one_more counts.packets; other = one_more counts.other }
-counts_after fragment counts = record counts { packets = one_more counts.packets; fragments = one_more counts.fragments }
-counts_after cut counts = record counts { packets = one_more counts.packets; cut = one_more counts.cut }
-counts_after (datagram c) counts = record counts { packets = one_more counts.packets; datagrams = one_more counts.datagrams }
+-- An interface that told of so many dropped packets tells now of so many: of all interfaces they are the sum.
+abbrev pub dropped_now : ℕ → ℕ → ℕ → ℕ
+dropped_now before now sum = min (2 ^ 128 - 1) (sum + now) - before
+
+-- one packet more, by what it is, or more that were dropped
+abbrev pub counts_by : Seen → Counts → Counts
+counts_by other counts = record counts { packets = one_more counts.packets; other = one_more counts.other }
+counts_by fragment counts = record counts { packets = one_more counts.packets; fragments = one_more counts.fragments }
+counts_by cut counts = record counts { packets = one_more counts.packets; cut = one_more counts.cut }
+counts_by (datagram c) counts = record counts { packets = one_more counts.packets; datagrams = one_more counts.datagrams }
+counts_by (lost before now) counts = record counts { dropped = dropped_now before now counts.dropped }
+
+-- where the first packet came at this time of day
+abbrev pub counts_after : ℕ → Seen → Counts → Counts
+counts_after begin what counts = record (counts_by what counts) { begin = begin }
 
 abbrev pub with_seen : ℕ → Seen → TableState → TableState
 with_seen moment other t = t
 with_seen moment fragment t = t
 with_seen moment cut t = t
 with_seen moment (datagram c) t = with_carried c moment t
+with_seen moment (lost before now) t = t
 
 -- the table with one more packet
 abbrev pub counted : Sighting → TableState → TableState
-counted x t = with_seen x.moment x.what (record { streams = t.streams; counts = counts_after x.what t.counts })
+counted x t = with_seen x.moment x.what (record { streams = t.streams; counts = counts_after x.begin x.what t.counts })

@@ -1,5 +1,5 @@
 -- The text that lists the streams of a capture.
-use Rattle.std.specs.Prelude.{◌≡◌, ℕ, ◌-◌, ◌/◌, ◌%◌, ◌^◌, List, [], ◌∷◌, ◌++◌, length, codes, Bool, if◌then◌else◌}
+use Rattle.std.specs.Prelude.{◌≡◌, ℕ, ◌-◌, ◌/◌, ◌%◌, ◌^◌, min, List, [], ◌∷◌, ◌++◌, length, codes, Bool, if◌then◌else◌}
 use Rattle.std.specs.List.{concat, flat_map}
 use Rattle.std.specs.Fmt.{decimal}
 use Rattle.byteorder.specs.Endian.{big_bytes}
@@ -49,9 +49,13 @@ stream_text s ms = concat (
 abbrev pub stream_line : Stream → List ℕ
 stream_line s = stream_text s (s.ended - s.begun)
 
--- the last line, with its line feed, for so many streams
-abbrev pub end_text : Counts → ℕ → List ℕ
-end_text counts streams = concat (
+-- how many packets were dropped, at most 2 ^ 64 - 1
+abbrev pub told_dropped : Counts → ℕ
+told_dropped counts = min 18446744073709551615 counts.dropped
+
+-- the last line, with its line feed, for so many streams and dropped packets
+abbrev pub last_text : Counts → ℕ → ℕ → List ℕ
+last_text counts streams dropped = concat (
     codes "end packets=" ∷ decimal counts.packets
     ∷ codes " datagrams=" ∷ decimal counts.datagrams
     ∷ codes " fragments=" ∷ decimal counts.fragments
@@ -59,7 +63,12 @@ end_text counts streams = concat (
     ∷ codes " other=" ∷ decimal counts.other
     ∷ codes " unlisted=" ∷ decimal counts.unlisted
     ∷ codes " streams=" ∷ decimal streams
+    ∷ codes " dropped=" ∷ decimal dropped
+    ∷ codes " begin=" ∷ decimal counts.begin
     ∷ codes "\n" ∷ [])
+
+abbrev pub end_text : Counts → ℕ → List ℕ
+end_text counts streams = last_text counts streams (told_dropped counts)
 
 abbrev pub end_line : TableState → List ℕ
 end_line t = end_text t.counts (length t.streams)

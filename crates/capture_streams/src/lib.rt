@@ -15,5 +15,5 @@ mod stream; // one image stream, and what is counted of it
 mod stream_text; // the lines that list streams
 mod table; // the streams so far
 
-pub use laws::packets_are_counted;
+pub use laws::{packets_are_counted, streams_are_within};
 pub use listing::list_streams;

@@ -24,11 +24,12 @@ impl Telling for Table {
 
     fn packet(
         &mut self,
+        begin: u64,
         moment: u64,
         what: Content<'_>,
         _out: &mut Vec<u8>,
     ) -> Result<(), NoMemory> {
-        self.count(moment, what);
+        self.count(begin, moment, what);
         Ok(())
     }
 

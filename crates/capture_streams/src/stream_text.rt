@@ -171,6 +171,10 @@ pub(crate) fn add_end(out: &mut Vec<u8>, counts: Counts, streams: usize) -> Resu
             Piece::Number(counts.unlisted),
             Piece::Text(b" streams="),
             Piece::Number(streams as u64),
+            Piece::Text(b" dropped="),
+            Piece::Number(counts.told_dropped()),
+            Piece::Text(b" begin="),
+            Piece::Number(counts.begin),
             Piece::Text(b"\n"),
         ],
     )

@@ -112,12 +112,13 @@ impl Table {
         }
     }
 
-    /// One more packet of the capture, which came at this moment.
-    pub(crate) fn count(&mut self, moment: u64, what: Content<'_>)
+    /// One more packet of the capture, which came at this moment, or more that were dropped. The first packet came at
+    /// `begin`.
+    pub(crate) fn count(&mut self, begin: u64, moment: u64, what: Content<'_>)
         requires { IsShort (seen_as what) }
-        ensures { self.new ≡ counted (record { moment = moment; what = seen_as what.entry }) self.old }
+        ensures { self.new ≡ counted (record { begin = begin; moment = moment; what = seen_as what.entry }) self.old }
     {
-        self.counts = self.counts.after(what);
+        self.counts = self.counts.after(begin, what);
         match what {
             Content::Datagram {
                 sender,
@@ -127,6 +128,7 @@ impl Table {
             Content::Other => {}
             Content::Fragment => {}
             Content::Cut => {}
+            Content::Dropped { .. } => {}
         }
     }
 }
