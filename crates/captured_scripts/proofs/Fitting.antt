@@ -8,8 +8,8 @@ use Rattle.hex.specs.Hex.{encode_lower}
 use Rattle.gev_script.specs.Lines as line
 use Rattle.gev_script.specs.Lines.{ScriptLine}
 use Rattle.gev_capture.specs.declared.moments.Moments.{Moments}
-use Rattle.gev_capture.specs.Files.{Packet}
-use Rattle.gev_capture.specs.Contents.{Seen, Carried, other, fragment, cut, datagram, network, network_seen, ip_seen, looped, cooked, untagged, once_tagged, twice_tagged}
+use Rattle.gev_capture.specs.Files.{Packet, captured, dropped}
+use Rattle.gev_capture.specs.Contents.{Seen, Carried, other, fragment, cut, datagram, lost, network, network_seen, ip_seen, looped, cooked, untagged, once_tagged, twice_tagged}
 use Rattle.gev_capture.specs.Contents as contents
 use Rattle.gev_capture.specs.Sightings as capture
 use Rattle.gev_capture.specs.Sightings.{Sighting, moments_after, moment_in, sighting_of}
@@ -153,13 +153,15 @@ seen_goes : (moment : ℕ) (what : Seen) (s : Scripted) → moment < 2 ^ 64 → 
 seen_goes moment other s small all = tt
 seen_goes moment fragment s small all = tt
 seen_goes moment cut s small all = tt
+seen_goes moment (lost before now) s small all = tt
 seen_goes moment (datagram c) s small (is_datagram carried all) = carried_goes (is_for s.port c.receiver.port c.bytes) moment s.port c.receiver.port c.bytes s refl small all
 
 -- the lines of packets
 pub packets_go : (m : Moments) (packets : List Packet) (s : Scripted) → AllByRecursion HasBytes packets → AllGo (lines_from s (capture.sighted m packets))
 packets_go m [] s all = tt
-packets_go m (packet ∷ packets) s all =
-    let x : Sighting = sighting_of m packet in
+packets_go m (dropped before now ∷ packets) s all = packets_go m packets s all.1
+packets_go m (captured packet ∷ packets) s all =
+    let x : Sighting = sighting_of m (captured packet) in
     let small : x.moment ≤ 2 ^ 64 - 1 = few_moments m packet.time in
     all_append Goes (sighted s x).lines (lines_from (sighted s x).after (capture.sighted (moments_after m packet.time) packets))
     (seen_goes x.moment x.what s (omega (arith, small)) (small_seen packet.link packet.bytes all.0))

@@ -4,8 +4,8 @@ use Rattle.std.specs.List.{AllByRecursion}
 use Rattle.gev_script.specs.Lines as line
 use Rattle.gev_script.specs.Lines.{ScriptLine}
 use Rattle.gev_capture.specs.declared.moments.Moments.{Moments}
-use Rattle.gev_capture.specs.Files.{Packet}
-use Rattle.gev_capture.specs.Contents.{Seen, other, fragment, cut, datagram}
+use Rattle.gev_capture.specs.Files.{Packet, captured, dropped}
+use Rattle.gev_capture.specs.Contents.{Seen, other, fragment, cut, datagram, lost}
 use Rattle.gev_capture.specs.Sightings as capture
 use Rattle.gev_capture.specs.Sightings.{Sighting, moments_after, sighting_of}
 use Rattle.board_machine.specs.Machine.{Board}
@@ -72,14 +72,16 @@ seen_step : (pp ss port : ℕ) (t : Trace) (w : Wide) (s : Played) (now moment :
 seen_step pp ss port t w s now moment other stands small = nothing_step pp ss port t w s now stands
 seen_step pp ss port t w s now moment fragment stands small = nothing_step pp ss port t w s now stands
 seen_step pp ss port t w s now moment cut stands small = nothing_step pp ss port t w s now stands
+seen_step pp ss port t w s now moment (lost before after) stands small = nothing_step pp ss port t w s now stands
 seen_step pp ss port t w s now moment (datagram c) stands (is_datagram d small) =
     carried_step pp ss port t w s now moment c.bytes (is_for port c.receiver.port c.bytes) stands small
 
 pub packets_step : (pp ss port : ℕ) (t : Trace) (w : Wide) (s : Played) (now : ℕ) (m : Moments) (packets : List Packet) → Stands pp ss t w s → AllByRecursion HasBytes packets
     → LinesStep pp ss port t w (lines_from (scripted port pp ss s now) (capture.sighted m packets)) (script_behind (scripted port pp ss s now) (capture.sighted m packets))
 packets_step pp ss port t w s now m [] stands all = nothing_step pp ss port t w s now stands
-packets_step pp ss port t w s now m (packet ∷ packets) stands all =
-    let x : Sighting = sighting_of m packet in
+packets_step pp ss port t w s now m (dropped before after ∷ packets) stands all = packets_step pp ss port t w s now m packets stands all.1
+packets_step pp ss port t w s now m (captured packet ∷ packets) stands all =
+    let x : Sighting = sighting_of m (captured packet) in
     let start : Scripted = scripted port pp ss s now in
     let later : List Sighting = capture.sighted (moments_after m packet.time) packets in
     let one : LinesOf pp ss port t w (sighted start x) = seen_step pp ss port t w s now x.moment x.what stands (small_seen packet.link packet.bytes all.0) in

@@ -5,8 +5,8 @@ use Rattle.hex.specs.Hex.{encode_lower}
 use Rattle.gev_script.specs.Lines as line
 use Rattle.gev_script.specs.Lines.{ScriptLine}
 use Rattle.gev_capture.specs.declared.moments.Moments.{Moments}
-use Rattle.gev_capture.specs.Files.{Packet}
-use Rattle.gev_capture.specs.Contents.{Seen, other, fragment, cut, datagram}
+use Rattle.gev_capture.specs.Files.{Packet, captured, dropped}
+use Rattle.gev_capture.specs.Contents.{Seen, other, fragment, cut, datagram, lost}
 use Rattle.gev_capture.specs.Sightings as capture
 use Rattle.gev_capture.specs.Sightings.{Sighting, no_moments, moment_in, moments_after, sighting_of}
 use Rattle.capture_script.specs.Playing.{heard, ticked, stopped}
@@ -84,6 +84,7 @@ seen_tells : (moment : ℕ) (what : Seen) (s : Scripted) → s.moment ≤ moment
 seen_tells moment other s past = nothing_tells s moment past
 seen_tells moment fragment s past = nothing_tells s moment past
 seen_tells moment cut s past = nothing_tells s moment past
+seen_tells moment (lost before now) s past = nothing_tells s moment past
 seen_tells moment (datagram c) s past = carried_if (is_for s.port c.receiver.port c.bytes) moment c.bytes s past
 
 -- ---- moments never fall
@@ -104,8 +105,9 @@ packets_tell : (m : Moments) (packets : List Packet) (s : Scripted) (ls : List S
     → told_from s.moment (lines_from s (capture.sighted m packets) ++ ls)
     ≡ datagrams_to s.port (capture.sighted m packets) ++ told_from (script_behind s (capture.sighted m packets)).moment ls
 packets_tell m [] s ls past small = refl
-packets_tell m (packet ∷ packets) s ls past small =
-    let x : Sighting = sighting_of m packet in
+packets_tell m (dropped before now ∷ packets) s ls past small = packets_tell m packets s ls past small
+packets_tell m (captured packet ∷ packets) s ls past small =
+    let x : Sighting = sighting_of m (captured packet) in
     let up = not_before m packet.time small in
     let one = seen_tells x.moment x.what s (omega (arith, past, up)) in
     let new : Scripted = (sighted s x).after in

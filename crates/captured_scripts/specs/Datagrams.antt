@@ -3,7 +3,7 @@ use Rattle.std.specs.Prelude.{ℕ, max, List, [], ◌∷◌, ◌++◌, Bool, tru
 use Rattle.hex.specs.Hex.{encode_lower}
 use Rattle.gev_script.specs.Lines as line
 use Rattle.gev_script.specs.Lines.{ScriptLine}
-use Rattle.gev_capture.specs.Contents.{Seen, other, fragment, cut, datagram}
+use Rattle.gev_capture.specs.Contents.{Seen, other, fragment, cut, datagram, lost}
 use Rattle.gev_capture.specs.Sightings.{Sighting}
 use Rattle.capture_script.specs.Script.{is_for}
 
@@ -21,6 +21,7 @@ abbrev pub told_of : ℕ → ℕ → Seen → List Told
 told_of port moment other = []
 told_of port moment fragment = []
 told_of port moment cut = []
+told_of port moment (lost before now) = []
 told_of port moment (datagram c) = told_if (is_for port c.receiver.port c.bytes) moment c.bytes
 
 -- those of the packets that are datagrams of 1 to 9,999 bytes to this port
