@@ -99,8 +99,8 @@ pub fn fills_are_images()
 {}
 
 /// Under a map of frames a fill that is marked complete is its block's frame; in any fill each
-/// received byte is in place, and 0 elsewhere; and where the buffer was large enough and all packets
-/// came, it is marked complete.
+/// received byte is in place, and 0 elsewhere, and the image that its record tells is that frame's; and
+/// where the buffer was large enough and all packets came, it is marked complete.
 pub fn fills_keep_frames()
     ensures { FillsKeepFrames }
 {}

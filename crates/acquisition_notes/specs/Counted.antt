@@ -1,4 +1,4 @@
--- What notes count.
+-- What notes count, and which of them are of blocks that retired.
 use Rattle.std.specs.Prelude.{ℕ, ◌+◌, List, [], ◌∷◌, Bool, true, false, Option, Some, None, if◌then◌else◌}
 use Rattle.gentl_types.specs.declared.buffer_id.BufferId.{BufferId}
 use Rattle.acquisition_machine.specs.declared.counts.Counts.{Counts}

@@ -1,4 +1,5 @@
--- The notes of some inputs, worked out by hand: images of three bytes, in one payload, with a window of one block.
+-- The notes of some inputs, worked out by hand: images of three bytes, in one payload, with a window of one block, and
+-- entries that gave way.
 use Rattle.std.specs.Prelude.{◌≡◌, ℕ, true, false, List, [], ◌∷◌, ◌++◌, codes, Some, None}
 use Rattle.gentl_types.specs.declared.word.State.TheVariants.{Held}
 use Rattle.stream_packets.specs.declared.fields.Head.{Head}

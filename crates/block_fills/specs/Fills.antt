@@ -53,8 +53,8 @@ pub record IsAmong (whole : List Retirement) (r : Retirement) : Type 0 where
 -- It is a block that retired with its buffer, when the last of these inputs of one acquisition came. It
 -- holds the packets of its id that came since a buffer was claimed for it. Under each map of frames from
 -- which the datagrams of this acquisition were sent: where it's marked complete it is its block's frame;
--- in every case each received byte is in place, and 0 elsewhere; and in a large enough buffer, where all
--- its packets came, it is marked complete.
+-- in every case each received byte is in place, and 0 elsewhere, and the image that it tells is that frame's;
+-- and in a large enough buffer, where all its packets came, it is marked complete.
 pub record IsRetired (c : AcqConfig) (inputs : List Input) (x : Item) : Type 0 where
   pub before : List Input
   pub since : List Input

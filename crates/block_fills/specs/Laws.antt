@@ -19,7 +19,7 @@ StartsClean c s (stop ∷ q) = StartsClean c (step c s stop).after q
 StartsClean c s (restart ∷ q) = (s.opens ≡ []) × StartsClean c (step c s restart).after q
 
 -- The blocks that retire with a buffer as inputs come, of which none begins an acquisition while a block is
--- open, are each their block's frame, or have each received byte in place.
+-- open, are each their block's frame, or have each received byte in place and tell no other frame's image.
 abbrev pub BlocksAreRetired : Type 0
 BlocksAreRetired =
     (c : AcqConfig) (inputs : List Input) → 1 ≤ c.window → StartsClean c first_state inputs → AllByRecursion (IsRetired c inputs) (retired_items c inputs)

@@ -3,7 +3,7 @@
 ghost use Rattle.block_fills.specs.Laws.{BlocksAreRetired, FillsAreRetired};
 
 /// Of inputs among which no acquisition begins while a block is open: each block that retires with a buffer
-/// is its block's frame, or has each received byte in place and isn't marked complete.
+/// is its block's frame, or has each received byte in place, tells no other frame's image and isn't marked complete.
 pub fn retired_blocks_are_blocks()
     ensures { BlocksAreRetired }
 {}

@@ -1,4 +1,4 @@
--- What a link tells of its receives and sends. None means that it tells nothing.
+-- What a link tells of its receives and sends, and the room of a receive. None means that it tells nothing.
 use Rattle.std.specs.Prelude.{◌≡◌, ⊤, ℕ, List, [], ◌++◌, take, Option, Some, None, Result, Ok, Err}
 use Rattle.gev_types.specs.declared.peer.Peer.{Peer}
 use Rattle.gev_links.specs.declared.failed.Failed.{Failed}

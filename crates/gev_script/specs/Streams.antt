@@ -25,11 +25,12 @@ pub record IsLine (bytes line rest : List ℕ) : Type 0 where
   pub no_feed : HasNoFeed line
   pub short : length line ≤ 20000
 
--- Bytes came only where those that were held had no whole line and weren't too long.
+-- Where bytes came, those that were held before had no whole line and weren't too long, so the first read of the call was
+-- wanted. It's no promise on the reads behind it.
 abbrev pub IsPrompt : List ℕ → List ℕ → Type 0
 IsPrompt held more = (more ≡ []) ⊎ IsOpen held
 
--- These bytes were held or came, no sooner than they were wanted and no more than there is room for, and this
+-- These bytes were held or came, no more than there is room for; the first of them that came were wanted; and this
 -- holds of all of them. Where they begin with a line, its line feed and what is held behind it are among them.
 pub record ReadsOn (held : List ℕ) (left left_after : Option (List ℕ)) (P : List ℕ → Type 0) : Type 0 where
   pub more : List ℕ

@@ -56,7 +56,7 @@ pub enum Status {
         /// Why it's refused.
         kind: CaptureKind,
     },
-    /// The buffer that was asked for has no picture. Nothing was written.
+    /// The buffer that was asked for has no picture, or none of all has one. Nothing was written.
     NoPicture {
         /// Why it has none.
         why: NoPicture,

@@ -22,7 +22,7 @@ use Rattle.gev_top.specs.Capturing.{ListsStreams, ScriptsCapture, IsCaptureRead,
 -- has one owner at each step, buffers are handed out once and in the order of their fills, the
 -- acquisition's fills are the blocks that retire, and each of them, and each buffer that is handed out
 -- with a block in it, is its block's frame or has each received byte in place. The report of its lines is
--- the trace's text, where no datagram was widened.
+-- the trace's text; where a datagram was widened, with requests in the standard form from a datagram on.
 abbrev pub Replays : Status → Option (List ℕ) → Option (List ℕ) → ℕ → ℕ → Option (List ℕ) → Option (List ℕ) → ℕ → ℕ → Type 0
 Replays status left left_after reads reads_after written written_after writes writes_after =
     IfEnded

@@ -9,7 +9,7 @@ use gev_status::Status;
 use script_image::{ImageEnd, Wanted, write_image};
 use std::alloc::Global;
 
-/// The answer where the writing of a picture ended so.
+/// The answer where the writing of pictures ended so.
 fn status_for(end: ImageEnd) -> Status
     ensures { result ≡ status_for end }
 {

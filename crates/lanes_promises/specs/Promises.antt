@@ -51,9 +51,9 @@ HoldsUnderOne frames c (a ∷ acquirers) x = HoldsUnder frames c a.inputs x ⊎ 
 -- lanes took, is what actors without a claim took: by `LiveApplication` the application took just this, and its lines
 -- tell of it. Each buffer that was taken, be it handed out or dropped, holds a block of one of the lanes: no record is
 -- empty. Under each map of frames from which all packets were sent that came on the stream's link, each of them is its
--- block's frame where it's marked complete, has each received byte in place and 0 elsewhere, and is marked complete
--- where the buffer is large enough and its lane was told all packets before it was filled. And the reader ended as it
--- did for a cause.
+-- block's frame where it's marked complete, has each received byte in place and 0 elsewhere, tells no other image than
+-- that frame's, and is marked complete where the buffer is large enough and its lane was told all packets before it was
+-- filled. And the reader ended as it did for a cause.
 pub record KeepsRun {n : Numbers} {lanes : ℕ} {camera stream : Address} {answer : Status} {o e : Told} {written written_after : Option (List ℕ)} {faults faults_after : ℕ} {h : List Entry}
     (run : LanesRun n lanes camera stream answer o e written written_after faults faults_after h) : Type 0 where
   pub headline : KeepsHeadline live_config (lanes_of run) h

@@ -39,8 +39,9 @@ packets_among (came bytes peer ∷ rest) = with_packet (packet_of bytes) (packet
 -- the reader took, is what actors without a claim took: by `LiveApplication` the application took just this, and its
 -- lines tell of it. Each buffer that was taken, handed out or dropped, holds one of the reader's blocks: no record is
 -- empty. Under each map of frames from which all packets were sent that came on the stream's link, each of them is its
--- block's frame where it's marked complete, has each received byte in place and 0 elsewhere, and is marked complete
--- where the buffer is large enough and all packets came before it was filled. And the reader ended as it did for a cause.
+-- block's frame where it's marked complete, has each received byte in place and 0 elsewhere, tells no other image than
+-- that frame's, and is marked complete where the buffer is large enough and all packets came before it was filled. And the
+-- reader ended as it did for a cause.
 pub record KeepsRun {n : Numbers} {camera stream : Address} {answer : Status} {o e : Told} {written written_after : Option (List ℕ)} {faults faults_after : ℕ} {h : List Entry}
     (run : LiveRun n camera stream answer o e written written_after faults faults_after h) : Type 0 where
   pub headline : KeepsHeadline live_config (reader_of run ∷ []) h

@@ -53,8 +53,8 @@ HoldsBlock c acquirers x = IsBlockOf c acquirers x ⊎ (x.filling.rec ≡ empty_
 -- removed from the output once, in the order of their fills, and none after a close. What the acquirers fill are the
 -- blocks that their acquisitions retire, and nobody else fills more than empty records. And each buffer that was
 -- handed out, which is one that another actor than the acquirers took, holds such a block: with every received byte in
--- place and 0 elsewhere, as its block's frame where it's marked complete, and marked complete where the buffer is large
--- enough and all packets came before it was filled.
+-- place and 0 elsewhere, with no other image told than its block's frame's, as that frame where it's marked complete, and
+-- marked complete where the buffer is large enough and all packets came before it was filled.
 pub record KeepsHeadline (c : AcqConfig) (acquirers : List Acquirer) (h : List Entry) : Type 0 where
   pub run : Run h
   pub owned : (front rest : List Entry) → h ≡ front ++ rest → IsOwned (After front)
@@ -64,8 +64,9 @@ pub record KeepsHeadline (c : AcqConfig) (acquirers : List Acquirer) (h : List E
   pub handed : AllByRecursion (HoldsBlock c acquirers) (handed_out_items (is_acquirer acquirers) h)
 
 -- Of a block that retired from an acquisition, under a map of frames from which its datagrams were sent: where the
--- buffer is marked complete it is its block's frame; in every case each received byte is in place, and 0 elsewhere;
--- and in a large enough buffer, where all its packets came before it was filled, it is marked complete.
+-- buffer is marked complete it is its block's frame; in every case each received byte is in place, and 0 elsewhere,
+-- and the image that it tells is that frame's; and in a large enough buffer, where all its packets came before it was
+-- filled, it is marked complete.
 pub record HoldsUnder (frames : ℕ → Option Frame) (c : AcqConfig) (inputs : List Input) (x : Item) : Type 0 where
   pub retired : IsRetired c inputs x
   pub holds : HoldsOfFrame frames c.p retired.block.was retired.given

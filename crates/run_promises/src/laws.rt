@@ -14,7 +14,7 @@ pub fn runs_keep_headline()
 {}
 
 /// Where all datagrams of an acquisition were sent from one map of frames, each block that retires with its buffer
-/// is its block's frame, or has each received byte in place and isn't marked complete.
+/// is its block's frame, or has each received byte in place, tells no other frame's image and isn't marked complete.
 pub fn blocks_hold_frames()
     ensures { BlocksHoldFrames }
 {}

@@ -1,4 +1,4 @@
--- What the writing of a picture has read and written, by how it ended.
+-- What the writing of pictures has read and written, by how it ended.
 use Rattle.std.specs.Prelude.{◌≡◌, ◌≢◌, ⊤, ◌⊎◌, ℕ, ◌+◌, ◌<◌, ◌≤◌, List, [], ◌++◌, min, Option, None, Ok, Err, Result}
 use Rattle.gev_links.specs.Faults.{Rose}
 use Rattle.gev_links.specs.Told.{Appends}

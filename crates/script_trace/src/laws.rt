@@ -8,7 +8,7 @@ ghost use Rattle.script_trace.specs.Laws.{TracesKeepPromises, RunsKeepPromises, 
 /// and filled buffers are handed out or dropped once, in the order of their fills, none after a close. The
 /// acquisition's fills are the blocks that retire with a buffer, all and in order; each of them, and so
 /// each buffer that is handed out or dropped with a block in it, is its block's frame, or has each received
-/// byte in place and isn't marked complete.
+/// byte in place, tells no other frame's image and isn't marked complete. Nobody else fills more than empty records.
 pub fn traces_keep_promises()
     ensures { TracesKeepPromises }
 {}

@@ -54,8 +54,8 @@ pub record HearsFrames (frames : ℕ → Option Frame) (p : ℕ) (es : List Worl
 
 -- The buffer was filled with a block, and holds the packets of its id that came since the buffer was claimed
 -- for it. Of the block's frame it holds what `HoldsOfFrame` says: where it's marked complete, the frame; in
--- every case each received byte in place, and 0 elsewhere; and in a large enough buffer, where all packets
--- came, it's marked complete.
+-- every case each received byte in place, and 0 elsewhere, and no other image told than that frame's; and in a
+-- large enough buffer, where all packets came, it's marked complete.
 pub record HoldsBlock (frames : ℕ → Option Frame) (c : AcqConfig) (inputs : List Input) (x : Item) : Type 0 where
   pub front : List Input
   pub rest : List Input

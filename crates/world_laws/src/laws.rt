@@ -32,8 +32,8 @@ pub fn trace_of_a_world_keeps_promises()
 
 /// Where the receiver hears packets of one map of frames, in one payload size, each buffer that was
 /// filled, handed out or not, is its block's frame or isn't marked complete; each received byte is in
-/// place, and 0 elsewhere; and in a large enough buffer it's marked complete where all packets came
-/// before it retired. Buffers with the empty record, which no block filled, are left out.
+/// place, and 0 elsewhere; the image that it tells is that frame's; and in a large enough buffer it's
+/// marked complete where all packets came before it retired. Buffers with the empty record, which no block filled, are left out.
 pub fn heard_images_are_true()
     ensures { (seed : ℕ) (shape : Shape) (room : ℕ) (peer : Peer) (es : List WorldEvent) → HeardImagesAreTrue seed shape room peer es }
 {}
