@@ -8,6 +8,9 @@ use anyhow::{Result, anyhow};
 use buffer_words::Board;
 use gev_links::{MemoryClock, MemoryLink, MemorySink};
 use gev_live::{Ends, live_over};
+use gev_status::Status;
+use gev_types::NoMemory;
+use std::alloc::Global;
 use std::sync::Wait;
 use std::thread::Threads;
 
@@ -23,31 +26,53 @@ pub fn live<R: Threads + Wait + Sync>(
     run(rt, handles, case, tells.as_slice())
 }
 
-/// Makes the run over a stream that tells this.
+/// Makes the run over a stream that tells this, and prints its status and what it wrote.
 fn run<R: Threads + Wait + Sync>(
     rt: &HostRuntime,
     handles: &R,
     case: &Case<'_>,
     tells: Heard<'_>,
 ) -> Result<()> {
+    let mut sink = MemorySink::new(rt.alloc(), 1000, NONE);
+    let ends = ends_of(rt.alloc(), case, tells)?;
+    let status = run_over(handles, rt.alloc(), case, ends, &mut sink)?;
+    print!(rt; "{status:?}")?;
+    print_text(rt, sink.written())
+}
+
+/// The links and the clocks of a run.
+fn ends_of<'x>(
+    alloc: Global,
+    case: &Case<'x>,
+    tells: Heard<'x>,
+) -> Result<Ends<MemoryLink<'x>, MemoryLink<'x>, MemoryClock<'x>>, NoMemory> {
+    Ok(Ends {
+        camera: MemoryLink::new(alloc, CAMERA, SILENCE, NONE, NONE, 0)?,
+        stream: MemoryLink::new(alloc, STREAM, tells, NONE, NONE, 0)?,
+        control: control_link(alloc, case, HOST)?,
+        camera_clock: MemoryClock::new(NONE),
+        host_clock: MemoryClock::new(case.moments),
+        app_clock: MemoryClock::new(NONE),
+    })
+}
+
+/// Makes the run over these links and clocks.
+fn run_over<'x, R: Threads + Wait + Sync>(
+    handles: &R,
+    alloc: Global,
+    case: &Case<'_>,
+    ends: Ends<MemoryLink<'x>, MemoryLink<'x>, MemoryClock<'x>>,
+    sink: &mut MemorySink<'_>,
+) -> Result<Status> {
     let buffers = u8::try_from(case.number(1)).unwrap_or(0);
     if buffers < 1 || buffers > 15 {
         return Err(anyhow!("no such number of buffers"));
     }
-    let ends = Ends {
-        camera: MemoryLink::new(rt.alloc(), CAMERA, SILENCE, NONE, NONE, 0)?,
-        stream: MemoryLink::new(rt.alloc(), STREAM, tells, NONE, NONE, 0)?,
-        control: control_link(rt.alloc(), case, HOST)?,
-        camera_clock: MemoryClock::new(NONE),
-        host_clock: MemoryClock::new(case.moments),
-        app_clock: MemoryClock::new(NONE),
-    };
-    let (board, mut pass) = Board::new(rt.alloc())?;
+    let (board, mut pass) = Board::new(alloc)?;
     let gate = HoldingGate::new(case.number(5));
-    let mut sink = MemorySink::new(rt.alloc(), 1000, NONE);
     let (status, _ends) = live_over(
         handles,
-        rt.alloc(),
+        alloc,
         &board,
         &mut pass,
         1,
@@ -57,9 +82,8 @@ fn run<R: Threads + Wait + Sync>(
         case.number(3),
         ends,
         &gate,
-        &mut sink,
+        sink,
         case.mode(0),
     );
-    print!(rt; "{status:?}")?;
-    print_text(rt, sink.written())
+    Ok(status)
 }

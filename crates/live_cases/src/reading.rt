@@ -11,7 +11,8 @@ use crate::links::{CAMERA, HOST, STREAM, control_link, print_sent, stream_link};
 use anyhow::Result;
 use buffer_words::{Board, Pass};
 use control_client::Client;
-use gev_links::{MemoryClock, OpenGate};
+use gev_acq::AcqEnd;
+use gev_links::{MemoryClock, MemoryLink, OpenGate};
 use gev_reader::{ReadDone, read};
 use mode_calls::Mode;
 use std::sync::Wait;
@@ -62,8 +63,23 @@ fn read_over<R: Wait>(
         3,
         Mode::OldestFirst,
     );
-    let runs = board.look_run(&mut pass) == 1;
-    print!(rt; "{end:?} turns {} runs {runs}", journal.len())?;
-    print_sent(rt, &control)?;
-    print_all(rt, handles, board, &mut pass)
+    print_done(rt, handles, board, &mut pass, end, journal.len(), &control)
+}
+
+/// Prints how the reader ended, and what waits.
+fn print_done<R: Wait>(
+    rt: &HostRuntime,
+    handles: &R,
+    board: &Board,
+    pass: &mut Pass,
+    end: AcqEnd,
+    turns: usize,
+    control: &MemoryLink<'_>,
+) -> Result<()>
+    requires table { pass.old.table ≡ board_id board.now }
+{
+    let runs = board.look_run(pass) == 1;
+    print!(rt; "{end:?} turns {turns} runs {runs}")?;
+    print_sent(rt, control)?;
+    print_all(rt, handles, board, pass)
 }

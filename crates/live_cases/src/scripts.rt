@@ -15,13 +15,25 @@ use std::alloc::Global;
 /// how many lines it has.
 pub fn write_turns(rt: &HostRuntime, case: &Case<'_>) -> Result<()> {
     let link = DiscardingLink::new(rt.alloc(), CAMERA, case.stream)?;
-    let tape = match Tape::new(rt.alloc(), link, 10) {
-        Ok(tape) => hear_all(tape, case.stream.len()),
-        Err((_, error)) => return Err(error.into()),
-    };
     let marks = marks_of(rt.alloc(), case)?;
+    match Tape::new(rt.alloc(), link, 10) {
+        Ok(mut tape) => {
+            hear_all(&mut tape, case.stream.len());
+            write_tape(rt, case, &tape, marks.as_slice())
+        }
+        Err((_, error)) => Err(error.into()),
+    }
+}
+
+/// Writes what a tape kept, with these marks.
+fn write_tape(
+    rt: &HostRuntime,
+    case: &Case<'_>,
+    tape: &Tape<DiscardingLink<'_>>,
+    marks: &[Mark],
+) -> Result<()> {
     let mut sink = MemorySink::new(rt.alloc(), 5000, case.sends);
-    match write_script(rt.alloc(), &tape, marks.as_slice(), &mut sink) {
+    match write_script(rt.alloc(), tape, marks, &mut sink) {
         Ok(()) => {
             print!(rt; "written")?;
             print_text(rt, sink.written())?;
@@ -35,13 +47,12 @@ pub fn write_turns(rt: &HostRuntime, case: &Case<'_>) -> Result<()> {
     }
 }
 
-/// A tape that has made so many receives.
-fn hear_all(mut tape: Tape<DiscardingLink<'_>>, count: usize) -> Tape<DiscardingLink<'_>> {
+/// Makes so many receives of a tape.
+fn hear_all(tape: &mut Tape<DiscardingLink<'_>>, count: usize) {
     let mut out = [0; 9000];
     for _turn in 0..count {
-        tape.recv(&mut out).unwrap_or(None);
+        let _ = tape.recv(&mut out);
     }
-    tape
 }
 
 /// The marks of a row.

@@ -7,8 +7,8 @@ use crate::links::{CAMERA, control_link, print_sent};
 use anyhow::{Result, anyhow};
 use buffer_words::Board;
 use camera_sim::Camera;
-use gev_links::{Clock, Link, MemoryClock};
-use gev_serve::{Rooms, serve, serve_once};
+use gev_links::{Clock, Link, MemoryClock, MemoryLink};
+use gev_serve::{Rooms, ServeTurn, serve, serve_once};
 use gev_types::Shape;
 use std::alloc::Global;
 
@@ -58,12 +58,12 @@ pub fn serve_some(rt: &HostRuntime, case: &Case<'_>) -> Result<()> {
 
 /// A turn alone, whose datagram is the front of what is handed in: so many bytes of the first datagram.
 pub fn obey_one(rt: &HostRuntime, case: &Case<'_>) -> Result<()> {
-    let mut link = control_link(rt.alloc(), case, CAMERA)?;
-    let mut camera = new_camera(rt.alloc())?;
-    let mut rooms = Rooms::new();
     let Some(Some((bytes, peer))) = case.control.first() else {
         return Err(anyhow!("no datagram"));
     };
+    let mut link = control_link(rt.alloc(), case, CAMERA)?;
+    let mut camera = new_camera(rt.alloc())?;
+    let mut rooms = Rooms::new();
     let end = serve_once(
         rt.alloc(),
         &mut camera,
@@ -73,6 +73,16 @@ pub fn obey_one(rt: &HostRuntime, case: &Case<'_>) -> Result<()> {
         case.number(0),
         &mut rooms,
     );
-    print!(rt; "{end:?} executed {}", camera.executed())?;
-    print_sent(rt, &link)
+    print_turn(rt, end, camera.executed(), &link)
+}
+
+/// Prints how a turn ended, how many commands the camera executed, and what was sent.
+fn print_turn(
+    rt: &HostRuntime,
+    end: ServeTurn,
+    executed: u64,
+    link: &MemoryLink<'_>,
+) -> Result<()> {
+    print!(rt; "{end:?} executed {executed}")?;
+    print_sent(rt, link)
 }

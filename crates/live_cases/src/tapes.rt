@@ -10,18 +10,28 @@ use gev_record::Tape;
 pub fn hear_some(rt: &HostRuntime, case: &Case<'_>) -> Result<()> {
     let link = control_link(rt.alloc(), case, CAMERA)?;
     match Tape::new(rt.alloc(), link, case.small(0)) {
-        Ok(tape) => hear_on(rt, tape),
+        Ok(mut tape) => {
+            print_heard(rt, &mut tape)?;
+            print_kept(rt, &tape)?;
+            print_end(rt, &mut tape)?;
+            print_sent(rt, &tape.into_inner())
+        }
         Err((_, error)) => Err(error.into()),
     }
 }
 
-/// The receives and the send of a tape.
-fn hear_on(rt: &HostRuntime, mut tape: Tape<MemoryLink<'_>>) -> Result<()> {
+/// The receives.
+fn print_heard(rt: &HostRuntime, tape: &mut Tape<MemoryLink<'_>>) -> Result<()> {
     let mut out = [0; 9000];
     print!(rt; "hears")?;
     for _ in 0..4 {
         print!(rt; "\n  {:?}", tape.recv(&mut out))?;
     }
+    Ok(())
+}
+
+/// What was kept.
+fn print_kept(rt: &HostRuntime, tape: &Tape<MemoryLink<'_>>) -> Result<()> {
     print!(rt; "\n  kept {}", tape.len())?;
     for turn in 0..4 {
         print!(rt; "\n  {turn} ")?;
@@ -30,6 +40,11 @@ fn hear_on(rt: &HostRuntime, mut tape: Tape<MemoryLink<'_>>) -> Result<()> {
             None => print!(rt; "none")?,
         }
     }
+    Ok(())
+}
+
+/// The address, and a send.
+fn print_end(rt: &HostRuntime, tape: &mut Tape<MemoryLink<'_>>) -> Result<()> {
     let peer = tape.peer();
     print!(rt;
         "\n  at {:x}:{} {:?}",
@@ -37,5 +52,5 @@ fn hear_on(rt: &HostRuntime, mut tape: Tape<MemoryLink<'_>>) -> Result<()> {
         peer.port,
         tape.send(CAMERA, b"x")
     )?;
-    print_sent(rt, &tape.into_inner())
+    Ok(())
 }

@@ -1,9 +1,13 @@
 //! A receiver that is served by itself, without a reader's links.
 
+ghost use Rattle.std.specs.Prelude.{◌≡◌};
+ghost use Rattle.buffer_words.specs.Boards.{board_id};
+
 use crate::acquiring::new_receiver;
 use crate::board::{new_board, print_out};
 use crate::case::Case;
 use anyhow::{Result, anyhow};
+use buffer_words::{Board, Pass};
 use gev_acq::{fill_all, receive, retire_all, serve_turn};
 use gev_links::OpenGate;
 use mode_calls::Mode;
@@ -49,7 +53,7 @@ pub fn serve_some<R: Wait>(rt: &HostRuntime, handles: &R, case: &Case<'_>) -> Re
     print_out(rt, &board, &mut pass)
 }
 
-/// The stream's datagram alone, and the stop of the receiver; then the stop of one that heard nothing.
+/// The stream's datagram alone, and the stop of the receiver; then that of one that heard nothing.
 pub fn tell_one<R: Wait>(rt: &HostRuntime, handles: &R, case: &Case<'_>) -> Result<()> {
     let (board, mut pass) = new_board(rt.alloc())?;
     let mut acq = new_receiver(rt.alloc(), false)?;
@@ -58,10 +62,17 @@ pub fn tell_one<R: Wait>(rt: &HostRuntime, handles: &R, case: &Case<'_>) -> Resu
     print!(rt; "{heard:?}")?;
     retire_all(handles, &board, &mut pass, &mut acq, &OpenGate, MODE);
     print_out(rt, &board, &mut pass)?;
+    stop_new(rt, handles, &board, &mut pass)
+}
+
+/// The stop of a receiver that heard nothing.
+fn stop_new<R: Wait>(rt: &HostRuntime, handles: &R, board: &Board, pass: &mut Pass) -> Result<()>
+    requires table { pass.old.table ≡ board_id board.now }
+{
     let mut acq = new_receiver(rt.alloc(), false)?;
     acq.stop();
-    fill_all(handles, &board, &mut pass, &mut acq, &OpenGate, MODE);
-    print_out(rt, &board, &mut pass)
+    fill_all(handles, board, pass, &mut acq, &OpenGate, MODE);
+    print_out(rt, board, pass)
 }
 
 /// The first datagram of the stream.
