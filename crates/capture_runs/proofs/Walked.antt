@@ -1,6 +1,6 @@
 -- A capture that is read record by record, and how its run ends.
 use Rattle.std.proofs.Common.{◌≡◌, ℕ, ◌+◌, ◌-◌, ◌^◌, ◌<◌, ◌≤◌, List, [], ◌∷◌, ◌++◌, length, drop, Option, Some, None, Result, Ok, Err, refl, ap, sym, ◌∙◌, subst, arith, inl, inr, append_assoc, length-append}
-use Rattle.std.specs.Prelude.{◌⊎◌, false, OnOk, is_err}
+use Rattle.std.specs.Prelude.{◌⊎◌, Bool, false, OnOk, is_err}
 use Rattle.std.proofs.lemmas.List.{append-nil, length-drop}
 use Rattle.gev_links.specs.Faults.{Rose}
 use Rattle.gev_links.specs.Told.{Gives, IsSpent, Appends, WritesFront}
@@ -23,7 +23,7 @@ use Rattle.gev_capture.proofs.Pieces.{pieces_tell}
 use Rattle.gev_capture.proofs.Walking.{walks_more, walks_next, walks_end, walks_on, packets_next, packets_append}
 use Rattle.capture_runs.specs.declared.ending.Ending.{Ending}
 use Rattle.capture_runs.specs.declared.ending.Ending.TheVariants.{Done, BadCapture, ReadFault, WriteFault, NoMemory}
-use Rattle.capture_runs.specs.Texts.{Texts, said, state, broken, whole, Tells}
+use Rattle.capture_runs.specs.Texts.{Texts, said, state, broken, whole, tells, Tells}
 use Rattle.capture_runs.specs.Ends.{size_of, WasCaptured, WasRead, StopsShort, at_end, at_fault, between, RunEnds, AnswersContent}
 use Rattle.capture_runs.specs.Turns.{moments_behind, Drains, rest_text, EndsWith, GoesOn, BreaksOff, TurnEnds}
 use Rattle.capture_runs.proofs.Fronts.{drains_none, drains_more, drained_whole, drained_front, front_none, front_more, still_front}
@@ -335,10 +335,12 @@ module _ {P : Type 0} where
       → Stood t Begun Stands reader m out held left mid written written_mid → reads_mid ≡ reads → writes_mid ≡ writes
       → TurnEnds t Stands ending reader m held mid left_after reads_mid reads_after written_mid written_after writes_mid writes_after
       → (p : P) → Begun p
-      → RunEnds (λ xs. out ++ whole t p xs) (λ xs. out ++ broken t p xs) ending left left_after reads reads_after written written_after writes writes_after
-  stood_ends t Begun Stands reader m out held left mid left_after reads reads_mid reads_after written written_mid written_after writes writes_mid writes_after Done s e f turn p begun =
-      was_ended t Begun Stands reader m out held left mid left_after written written_mid (λ packets. Appends written written_after (out ++ whole t p (sightings packets))) s turn.0
-      (whole_written t Begun Stands p (sightings (packets_in s.records)) out held written written_mid written_after (s.drained p begun) (turn.1 (state t p (sightings (packets_in s.records))) (s.told p begun)))
+      → RunEnds (λ xs. out ++ whole t p xs) (λ xs. out ++ broken t p xs) (tells t p) ending left left_after reads reads_after written written_after writes writes_after
+  stood_ends t Begun Stands reader m out held left mid left_after reads reads_mid reads_after written written_mid written_after writes writes_mid writes_after (Done told) s e f turn p begun =
+      let h = turn.1 (state t p (sightings (packets_in s.records))) (s.told p begun) in
+      was_ended t Begun Stands reader m out held left mid left_after written written_mid
+      (λ packets. (told ≡ tells t p (sightings packets)) × Appends written written_after (out ++ whole t p (sightings packets))) s turn.0
+      (h.0, whole_written t Begun Stands p (sightings (packets_in s.records)) out held written written_mid written_after (s.drained p begun) h.1)
   stood_ends t Begun Stands reader m out held left mid left_after reads reads_mid reads_after written written_mid written_after writes writes_mid writes_after (BadCapture n kind) s e f turn p begun =
       let number : length s.records + 1 ≡ n = omega (arith, turn.0, s.count) in
       was_refused t Begun Stands reader m out held left mid left_after written written_mid (λ packets. Appends written written_after (out ++ whole t p (sightings packets))) kind n s number turn.1
@@ -365,7 +367,7 @@ module _ {P : Type 0} where
 
 -- a run that had no memory to begin
 pub run_none : {P : Type 0} (t : Texts P) (p : P) (out : List ℕ) (left : Option (List ℕ)) (reads : ℕ) (written : Option (List ℕ)) (writes : ℕ)
-    → RunEnds (λ xs. out ++ whole t p xs) (λ xs. out ++ broken t p xs) NoMemory left left reads reads written written writes writes
+    → RunEnds (λ xs. out ++ whole t p xs) (λ xs. out ++ broken t p xs) (tells t p) NoMemory left left reads reads written written writes writes
 run_none t p out left reads written writes =
     between
     (record {
@@ -400,7 +402,7 @@ module _ {P : Type 0} where
       → n ≡ reader.records → Nexts (Err end) reader reader_after left left_after reads reads_after
       → EndsWith t Stands end n ending held written written_after writes writes_after
       → TurnEnds t Stands ending reader m held left left_after reads reads_after written written_after writes writes_after
-  turn_ended t Stands end n Done reader reader_after m held left left_after reads reads_after written written_after writes writes_after c nexts ends =
+  turn_ended t Stands end n (Done told) reader reader_after m held left left_after reads reads_after written written_after writes writes_after c nexts ends =
       (ended_by end Ended reader reader_after left left_after reads reads_after ends.0 nexts, ends.1)
   turn_ended t Stands end n (BadCapture number kind) reader reader_after m held left left_after reads reads_after written written_after writes writes_after c nexts ends =
       (omega (arith, ends.1, c), ended_by end (Refused kind) reader reader_after left left_after reads reads_after ends.0 nexts, ends.2)
@@ -456,21 +458,22 @@ module _ {P : Type 0} where
 
 -- ---- what the bytes decide
 
-answers_by : (whole_text broken_text : List Sighting → List ℕ) (ending : Ending) (l : List ℕ) (left_after : Option (List ℕ)) (reads reads_after : ℕ) (written written_after : Option (List ℕ)) (writes writes_after : ℕ)
-    → RunEnds whole_text broken_text ending (Some l) left_after reads reads_after written written_after writes writes_after → AnswersContent ending l
-answers_by whole_text broken_text Done l left_after reads reads_after written written_after writes writes_after h packets end c =
-    (captures_are_one.one l packets h.packets end None c h.content).1
-answers_by whole_text broken_text (BadCapture n kind) l left_after reads reads_after written written_after writes writes_after h packets end c =
+answers_by : (whole_text broken_text : List Sighting → List ℕ) (some : List Sighting → Bool) (ending : Ending) (l : List ℕ) (left_after : Option (List ℕ)) (reads reads_after : ℕ) (written written_after : Option (List ℕ)) (writes writes_after : ℕ)
+    → RunEnds whole_text broken_text some ending (Some l) left_after reads reads_after written written_after writes writes_after → AnswersContent some ending l
+answers_by whole_text broken_text some (Done told) l left_after reads reads_after written written_after writes writes_after h packets end c =
+    let same = captures_are_one.one l packets h.packets end None c h.content in
+    (same.1, h.holds.0 ∙ ap (λ (ps : List Packet). some (sightings ps)) (sym same.0))
+answers_by whole_text broken_text some (BadCapture n kind) l left_after reads reads_after written written_after writes writes_after h packets end c =
     (captures_are_one.one l packets h.packets end (refusal_at n kind) c h.content).1
-answers_by whole_text broken_text ReadFault l left_after reads reads_after written written_after writes writes_after h packets end c = tt
-answers_by whole_text broken_text WriteFault l left_after reads reads_after written written_after writes writes_after h packets end c = tt
-answers_by whole_text broken_text NoMemory l left_after reads reads_after written written_after writes writes_after h packets end c = tt
+answers_by whole_text broken_text some ReadFault l left_after reads reads_after written written_after writes writes_after h packets end c = tt
+answers_by whole_text broken_text some WriteFault l left_after reads reads_after written written_after writes writes_after h packets end c = tt
+answers_by whole_text broken_text some NoMemory l left_after reads reads_after written written_after writes writes_after h packets end c = tt
 
-pub answers_told : (whole_text broken_text : List Sighting → List ℕ) (ending : Ending) (left left_after : Option (List ℕ)) (reads reads_after : ℕ) (written written_after : Option (List ℕ)) (writes writes_after : ℕ)
-    → RunEnds whole_text broken_text ending left left_after reads reads_after written written_after writes writes_after → IfTold left (λ content. AnswersContent ending content)
-answers_told whole_text broken_text ending None left_after reads reads_after written written_after writes writes_after h = tt
-answers_told whole_text broken_text ending (Some l) left_after reads reads_after written written_after writes writes_after h =
-    answers_by whole_text broken_text ending l left_after reads reads_after written written_after writes writes_after h
+pub answers_told : (whole_text broken_text : List Sighting → List ℕ) (some : List Sighting → Bool) (ending : Ending) (left left_after : Option (List ℕ)) (reads reads_after : ℕ) (written written_after : Option (List ℕ)) (writes writes_after : ℕ)
+    → RunEnds whole_text broken_text some ending left left_after reads reads_after written written_after writes writes_after → IfTold left (λ content. AnswersContent some ending content)
+answers_told whole_text broken_text some ending None left_after reads reads_after written written_after writes writes_after h = tt
+answers_told whole_text broken_text some ending (Some l) left_after reads reads_after written written_after writes writes_after h =
+    answers_by whole_text broken_text some ending l left_after reads reads_after written written_after writes writes_after h
 
 pub if_ok : {A E : Type 0} (r : Result A E) (P : Type 0) → OnOk r P → false ≡ is_err r → P
 if_ok (Ok x) P h e = h
@@ -507,21 +510,22 @@ short_as w v b d e f left left_after reads reads_after written written_after (be
     (λ rs now rest. (more : List Packet) → WritesFront written written_after (v (sightings (packets_in rs ++ more))))
     (λ rs now rest g more. subst (λ (t : List ℕ). WritesFront written written_after t) (e (sightings (packets_in rs ++ more))) (g more)) h)
 
-pub ends_as : (w v b d : List Sighting → List ℕ) → ((xs : List Sighting) → w xs ≡ v xs) → ((xs : List Sighting) → b xs ≡ d xs)
+pub ends_as : (w v b d : List Sighting → List ℕ) (some other : List Sighting → Bool) → ((xs : List Sighting) → w xs ≡ v xs) → ((xs : List Sighting) → b xs ≡ d xs) → ((xs : List Sighting) → some xs ≡ other xs)
     → (ending : Ending) (left left_after : Option (List ℕ)) (reads reads_after : ℕ) (written written_after : Option (List ℕ)) (writes writes_after : ℕ)
-    → RunEnds w b ending left left_after reads reads_after written written_after writes writes_after → RunEnds v d ending left left_after reads reads_after written written_after writes writes_after
-ends_as w v b d e f Done left left_after reads reads_after written written_after writes writes_after h =
-    captured_as_well left left_after None (λ ps. Appends written written_after (w (sightings ps))) (λ ps. Appends written written_after (v (sightings ps)))
-    (λ ps. subst (λ (t : List ℕ). Appends written written_after t) (e (sightings ps))) h
-ends_as w v b d e f (BadCapture n kind) left left_after reads reads_after written written_after writes writes_after h =
+    → RunEnds w b some ending left left_after reads reads_after written written_after writes writes_after → RunEnds v d other ending left left_after reads reads_after written written_after writes writes_after
+ends_as w v b d some other e f g (Done told) left left_after reads reads_after written written_after writes writes_after h =
+    captured_as_well left left_after None
+    (λ ps. (told ≡ some (sightings ps)) × Appends written written_after (w (sightings ps))) (λ ps. (told ≡ other (sightings ps)) × Appends written written_after (v (sightings ps)))
+    (λ ps k. (k.0 ∙ g (sightings ps), subst (λ (t : List ℕ). Appends written written_after t) (e (sightings ps)) k.1)) h
+ends_as w v b d some other e f g (BadCapture n kind) left left_after reads reads_after written written_after writes writes_after h =
     captured_as_well left left_after (refusal_at n kind) (λ ps. Appends written written_after (w (sightings ps))) (λ ps. Appends written written_after (v (sightings ps)))
     (λ ps. subst (λ (t : List ℕ). Appends written written_after t) (e (sightings ps))) h
-ends_as w v b d e f ReadFault left left_after reads reads_after written written_after writes writes_after h = (
+ends_as w v b d some other e f g ReadFault left left_after reads reads_after written written_after writes writes_after h = (
   h.0,
   read_as_well left left_after
       (λ rs now rest. IsOpen now rest × Appends written written_after (b (sightings (packets_in rs)))) (λ rs now rest. IsOpen now rest × Appends written written_after (d (sightings (packets_in rs))))
-      (λ rs now rest g. (g.0, subst (λ (t : List ℕ). Appends written written_after t) (f (sightings (packets_in rs))) g.1)) h.1,
+      (λ rs now rest k. (k.0, subst (λ (t : List ℕ). Appends written written_after t) (f (sightings (packets_in rs))) k.1)) h.1,
 )
-ends_as w v b d e f WriteFault left left_after reads reads_after written written_after writes writes_after h =
+ends_as w v b d some other e f g WriteFault left left_after reads reads_after written written_after writes writes_after h =
     (h.0, short_as w v b d e f left left_after reads reads_after written written_after h.1)
-ends_as w v b d e f NoMemory left left_after reads reads_after written written_after writes writes_after h = short_as w v b d e f left left_after reads reads_after written written_after h
+ends_as w v b d some other e f g NoMemory left left_after reads reads_after written written_after writes writes_after h = short_as w v b d e f left left_after reads reads_after written written_after h

@@ -1,5 +1,5 @@
 -- How a run over a capture ended, and what it has read and written.
-use Rattle.std.specs.Prelude.{◌≡◌, ⊤, ℕ, ◌+◌, ◌≤◌, List, [], ◌∷◌, ◌++◌, length, Option, Some, None}
+use Rattle.std.specs.Prelude.{◌≡◌, ⊤, ℕ, ◌+◌, ◌≤◌, List, [], ◌∷◌, ◌++◌, length, Bool, Option, Some, None}
 use Rattle.gev_links.specs.Faults.{Rose}
 use Rattle.gev_links.specs.Told.{Gives, Appends, WritesFront}
 use Rattle.script_runs.specs.Verdicts.{IfTold}
@@ -52,37 +52,38 @@ pub data StopsShort (whole broken : List Sighting → List ℕ) (left left_after
   between : WasRead left left_after (λ records now rest. (more : List Packet) → WritesFront written written_after (whole (sightings (packets_in records ++ more))))
       → StopsShort whole broken left left_after reads reads_after written written_after
 
--- By the ending, where `whole` is the text of a capture with these packets, and `broken` that of one whose
--- reading failed behind them: the capture's text was written, or a front of it.
-abbrev pub RunEnds : (List Sighting → List ℕ) → (List Sighting → List ℕ) → Ending → Option (List ℕ) → Option (List ℕ) → ℕ → ℕ → Option (List ℕ) → Option (List ℕ) → ℕ → ℕ → Type 0
-RunEnds whole broken Done left left_after reads reads_after written written_after writes writes_after =
-    WasCaptured left left_after None (λ packets. Appends written written_after (whole (sightings packets)))
-RunEnds whole broken (BadCapture n kind) left left_after reads reads_after written written_after writes writes_after =
+-- By the ending, where `whole` is the text of a capture with these packets, `broken` that of one whose
+-- reading failed behind them, and `some` whether something is told of them: the capture's text was written, or a front
+-- of it.
+abbrev pub RunEnds : (List Sighting → List ℕ) → (List Sighting → List ℕ) → (List Sighting → Bool) → Ending → Option (List ℕ) → Option (List ℕ) → ℕ → ℕ → Option (List ℕ) → Option (List ℕ) → ℕ → ℕ → Type 0
+RunEnds whole broken some (Done told) left left_after reads reads_after written written_after writes writes_after =
+    WasCaptured left left_after None (λ packets. (told ≡ some (sightings packets)) × Appends written written_after (whole (sightings packets)))
+RunEnds whole broken some (BadCapture n kind) left left_after reads reads_after written written_after writes writes_after =
     WasCaptured left left_after (Some (record { number = n; kind = kind })) (λ packets. Appends written written_after (whole (sightings packets)))
-RunEnds whole broken ReadFault left left_after reads reads_after written written_after writes writes_after =
+RunEnds whole broken some ReadFault left left_after reads reads_after written written_after writes writes_after =
     Rose reads reads_after
     × WasRead left left_after (λ records now rest. IsOpen now rest × Appends written written_after (broken (sightings (packets_in records))))
-RunEnds whole broken WriteFault left left_after reads reads_after written written_after writes writes_after =
+RunEnds whole broken some WriteFault left left_after reads reads_after written written_after writes writes_after =
     Rose writes writes_after × StopsShort whole broken left left_after reads reads_after written written_after
-RunEnds whole broken NoMemory left left_after reads reads_after written written_after writes writes_after =
+RunEnds whole broken some NoMemory left left_after reads reads_after written written_after writes writes_after =
     StopsShort whole broken left left_after reads reads_after written written_after
 
 -- The capture was read to its end, or to a record that is refused.
 abbrev pub IsWhole : Ending → Type 0
-IsWhole Done = ⊤
+IsWhole (Done told) = ⊤
 IsWhole (BadCapture n kind) = ⊤
 IsWhole ReadFault = ⊥
 IsWhole WriteFault = ⊥
 IsWhole NoMemory = ⊥
 
--- The ending of a run over a capture that ends so, but for faults and want of memory.
-abbrev pub AnswersEnd : Ending → Option Refusal → Type 0
-AnswersEnd Done end = end ≡ None
-AnswersEnd (BadCapture n kind) end = end ≡ Some (record { number = n; kind = kind })
-AnswersEnd ReadFault end = ⊤
-AnswersEnd WriteFault end = ⊤
-AnswersEnd NoMemory end = ⊤
+-- The ending of a run over a capture with these packets that ends so, but for faults and want of memory.
+abbrev pub AnswersEnd : (List Sighting → Bool) → Ending → List Packet → Option Refusal → Type 0
+AnswersEnd some (Done told) packets end = (end ≡ None) × (told ≡ some (sightings packets))
+AnswersEnd some (BadCapture n kind) packets end = end ≡ Some (record { number = n; kind = kind })
+AnswersEnd some ReadFault packets end = ⊤
+AnswersEnd some WriteFault packets end = ⊤
+AnswersEnd some NoMemory packets end = ⊤
 
 -- The same over these bytes, all that a source holds.
-abbrev pub AnswersContent : Ending → List ℕ → Type 0
-AnswersContent ending content = (packets : List Packet) (end : Option Refusal) → HasCaptured content packets end → AnswersEnd ending end
+abbrev pub AnswersContent : (List Sighting → Bool) → Ending → List ℕ → Type 0
+AnswersContent some ending content = (packets : List Packet) (end : Option Refusal) → HasCaptured content packets end → AnswersEnd some ending packets end

@@ -1,5 +1,5 @@
 -- The text of a capture: what is written of each packet, and behind the last. A teller's states are of some type.
-use Rattle.std.specs.Prelude.{◌≡◌, ℕ, List, [], ◌∷◌, ◌++◌}
+use Rattle.std.specs.Prelude.{◌≡◌, ℕ, Bool, List, [], ◌∷◌, ◌++◌}
 use Rattle.gev_capture.specs.Sightings.{Sighting}
 
 pub record Texts (P : Type 0) : Type 0 where
@@ -11,6 +11,8 @@ pub record Texts (P : Type 0) : Type 0 where
   pub finish : P → List ℕ
   -- behind that, where the capture is at its end or refused
   pub close : P → List ℕ
+  -- something was told of
+  pub some : P → Bool
 
 -- what is written of packets, and the state behind them
 abbrev pub said : {P : Type 0} → Texts P → P → List Sighting → List ℕ
@@ -20,6 +22,10 @@ said t p (x ∷ xs) = t.says p x ++ said t (t.after p x) xs
 abbrev pub state : {P : Type 0} → Texts P → P → List Sighting → P
 state t p [] = p
 state t p (x ∷ xs) = state t (t.after p x) xs
+
+-- something is told of these packets
+abbrev pub tells : {P : Type 0} → Texts P → P → List Sighting → Bool
+tells t p xs = t.some (state t p xs)
 
 -- the text of a capture whose reading failed behind these packets
 abbrev pub broken : {P : Type 0} → Texts P → P → List Sighting → List ℕ

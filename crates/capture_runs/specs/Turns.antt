@@ -1,5 +1,5 @@
 -- One turn of the loop: a record is read and told of, or the run ends.
-use Rattle.std.specs.Prelude.{⊤, ◌≡◌, ◌⊎◌, ℕ, ◌+◌, ◌≤◌, List, [], ◌∷◌, ◌++◌, length, Option, Result, Ok, Err}
+use Rattle.std.specs.Prelude.{⊤, ◌≡◌, ◌⊎◌, ℕ, ◌+◌, ◌≤◌, List, [], ◌∷◌, ◌++◌, length, Bool, Option, Result, Ok, Err}
 use Rattle.gev_links.specs.Faults.{Rose}
 use Rattle.gev_links.specs.Told.{Gives, IsSpent, Appends, WritesFront}
 use Rattle.gev_capture.specs.declared.capture_end.CaptureEnd.{CaptureEnd}
@@ -40,16 +40,16 @@ rest_text t p Ended = t.finish p ++ t.close p
 rest_text t p (Refused kind) = t.finish p ++ t.close p
 rest_text t p capture_end.ReadFault = t.finish p
 
--- the ending where the capture ends so behind this many records, if its text is written
-abbrev pub planned_ending : ℕ → CaptureEnd → Ending
-planned_ending n Ended = Done
-planned_ending n (Refused kind) = BadCapture (n + 1) kind
-planned_ending n capture_end.ReadFault = ReadFault
+-- the ending where the capture ends so behind this many records, if its text is written, which tells of something or not
+abbrev pub planned_ending : ℕ → Bool → CaptureEnd → Ending
+planned_ending n told Ended = Done told
+planned_ending n told (Refused kind) = BadCapture (n + 1) kind
+planned_ending n told capture_end.ReadFault = ReadFault
 
 -- A run ends where the capture ends so behind this many records.
 abbrev pub EndsWith : {P : Type 0} → Texts P → (P → Type 0) → CaptureEnd → ℕ → Ending → List ℕ → Option (List ℕ) → Option (List ℕ) → ℕ → ℕ → Type 0
-EndsWith {P} t Stands end n Done held written written_after writes writes_after =
-    (end ≡ Ended) × ((p : P) → Stands p → Appends written written_after (held ++ (t.finish p ++ t.close p)))
+EndsWith {P} t Stands end n (Done told) held written written_after writes writes_after =
+    (end ≡ Ended) × ((p : P) → Stands p → (told ≡ t.some p) × Appends written written_after (held ++ (t.finish p ++ t.close p)))
 EndsWith {P} t Stands end n (BadCapture number kind) held written written_after writes writes_after =
     (end ≡ Refused kind) × (number ≡ n + 1) × ((p : P) → Stands p → Appends written written_after (held ++ (t.finish p ++ t.close p)))
 EndsWith {P} t Stands end n ReadFault held written written_after writes writes_after =
@@ -93,9 +93,9 @@ pub record RunsOut (reader : CaptureState) (left left_after written written_afte
 
 -- a run ends at this turn
 abbrev pub TurnEnds : {P : Type 0} → Texts P → (P → Type 0) → Ending → CaptureState → Moments → List ℕ → Option (List ℕ) → Option (List ℕ) → ℕ → ℕ → Option (List ℕ) → Option (List ℕ) → ℕ → ℕ → Type 0
-TurnEnds {P} t Stands Done reader m held left left_after reads reads_after written written_after writes writes_after =
+TurnEnds {P} t Stands (Done told) reader m held left left_after reads reads_after written written_after writes writes_after =
     ReadsOn reader.format reader.held left left_after (λ bytes. IsAtEnd reader.format bytes × IsSpent left_after)
-    × ((p : P) → Stands p → Appends written written_after (held ++ (t.finish p ++ t.close p)))
+    × ((p : P) → Stands p → (told ≡ t.some p) × Appends written written_after (held ++ (t.finish p ++ t.close p)))
 TurnEnds {P} t Stands (BadCapture n kind) reader m held left left_after reads reads_after written written_after writes writes_after =
     (n ≡ reader.records + 1)
     × ReadsOn reader.format reader.held left left_after (λ bytes. IsRefused kind reader.format bytes × ((told reader.format bytes ≡ refused kind) ⊎ IsSpent left_after))

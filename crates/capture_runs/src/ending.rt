@@ -4,7 +4,10 @@ use gev_capture::CaptureKind;
 #[derive(Clone, Copy, Debug, PartialEq, Eq)]
 pub enum Ending {
     /// The capture was read to its end, and its text was written.
-    Done,
+    Done {
+        /// Whether something is told of there.
+        told: bool,
+    },
     /// A record of the capture is refused. The text of the packets before it was written, with its end.
     BadCapture {
         /// The record's number, from 1.

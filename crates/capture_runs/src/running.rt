@@ -4,7 +4,7 @@ ghost use Rattle.gev_capture.specs.Captures.{with_packet};
 ghost use Rattle.gev_capture.specs.Reading.{most_held};
 ghost use Rattle.gev_capture.specs.Sightings.{sighted};
 ghost use Rattle.script_runs.specs.Verdicts.{IfTold};
-ghost use Rattle.capture_runs.specs.Texts.{whole, broken, Tells};
+ghost use Rattle.capture_runs.specs.Texts.{whole, broken, tells, Tells};
 ghost use Rattle.capture_runs.specs.Ends.{RunEnds, IsWhole, AnswersContent};
 ghost use Rattle.capture_runs.specs.Turns.{moments_behind, planned_ending, EndsWith, GoesOn, TurnEnds};
 ghost use Rattle.capture_runs.specs.declared.ending.Ending.{Ending as EndingOf};
@@ -38,13 +38,14 @@ fn tell_packet<T: Telling>(
     }
 }
 
-/// The ending where the capture ends so behind this many records, if its text is written.
-fn planned_ending(records: u64, end: CaptureEnd) -> Ending
+/// The ending where the capture ends so behind this many records, if its text is written, which tells of something or
+/// not.
+fn planned_ending(records: u64, told: bool, end: CaptureEnd) -> Ending
     requires { records < 2 ^ 64 - 1 }
-    ensures { result ≡ planned_ending records end }
+    ensures { result ≡ planned_ending records told end }
 {
     match end {
-        CaptureEnd::Ended => Ending::Done,
+        CaptureEnd::Ended => Ending::Done { told },
         CaptureEnd::Refused(kind) => Ending::BadCapture {
             record: records + 1,
             kind,
@@ -67,8 +68,9 @@ fn end_run<K: Sink, T: Telling>(
         (K.written sink.old) (K.written sink.new) (K.faults sink.old) (K.faults sink.new) }
     ensures steady { result ≢ Ending.WriteFault → K.faults sink.new ≡ K.faults sink.old }
 {
+    let told = telling.is_told();
     match write_rest(end, sink, telling, out) {
-        Ok(()) => planned_ending(records, end),
+        Ok(()) => planned_ending(records, told, end),
         Err(Stop::WriteFault) => Ending::WriteFault,
         Err(Stop::NoMemory) => Ending::NoMemory,
     }
@@ -123,7 +125,7 @@ fn run_records<S: Source, K: Sink, T: Telling>(
 ) -> Ending
     requires { reader.old ≡ record { format = fresh; records = 0; packet = None; held = [] } }
     ensures ends { (p : T.Plain) → T.stands_for telling.old p
-        → RunEnds (λ xs. out.old.items ++ whole T.texts p xs) (λ xs. out.old.items ++ broken T.texts p xs) result
+        → RunEnds (λ xs. out.old.items ++ whole T.texts p xs) (λ xs. out.old.items ++ broken T.texts p xs) (tells T.texts p) result
         (S.left source.old) (S.left source.new) (S.faults source.old) (S.faults source.new)
         (K.written sink.old) (K.written sink.new) (K.faults sink.old) (K.faults sink.new) }
     ensures reads_steady { IsWhole result → S.faults source.new ≡ S.faults source.old }
@@ -152,11 +154,11 @@ pub fn run_capture<S: Source, K: Sink, T: Telling>(
     out: &mut Vec<u8>,
 ) -> Ending
     ensures ends { (p : T.Plain) → T.stands_for telling.old p
-        → RunEnds (λ xs. out.old.items ++ whole T.texts p xs) (λ xs. out.old.items ++ broken T.texts p xs) result
+        → RunEnds (λ xs. out.old.items ++ whole T.texts p xs) (λ xs. out.old.items ++ broken T.texts p xs) (tells T.texts p) result
         (S.left source.old) (S.left source.new) (S.faults source.old) (S.faults source.new)
         (K.written sink.old) (K.written sink.new) (K.faults sink.old) (K.faults sink.new) }
     // Where the source tells what it holds, its bytes decide, but for faults and want of memory.
-    ensures exact { (p : T.Plain) → T.stands_for telling.old p → IfTold (S.left source.old) (λ content. AnswersContent result content) }
+    ensures exact { (p : T.Plain) → T.stands_for telling.old p → IfTold (S.left source.old) (λ content. AnswersContent (tells T.texts p) result content) }
     ensures reads_steady { IsWhole result → S.faults source.new ≡ S.faults source.old }
     ensures writes_steady { result ≢ Ending.WriteFault → K.faults sink.new ≡ K.faults sink.old }
 {

@@ -29,6 +29,10 @@ pub trait Telling {
         ensures { OnOk result ((p : Plain) → stands_for self.old p
             → Tells texts p (record { begin = begin; moment = moment; what = seen_as what.entry } ∷ []) (stands_for self.new) out.old.items out.new.items) };
 
+    /// Whether something was told of.
+    fn is_told(&self) -> bool
+        ensures { (p : Plain) → stands_for self.now p → result ≡ texts.some p };
+
     /// Adds what stands behind the last packet that was read.
     fn finish(&self, out: &mut Vec<u8>) -> Result<(), NoMemory>
         ensures { OnOk result ((p : Plain) → stands_for self.now p → out.new.items ≡ out.old.items ++ texts.finish p) };

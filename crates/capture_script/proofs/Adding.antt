@@ -1,6 +1,6 @@
 -- Lines that are added to the text.
 use Rattle.std.proofs.Common.{◌≡◌, ℕ, ◌≤◌, Bool, List, [], ◌∷◌, ◌++◌, ap, sym, ◌∙◌, subst, arith}
-use Rattle.std.specs.Prelude.{if◌then◌else◌}
+use Rattle.std.specs.Prelude.{◌||◌, if◌then◌else◌}
 use Rattle.std.proofs.lemmas.Bool.{ne_eqb}
 use Rattle.std.proofs.lemmas.List.{append-nil}
 use Rattle.hex.specs.Hex.{encode_lower}
@@ -10,8 +10,8 @@ use Rattle.gev_capture.specs.Sightings.{Sighting}
 use Rattle.capture_runs.specs.Texts.{Tells}
 use Rattle.capture_script.specs.Playing.{Played, Line, heard, ticked, stopped}
 use Rattle.capture_script.specs.Standing.{PlayingState, StandsAt, PlaysLine}
-use Rattle.capture_script.specs.Script.{Scripted, Lines, text_of, take_lines, taking, with_takes, no_lines, both, goes_on, ticks, carries, sighted, script_texts, closing_lines}
-use Rattle.capture_script.specs.Scripting.{ScriptingState, StandsFor, AddsLines}
+use Rattle.capture_script.specs.Script.{Scripted, Written, stands_in, Lines, text_of, take_lines, taking, with_takes, no_lines, both, goes_on, ticks, carries, sighted, script_texts, closing_lines}
+use Rattle.capture_script.specs.Scripting.{ScriptingState, StandsFor, AddsLines, IsWritten}
 use Rattle.take_lines.proofs.Texts.{added_both}
 
 -- a line and the takes behind it
@@ -66,10 +66,11 @@ both_add first next mid new t0 t1 t2 one two =
     record { stands = h.stands; text_is = added_both first.lines (next first.after).lines t0 t1 t2 one.text_is h.text_is }
 
 -- the lines of a packet
-pub tells_packet : (s : Scripted) (x : Sighting) (new : ScriptingState) (t0 t1 : List ℕ) → AddsLines (sighted s x) new t0 t1 → Tells script_texts s (x ∷ []) (StandsFor new) t0 t1
-tells_packet s x new t0 t1 h = record {
-  stands = h.stands;
-  added = h.text_is ∙ ap (λ (t : List ℕ). t0 ++ t) (sym (append-nil (text_of (sighted s x).lines)));
+pub tells_packet : (w : Written) (x : Sighting) (new : ScriptingState) (told : Bool) (t0 t1 : List ℕ) → AddsLines (sighted w.script x) new t0 t1 → told ≡ (w.told || stands_in w.script.port x.what)
+    → Tells script_texts w (x ∷ []) (IsWritten new told) t0 t1
+tells_packet w x new told t0 t1 h e = record {
+  stands = record { stands = h.stands; told_is = e };
+  added = h.text_is ∙ ap (λ (t : List ℕ). t0 ++ t) (sym (append-nil (text_of (sighted w.script x).lines)));
 }
 
 -- all takes stand, and the flush behind them

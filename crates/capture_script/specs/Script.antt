@@ -1,5 +1,5 @@
 -- The replay script of the datagrams to one port of a capture, as a function of the capture's packets.
-use Rattle.std.specs.Prelude.{ℕ, ◌==◌, ◌&&◌, nat_lt, nat_le, List, [], ◌∷◌, ◌++◌, length, Bool, if◌then◌else◌}
+use Rattle.std.specs.Prelude.{ℕ, ◌==◌, ◌&&◌, ◌||◌, nat_lt, nat_le, List, [], ◌∷◌, ◌++◌, length, Bool, false, if◌then◌else◌}
 use Rattle.hex.specs.Hex.{encode_lower}
 use Rattle.gev_script.specs.Lines as line
 use Rattle.gev_script.specs.Lines.{ScriptLine}
@@ -94,14 +94,36 @@ sighted s x = seen x.moment x.what s
 abbrev pub closing_lines : Scripted → List ScriptLine
 closing_lines s = with_takes (line.stop 0) (stopped s.p s.played) ++ line.end_of_script ∷ []
 
+-- a datagram that stands in the script of this port: its `d` line is written
+abbrev pub stands_in : ℕ → Seen → Bool
+stands_in port other = false
+stands_in port fragment = false
+stands_in port cut = false
+stands_in port (datagram c) = is_for port c.receiver.port c.bytes
+stands_in port (lost before now) = false
+
+-- the script so far, and whether a `d` line is written
+pub record Written : Type 0 where
+  pub script : Scripted
+  pub told : Bool
+
+abbrev pub not_written : ℕ → ℕ → ℕ → Written
+not_written port p size = record { script = new_script port p size; told = false }
+
 -- the text behind the opening
-abbrev pub script_texts : Texts Scripted
+abbrev pub script_texts : Texts Written
 script_texts = record {
-  says = λ s x. text_of (sighted s x).lines;
-  after = λ s x. (sighted s x).after;
-  finish = λ s. [];
-  close = λ s. text_of (closing_lines s);
+  says = λ w x. text_of (sighted w.script x).lines;
+  after = λ w x. record { script = (sighted w.script x).after; told = w.told || stands_in w.script.port x.what };
+  finish = λ w. [];
+  close = λ w. text_of (closing_lines w.script);
+  some = λ w. w.told;
 }
+
+-- one of these packets is a datagram to this port that stands in its script
+abbrev pub has_datagram : ℕ → List Sighting → Bool
+has_datagram port [] = false
+has_datagram port (x ∷ xs) = stands_in port x.what || has_datagram port xs
 
 -- the lines of these packets, and the script behind them
 abbrev pub lines_from : Scripted → List Sighting → List ScriptLine

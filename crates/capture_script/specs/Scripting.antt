@@ -1,7 +1,7 @@
 -- How the code writes a script.
-use Rattle.std.specs.Prelude.{◌≡◌, ℕ, List, ◌++◌}
+use Rattle.std.specs.Prelude.{◌≡◌, ℕ, List, ◌++◌, Bool}
 use Rattle.capture_script.specs.Standing.{PlayingState, StandsAt}
-use Rattle.capture_script.specs.Script.{Scripted, Lines, text_of}
+use Rattle.capture_script.specs.Script.{Scripted, Written, Lines, text_of}
 
 pub record ScriptingState : Type 0 where
   pub port : ℕ
@@ -20,3 +20,8 @@ pub record StandsFor (now : ScriptingState) (s : Scripted) : Type 0 where
 pub record AddsLines (lines : Lines) (new : ScriptingState) (text text_new : List ℕ) : Type 0 where
   pub stands : StandsFor new lines.after
   pub text_is : text_new ≡ text ++ text_of lines.lines
+
+-- It stands so, and so it's known whether a `d` line is written.
+pub record IsWritten (now : ScriptingState) (told : Bool) (w : Written) : Type 0 where
+  pub stands : StandsFor now w.script
+  pub told_is : told ≡ w.told

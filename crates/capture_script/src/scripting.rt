@@ -1,7 +1,8 @@
-ghost use Rattle.std.specs.Prelude.{◌≡◌, ◌≢◌, ◌≤◌, length, true, IfOk, OnOk};
+ghost use Rattle.std.specs.Prelude.{◌≡◌, ◌≢◌, ◌≤◌, ◌++◌, ◌||◌, length, true, IfOk, OnOk};
 ghost use Rattle.script_runs.specs.Verdicts.{IfTold};
 ghost use Rattle.capture_runs.specs.Ends.{RunEnds, IsWhole, AnswersContent};
-ghost use Rattle.capture_script.specs.Script.{Scripted, new_script, opening_lines, text_of, both, goes_on, ticks, carries, is_for, carried, capture_script, begun_script};
+ghost use Rattle.capture_script.specs.Script.{Scripted, new_script, opening_lines, text_of, both, goes_on, ticks, carries, is_for, carried, seen, stands_in, closing_lines, has_datagram, capture_script, begun_script};
+ghost use Rattle.gev_capture.specs.Contents.{seen_as};
 ghost use Rattle.capture_script.specs.Scripting.{StandsFor, AddsLines};
 
 use crate::playing::{MOST_BYTES, Playing};
@@ -111,23 +112,43 @@ impl Scripting {
     }
 }
 
-impl Telling for Scripting {
-    ghost use Rattle.capture_script.specs.Script.{Scripted, script_texts};
-    ghost use Rattle.capture_script.specs.Scripting.{StandsFor};
+/// The script's writer, and whether a `d` line is written.
+#[derive(Drop)]
+struct Teller {
+    scripting: Scripting,
+    told: bool,
+}
 
-    ghost Plain = { Scripted };
+impl Scripting {
+    /// Whether this stands in the script.
+    fn stands_in(&self, what: Content<'_>) -> bool
+        ensures { result ≡ stands_in self.now.port (seen_as what.entry) }
+    {
+        match what {
+            Content::Datagram {
+                sender: _,
+                receiver,
+                bytes,
+            } => is_for(self.port, receiver.port, bytes),
+            Content::Other => false,
+            Content::Fragment => false,
+            Content::Cut => false,
+            Content::Dropped { .. } => false,
+        }
+    }
 
-    ghost texts = { script_texts };
+    /// Whether a `d` line is written behind this, where it's known whether one was before.
+    fn is_told_by(&self, told: bool, what: Content<'_>) -> bool
+        ensures { result ≡ (told || stands_in self.now.port (seen_as what.entry)) }
+    {
+        told || self.stands_in(what)
+    }
 
-    ghost stands_for = { StandsFor };
-
-    fn packet(
-        &mut self,
-        _begin: u64,
-        moment: u64,
-        what: Content<'_>,
-        out: &mut Vec<u8>,
-    ) -> Result<(), NoMemory> {
+    /// Adds the lines of a packet.
+    fn tell(&mut self, moment: u64, what: Content<'_>, out: &mut Vec<u8>) -> Result<(), NoMemory>
+        ensures { OnOk result ((s : Scripted) → StandsFor self.old s
+            → AddsLines (seen moment (seen_as what.entry) s) self.new out.old.items out.new.items) }
+    {
         match what {
             Content::Datagram {
                 sender: _,
@@ -141,14 +162,47 @@ impl Telling for Scripting {
         }
     }
 
+    /// Adds the end of the script.
+    fn end(&mut self, out: &mut Vec<u8>) -> Result<(), NoMemory>
+        ensures { OnOk result ((s : Scripted) → StandsFor self.old s → out.new.items ≡ out.old.items ++ text_of (closing_lines s)) }
+    {
+        add_line(self.alloc, &Line::Stop { flags: 0 }, out)?;
+        add_takes(self.alloc, self.playing.stop(), out)?;
+        add_line(self.alloc, &Line::End, out)
+    }
+}
+
+impl Telling for Teller {
+    ghost use Rattle.capture_script.specs.Script.{Written, script_texts};
+    ghost use Rattle.capture_script.specs.Scripting.{IsWritten};
+
+    ghost Plain = { Written };
+
+    ghost texts = { script_texts };
+
+    ghost stands_for = { λ teller w. IsWritten teller.scripting teller.told w };
+
+    fn packet(
+        &mut self,
+        _begin: u64,
+        moment: u64,
+        what: Content<'_>,
+        out: &mut Vec<u8>,
+    ) -> Result<(), NoMemory> {
+        self.told = self.scripting.is_told_by(self.told, what);
+        self.scripting.tell(moment, what, out)
+    }
+
+    fn is_told(&self) -> bool {
+        self.told
+    }
+
     fn finish(&self, _out: &mut Vec<u8>) -> Result<(), NoMemory> {
         Ok(())
     }
 
     fn close(&mut self, out: &mut Vec<u8>) -> Result<(), NoMemory> {
-        add_line(self.alloc, &Line::Stop { flags: 0 }, out)?;
-        add_takes(self.alloc, self.playing.stop(), out)?;
-        add_line(self.alloc, &Line::End, out)
+        self.scripting.end(out)
     }
 }
 
@@ -199,10 +253,10 @@ pub fn write_capture<S: Source, K: Sink>(
     requires p_most { p ≤ 8964 }
     requires some { 1 ≤ size }
     requires in_limits { size ≤ 67108864 }
-    ensures ends { RunEnds (capture_script port p size) (begun_script port p size) result
+    ensures ends { RunEnds (capture_script port p size) (begun_script port p size) (has_datagram port) result
         (S.left source.old) (S.left source.new) (S.faults source.old) (S.faults source.new)
         (K.written sink.old) (K.written sink.new) (K.faults sink.old) (K.faults sink.new) }
-    ensures exact { IfTold (S.left source.old) (λ content. AnswersContent result content) }
+    ensures exact { IfTold (S.left source.old) (λ content. AnswersContent (has_datagram port) result content) }
     ensures reads_steady { IsWhole result → S.faults source.new ≡ S.faults source.old }
     ensures writes_steady { result ≢ Ending.WriteFault → K.faults sink.new ≡ K.faults sink.old }
 {
@@ -211,7 +265,13 @@ pub fn write_capture<S: Source, K: Sink>(
         Err(NoMemory) => return Ending::NoMemory,
     };
     match new_scripting(alloc, port, p, size) {
-        Ok(mut scripting) => run_capture(alloc, source, sink, &mut scripting, &mut out),
+        Ok(scripting) => {
+            let mut teller = Teller {
+                scripting,
+                told: false,
+            };
+            run_capture(alloc, source, sink, &mut teller, &mut out)
+        }
         Err(NoMemory) => Ending::NoMemory,
     }
 }

@@ -1,5 +1,5 @@
 -- The text that lists the streams of a capture.
-use Rattle.std.specs.Prelude.{◌≡◌, ℕ, ◌-◌, ◌/◌, ◌%◌, ◌^◌, min, List, [], ◌∷◌, ◌++◌, length, codes, Bool, if◌then◌else◌}
+use Rattle.std.specs.Prelude.{◌≡◌, ℕ, ◌-◌, ◌/◌, ◌%◌, ◌^◌, min, List, [], ◌∷◌, ◌++◌, length, codes, Bool, true, if◌then◌else◌}
 use Rattle.std.specs.List.{concat, flat_map}
 use Rattle.std.specs.Fmt.{decimal}
 use Rattle.byteorder.specs.Endian.{big_bytes}
@@ -83,7 +83,12 @@ table_texts = record {
   after = λ t x. counted x t;
   finish = λ t. stream_lines t.streams;
   close = end_line;
+  some = λ t. true;
 }
+
+-- the text always tells something: there is a last line
+abbrev pub always : List Sighting → Bool
+always xs = true
 
 -- the table of a capture's packets
 abbrev pub table_from : TableState → List Sighting → TableState

@@ -1,7 +1,7 @@
 ghost use Rattle.std.specs.Prelude.{◌≡◌, ◌≢◌, ◌++◌};
 ghost use Rattle.script_runs.specs.Verdicts.{IfTold};
 ghost use Rattle.capture_runs.specs.Ends.{RunEnds, IsWhole, AnswersContent};
-ghost use Rattle.capture_streams.specs.Texts.{listed_text, streams_text};
+ghost use Rattle.capture_streams.specs.Texts.{listed_text, streams_text, always};
 
 use crate::stream_text::{add_end, add_streams};
 use crate::table::Table;
@@ -33,6 +33,10 @@ impl Telling for Table {
         Ok(())
     }
 
+    fn is_told(&self) -> bool {
+        true
+    }
+
     fn finish(&self, out: &mut Vec<u8>) -> Result<(), NoMemory> {
         add_streams(out, self.streams())
     }
@@ -49,10 +53,10 @@ impl Telling for Table {
 /// fails, the lines of the streams are written without the end line. Memory doesn't grow with the capture, and behind its
 /// last record at most 1,114,112 bytes are taken.
 pub fn list_streams<S: Source, K: Sink>(alloc: Global, source: &mut S, sink: &mut K) -> Ending
-    ensures ends { RunEnds streams_text listed_text result
+    ensures ends { RunEnds streams_text listed_text always result
         (S.left source.old) (S.left source.new) (S.faults source.old) (S.faults source.new)
         (K.written sink.old) (K.written sink.new) (K.faults sink.old) (K.faults sink.new) }
-    ensures exact { IfTold (S.left source.old) (λ content. AnswersContent result content) }
+    ensures exact { IfTold (S.left source.old) (λ content. AnswersContent always result content) }
     ensures reads_steady { IsWhole result → S.faults source.new ≡ S.faults source.old }
     ensures writes_steady { result ≢ Ending.WriteFault → K.faults sink.new ≡ K.faults sink.old }
 {

@@ -3,7 +3,7 @@ use Rattle.std.proofs.Common.{◌≡◌, ◌≢◌, ℕ, List, Option, refl, sym
 use Rattle.board_machine.specs.declared.events.Entry.{Entry}
 use Rattle.gev_links.specs.Links.{Address}
 use Rattle.gev_status.specs.declared.status.Status.{Status}
-use Rattle.gev_status.specs.declared.status.Status.TheVariants.{Done, Usage, BadScript, ReadFault, WriteFault, LinkFault, NoMemory, NoAnswer, Refused, TurnsSpent, BadCapture, NoPicture, Silent, Controlled, NoDescription, ControlLost, RefusedAt}
+use Rattle.gev_status.specs.declared.status.Status.TheVariants.{Done, Usage, BadScript, ReadFault, WriteFault, LinkFault, NoMemory, NoAnswer, Refused, TurnsSpent, BadCapture, NoPicture, Silent, Controlled, NoDescription, ControlLost, NoDatagram, RefusedAt}
 use Rattle.gev_live.specs.Told.{Told}
 use Rattle.gev_live.specs.Endings.{Wrote}
 use Rattle.gev_live.specs.LiveRun.{LinksStay, LinkFailed}
@@ -47,6 +47,7 @@ wrote_kept (Silent frames) text written written_after faults faults_after wrote 
 wrote_kept Controlled text written written_after faults faults_after wrote other = absurd wrote
 wrote_kept NoDescription text written written_after faults faults_after wrote other = absurd wrote
 wrote_kept (ControlLost frames) text written written_after faults faults_after wrote other = absurd wrote
+wrote_kept (NoDatagram port) text written written_after faults faults_after wrote other = absurd wrote
 wrote_kept (RefusedAt register code) text written written_after faults faults_after wrote other = absurd wrote
 
 pub writes_kept : (n : LiveNumbers) (camera stream : Address) (answer : Status) (o e : Told) (written written_after : Option (List ℕ)) (faults faults_after : ℕ) (h : List Entry)

@@ -4,7 +4,7 @@ use Rattle.script_runs.specs.Verdicts.{IfTold}
 use Rattle.board_machine.specs.declared.events.Entry.{Entry}
 use Rattle.gev_links.specs.Links.{Address}
 use Rattle.gev_status.specs.declared.status.Status.{Status}
-use Rattle.gev_status.specs.declared.status.Status.TheVariants.{Done, Usage, BadScript, ReadFault, WriteFault, LinkFault, NoMemory, NoAnswer, Refused, TurnsSpent, BadCapture, NoPicture, Silent, Controlled, NoDescription, ControlLost, RefusedAt}
+use Rattle.gev_status.specs.declared.status.Status.TheVariants.{Done, Usage, BadScript, ReadFault, WriteFault, LinkFault, NoMemory, NoAnswer, Refused, TurnsSpent, BadCapture, NoPicture, Silent, Controlled, NoDescription, ControlLost, NoDatagram, RefusedAt}
 use Rattle.gev_live.specs.Told.{Told}
 use Rattle.gev_live.specs.Endings.{Wrote}
 use Rattle.gev_call.specs.Runs.{RunsSo}
@@ -34,6 +34,7 @@ wrote_ends (Silent frames) text written written_after faults faults_after wrote 
 wrote_ends Controlled text written written_after faults faults_after wrote none other = wrote
 wrote_ends NoDescription text written written_after faults faults_after wrote none other = wrote
 wrote_ends (ControlLost frames) text written written_after faults faults_after wrote none other = wrote
+wrote_ends (NoDatagram port) text written written_after faults faults_after wrote none other = wrote
 wrote_ends (RefusedAt register code) text written written_after faults faults_after wrote none other = wrote
 
 pub run_ends : (n : LiveNumbers) (camera stream : Address) (answer : Status) (o e : Told) (written written_after : Option (List ℕ)) (faults faults_after : ℕ) (h : List Entry)

@@ -3,7 +3,7 @@ use Rattle.std.proofs.Common.{◌≡◌, ◌≢◌, ℕ, List, [], ◌∷◌, Op
 use Rattle.board_machine.specs.declared.events.Entry.{Entry}
 use Rattle.gev_links.specs.Links.{Address, Answer}
 use Rattle.gev_status.specs.declared.status.Status.{Status}
-use Rattle.gev_status.specs.declared.status.Status.TheVariants.{Done, Usage, BadScript, ReadFault, WriteFault, LinkFault, NoMemory, NoAnswer, Refused, TurnsSpent, BadCapture, NoPicture, Silent, Controlled, NoDescription, ControlLost, RefusedAt}
+use Rattle.gev_status.specs.declared.status.Status.TheVariants.{Done, Usage, BadScript, ReadFault, WriteFault, LinkFault, NoMemory, NoAnswer, Refused, TurnsSpent, BadCapture, NoPicture, Silent, Controlled, NoDescription, ControlLost, NoDatagram, RefusedAt}
 use Rattle.mode_calls.specs.declared.mode.Mode.{Mode}
 use Rattle.mode_calls.specs.declared.mode.Mode.TheVariants.{OldestFirst}
 use Rattle.gev_binding.specs.Bound.{AllToldOfThree}
@@ -33,6 +33,7 @@ script_ends (Silent frames) script written written_after faults faults_after wro
 script_ends Controlled script written written_after faults faults_after wrote none other = wrote
 script_ends NoDescription script written written_after faults faults_after wrote none other = wrote
 script_ends (ControlLost frames) script written written_after faults faults_after wrote none other = wrote
+script_ends (NoDatagram port) script written written_after faults faults_after wrote none other = wrote
 script_ends (RefusedAt register code) script written written_after faults faults_after wrote none other = wrote
 
 pub record_ends : (n : Numbers) (camera stream : Address) (answer : Status) (o e : Told) (taped : List (Option (List ℕ))) (written written_after : Option (List ℕ)) (faults faults_after : ℕ) (h : List Entry)

@@ -4,7 +4,7 @@ use Rattle.board_machine.specs.declared.events.Entry.{Entry}
 use Rattle.gev_links.specs.Links.{Address}
 use Rattle.gev_links.specs.Faults.{Rose}
 use Rattle.gev_status.specs.declared.status.Status.{Status}
-use Rattle.gev_status.specs.declared.status.Status.TheVariants.{Done, Usage, BadScript, BadCapture, NoPicture, Silent, Controlled, NoDescription, ControlLost, RefusedAt, ReadFault, WriteFault, LinkFault, NoMemory, NoAnswer, Refused, TurnsSpent}
+use Rattle.gev_status.specs.declared.status.Status.TheVariants.{Done, Usage, BadScript, BadCapture, NoPicture, Silent, Controlled, NoDescription, ControlLost, NoDatagram, RefusedAt, ReadFault, WriteFault, LinkFault, NoMemory, NoAnswer, Refused, TurnsSpent}
 use Rattle.gev_live.specs.Told.{Told}
 use Rattle.gev_live.specs.Endings.{Wrote}
 use Rattle.gev_live.specs.LiveRun.{Numbers, LinkFailed, RunsLive}
@@ -43,6 +43,7 @@ wrote_steady (Silent frames) text written written_after faults faults_after wrot
 wrote_steady Controlled text written written_after faults faults_after wrote ne = absurd wrote
 wrote_steady NoDescription text written written_after faults faults_after wrote ne = absurd wrote
 wrote_steady (ControlLost frames) text written written_after faults faults_after wrote ne = absurd wrote
+wrote_steady (NoDatagram port) text written written_after faults faults_after wrote ne = absurd wrote
 wrote_steady (RefusedAt register code) text written written_after faults faults_after wrote ne = absurd wrote
 
 pub runs_writes_steady : (n : Numbers) (camera stream : Address) (answer : Status) (o e : Told) (written written_after : Option (List ℕ)) (faults faults_after : ℕ) (h : List Entry)

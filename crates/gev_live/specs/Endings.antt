@@ -1,7 +1,7 @@
 -- How a live run ends, by how its workers ended, and what it writes then.
 use Rattle.std.specs.Prelude.{◌≡◌, ◌⊎◌, ⊤, ℕ, ◌==◌, cond, Bool, true, false, List, Option, Result, Ok, Err}
 use Rattle.gev_status.specs.declared.status.Status.{Status}
-use Rattle.gev_status.specs.declared.status.Status.TheVariants.{Done, Usage, BadScript, ReadFault, WriteFault, LinkFault, NoMemory, NoAnswer, Refused, TurnsSpent, BadCapture, NoPicture, Silent, Controlled, NoDescription, ControlLost, RefusedAt}
+use Rattle.gev_status.specs.declared.status.Status.TheVariants.{Done, Usage, BadScript, ReadFault, WriteFault, LinkFault, NoMemory, NoAnswer, Refused, TurnsSpent, BadCapture, NoPicture, Silent, Controlled, NoDescription, ControlLost, NoDatagram, RefusedAt}
 use Rattle.gev_links.specs.Faults.{Rose}
 use Rattle.gev_links.specs.Told.{Appends, WritesPart}
 use Rattle.gev_serve.specs.declared.ends.ServeEnd.{ServeEnd}
@@ -85,6 +85,7 @@ Wrote (Silent frames) text written written_after faults faults_after = ⊥
 Wrote Controlled text written written_after faults faults_after = ⊥
 Wrote NoDescription text written written_after faults faults_after = ⊥
 Wrote (ControlLost frames) text written written_after faults faults_after = ⊥
+Wrote (NoDatagram port) text written written_after faults faults_after = ⊥
 Wrote (RefusedAt register code) text written written_after faults faults_after = ⊥
 
 -- the sink failed, or memory was wanting for the last line

@@ -1,7 +1,7 @@
 -- The exit status of the program for each answer.
 use Rattle.std.specs.Prelude.{ℕ}
 use Rattle.gev_status.specs.declared.status.Status.{Status}
-use Rattle.gev_status.specs.declared.status.Status.TheVariants.{Done, Usage, BadScript, ReadFault, WriteFault, LinkFault, NoMemory, NoAnswer, Refused, TurnsSpent, BadCapture, NoPicture, Silent, Controlled, NoDescription, ControlLost, RefusedAt}
+use Rattle.gev_status.specs.declared.status.Status.TheVariants.{Done, Usage, BadScript, ReadFault, WriteFault, LinkFault, NoMemory, NoAnswer, Refused, TurnsSpent, BadCapture, NoPicture, Silent, Controlled, NoDescription, ControlLost, NoDatagram, RefusedAt}
 
 abbrev pub exit_status : Status → ℕ
 exit_status Done = 0
@@ -20,4 +20,5 @@ exit_status (Silent frames) = 14
 exit_status Controlled = 15
 exit_status NoDescription = 16
 exit_status (ControlLost frames) = 17
+exit_status (NoDatagram port) = 18
 exit_status (RefusedAt register code) = 10

@@ -58,4 +58,5 @@ status_text (status.Silent frames) = codes "the camera is silent, " ++ (decimal 
 status_text status.Controlled = codes "another application controls the camera"
 status_text status.NoDescription = codes "the description isn't in the camera"
 status_text (status.ControlLost frames) = codes "the camera gave its control away, " ++ (decimal frames ++ codes " frames")
+status_text (status.NoDatagram port) = codes "no datagram to port " ++ decimal port
 status_text (status.RefusedAt register answer) = codes "register 0x" ++ (hex_text 8 register ++ (codes " refused with status 0x" ++ hex_text 4 answer))

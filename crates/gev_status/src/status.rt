@@ -75,6 +75,11 @@ pub enum Status {
         /// How many buffers were handed out.
         frames: u32,
     },
+    /// The capture was read to its end, and its script has no datagram.
+    NoDatagram {
+        /// The port to which none was sent.
+        port: u16,
+    },
     /// The camera refused a read or a write of one register.
     RefusedAt {
         /// The register's address.
@@ -106,6 +111,7 @@ impl Status {
             Status::Controlled => 15,
             Status::NoDescription => 16,
             Status::ControlLost { .. } => 17,
+            Status::NoDatagram { .. } => 18,
             Status::RefusedAt { .. } => 10,
         }
     }
@@ -149,6 +155,7 @@ impl fmt::Display for Status {
             Status::ControlLost { frames } => {
                 write!(f, "the camera gave its control away, {frames} frames")
             }
+            Status::NoDatagram { port } => write!(f, "no datagram to port {port}"),
             Status::RefusedAt { register, status } => {
                 write!(
                     f,

@@ -1,5 +1,5 @@
 -- A command whose counts of faults stayed has none of the answers that tell of a fault.
-use Rattle.std.proofs.Common.{◌≡◌, ℕ, List, Option, Ok, sym, subst, ◌∙◌}
+use Rattle.std.proofs.Common.{◌≡◌, ℕ, List, Bool, Option, Ok, sym, subst, ◌∙◌}
 use Rattle.script_runs.specs.Verdicts.{IfTold}
 use Rattle.gev_world.specs.declared.soak_end.SoakEnd.{SoakEnd}
 use Rattle.gev_world.specs.declared.soak_end.SoakEnd.TheVariants as soaks
@@ -7,22 +7,22 @@ use Rattle.gev_world.specs.Runs.{RunsSoak}
 use Rattle.world_machine.specs.State.{Run}
 use Rattle.gev_make.specs.MakeText.{make_text}
 use Rattle.gev_status.specs.declared.status.Status.{Status}
-use Rattle.gev_status.specs.declared.status.Status.TheVariants.{Done, Usage, BadScript, ReadFault, WriteFault, LinkFault, NoMemory, NoAnswer, Refused, TurnsSpent, BadCapture, NoPicture, Silent, Controlled, NoDescription, ControlLost, RefusedAt}
+use Rattle.gev_status.specs.declared.status.Status.TheVariants.{Done, Usage, BadScript, ReadFault, WriteFault, LinkFault, NoMemory, NoAnswer, Refused, TurnsSpent, BadCapture, NoPicture, Silent, Controlled, NoDescription, ControlLost, NoDatagram, RefusedAt}
 use Rattle.gev_top.specs.declared.command.Command.{Command}
 use Rattle.gev_top.specs.declared.command.Command.TheVariants.{Replay, Explain, Image, Streams, Capture, Camera, Make, Soak}
 use Rattle.gev_top.specs.Soaking.{status_after}
 use Rattle.gev_capture.specs.Sightings.{Sighting}
 use Rattle.capture_runs.specs.Ends.{RunEnds}
-use Rattle.capture_streams.specs.Texts.{streams_text, listed_text}
-use Rattle.capture_script.specs.Script.{capture_script, begun_script}
-use Rattle.gev_top.specs.Capturing.{IfCaptured}
+use Rattle.capture_streams.specs.Texts.{streams_text, listed_text, always}
+use Rattle.capture_script.specs.Script.{capture_script, begun_script, has_datagram}
+use Rattle.gev_top.specs.Capturing.{IfCaptured, IfScripted}
 use Rattle.gev_top.specs.Explained.{Explains}
 use Rattle.gev_top.specs.Imaging.{Images}
 use Rattle.script_image.specs.declared.wanted.Wanted.{Wanted}
 use Rattle.script_image.specs.declared.wanted.Wanted.TheVariants.{One, All}
 use Rattle.gev_top.specs.Usage.{Said}
 use Rattle.gev_top.specs.Answers.{Replays, Serves, Writes, Answers, IsDecided}
-use Rattle.gev_top.specs.Completeness.{NoneRose, EndsScript, EndsImage, EndsCapture, EndsText, EndsWorld, IsComplete, Completes}
+use Rattle.gev_top.specs.Completeness.{NoneRose, EndsScript, EndsImage, EndsCapture, EndsCaptured, EndsText, EndsWorld, IsComplete, Completes}
 
 replayed : (status : Status) (left left_after : Option (List ℕ)) (reads reads_after : ℕ) (written written_after : Option (List ℕ)) (writes writes_after : ℕ)
     → Replays status left left_after reads reads_after written written_after writes writes_after → NoneRose reads reads_after → NoneRose writes writes_after → EndsScript status
@@ -42,6 +42,7 @@ replayed (Silent frames) left left_after reads reads_after written written_after
 replayed Controlled left left_after reads reads_after written written_after writes writes_after h none none_written = h
 replayed NoDescription left left_after reads reads_after written written_after writes writes_after h none none_written = h
 replayed (ControlLost frames) left left_after reads reads_after written written_after writes writes_after h none none_written = h
+replayed (NoDatagram port) left left_after reads reads_after written written_after writes writes_after h none none_written = h
 replayed (RefusedAt register code) left left_after reads reads_after written written_after writes writes_after h none none_written = h
 
 explained : (status : Status) (left left_after : Option (List ℕ)) (reads reads_after : ℕ) (written written_after : Option (List ℕ)) (writes writes_after : ℕ)
@@ -62,6 +63,7 @@ explained (Silent frames) left left_after reads reads_after written written_afte
 explained Controlled left left_after reads reads_after written written_after writes writes_after h none none_written = h
 explained NoDescription left left_after reads reads_after written written_after writes writes_after h none none_written = h
 explained (ControlLost frames) left left_after reads reads_after written written_after writes writes_after h none none_written = h
+explained (NoDatagram port) left left_after reads reads_after written written_after writes writes_after h none none_written = h
 explained (RefusedAt register code) left left_after reads reads_after written written_after writes writes_after h none none_written = h
 
 shown : (wanted : Wanted) (status : Status) (left left_after : Option (List ℕ)) (reads reads_after : ℕ) (written written_after : Option (List ℕ)) (writes writes_after : ℕ)
@@ -84,6 +86,7 @@ shown wanted (Silent frames) left left_after reads reads_after written written_a
 shown wanted Controlled left left_after reads reads_after written written_after writes writes_after h none none_written = h
 shown wanted NoDescription left left_after reads reads_after written written_after writes writes_after h none none_written = h
 shown wanted (ControlLost frames) left left_after reads reads_after written written_after writes writes_after h none none_written = h
+shown wanted (NoDatagram port) left left_after reads reads_after written written_after writes writes_after h none none_written = h
 shown wanted (RefusedAt register code) left left_after reads reads_after written written_after writes writes_after h none none_written = h
 
 served : (status : Status) (left left_after : Option (List ℕ)) (reads reads_after : ℕ) (written written_after : Option (List ℕ)) (writes writes_after : ℕ)
@@ -104,27 +107,50 @@ served (Silent frames) left left_after reads reads_after written written_after w
 served Controlled left left_after reads reads_after written written_after writes writes_after h none none_written = h
 served NoDescription left left_after reads reads_after written written_after writes writes_after h none none_written = h
 served (ControlLost frames) left left_after reads reads_after written written_after writes writes_after h none none_written = h
+served (NoDatagram port) left left_after reads reads_after written written_after writes writes_after h none none_written = h
 served (RefusedAt register code) left left_after reads reads_after written written_after writes writes_after h none none_written = h
 
-captured : (whole begun : List Sighting → List ℕ) (status : Status) (left left_after : Option (List ℕ)) (reads reads_after : ℕ) (written written_after : Option (List ℕ)) (writes writes_after : ℕ)
-    → IfCaptured (λ ending. RunEnds whole begun ending left left_after reads reads_after written written_after writes writes_after) status → NoneRose reads reads_after → NoneRose writes writes_after → EndsCapture status
-captured whole begun Done left left_after reads reads_after written written_after writes writes_after h none none_written = tt
-captured whole begun (BadCapture number kind) left left_after reads reads_after written written_after writes writes_after h none none_written = tt
-captured whole begun NoMemory left left_after reads reads_after written written_after writes writes_after h none none_written = tt
-captured whole begun ReadFault left left_after reads reads_after written written_after writes writes_after h none none_written = none h.0
-captured whole begun WriteFault left left_after reads reads_after written written_after writes writes_after h none none_written = none_written h.0
-captured whole begun (Usage place) left left_after reads reads_after written written_after writes writes_after h none none_written = h
-captured whole begun (BadScript line kind) left left_after reads reads_after written written_after writes writes_after h none none_written = h
-captured whole begun (NoAnswer req) left left_after reads reads_after written written_after writes writes_after h none none_written = h
-captured whole begun (Refused status) left left_after reads reads_after written written_after writes writes_after h none none_written = h
-captured whole begun LinkFault left left_after reads reads_after written written_after writes writes_after h none none_written = h
-captured whole begun (TurnsSpent turns frames) left left_after reads reads_after written written_after writes writes_after h none none_written = h
-captured whole begun (NoPicture why) left left_after reads reads_after written written_after writes writes_after h none none_written = h
-captured whole begun (Silent frames) left left_after reads reads_after written written_after writes writes_after h none none_written = h
-captured whole begun Controlled left left_after reads reads_after written written_after writes writes_after h none none_written = h
-captured whole begun NoDescription left left_after reads reads_after written written_after writes writes_after h none none_written = h
-captured whole begun (ControlLost frames) left left_after reads reads_after written written_after writes writes_after h none none_written = h
-captured whole begun (RefusedAt register code) left left_after reads reads_after written written_after writes writes_after h none none_written = h
+captured : (whole begun : List Sighting → List ℕ) (some : List Sighting → Bool) (status : Status) (left left_after : Option (List ℕ)) (reads reads_after : ℕ) (written written_after : Option (List ℕ)) (writes writes_after : ℕ)
+    → IfCaptured (λ ending. RunEnds whole begun some ending left left_after reads reads_after written written_after writes writes_after) status → NoneRose reads reads_after → NoneRose writes writes_after → EndsCapture status
+captured whole begun some Done left left_after reads reads_after written written_after writes writes_after h none none_written = tt
+captured whole begun some (BadCapture number kind) left left_after reads reads_after written written_after writes writes_after h none none_written = tt
+captured whole begun some NoMemory left left_after reads reads_after written written_after writes writes_after h none none_written = tt
+captured whole begun some ReadFault left left_after reads reads_after written written_after writes writes_after h none none_written = none h.0
+captured whole begun some WriteFault left left_after reads reads_after written written_after writes writes_after h none none_written = none_written h.0
+captured whole begun some (Usage place) left left_after reads reads_after written written_after writes writes_after h none none_written = h
+captured whole begun some (BadScript line kind) left left_after reads reads_after written written_after writes writes_after h none none_written = h
+captured whole begun some (NoAnswer req) left left_after reads reads_after written written_after writes writes_after h none none_written = h
+captured whole begun some (Refused status) left left_after reads reads_after written written_after writes writes_after h none none_written = h
+captured whole begun some LinkFault left left_after reads reads_after written written_after writes writes_after h none none_written = h
+captured whole begun some (TurnsSpent turns frames) left left_after reads reads_after written written_after writes writes_after h none none_written = h
+captured whole begun some (NoPicture why) left left_after reads reads_after written written_after writes writes_after h none none_written = h
+captured whole begun some (Silent frames) left left_after reads reads_after written written_after writes writes_after h none none_written = h
+captured whole begun some Controlled left left_after reads reads_after written written_after writes writes_after h none none_written = h
+captured whole begun some NoDescription left left_after reads reads_after written written_after writes writes_after h none none_written = h
+captured whole begun some (ControlLost frames) left left_after reads reads_after written written_after writes writes_after h none none_written = h
+captured whole begun some (NoDatagram port) left left_after reads reads_after written written_after writes writes_after h none none_written = h
+captured whole begun some (RefusedAt register code) left left_after reads reads_after written written_after writes writes_after h none none_written = h
+
+scripted : (port : ℕ) (whole begun : List Sighting → List ℕ) (some : List Sighting → Bool) (status : Status) (left left_after : Option (List ℕ)) (reads reads_after : ℕ) (written written_after : Option (List ℕ)) (writes writes_after : ℕ)
+    → IfScripted port (λ ending. RunEnds whole begun some ending left left_after reads reads_after written written_after writes writes_after) status → NoneRose reads reads_after → NoneRose writes writes_after → EndsCaptured status
+scripted port whole begun some Done left left_after reads reads_after written written_after writes writes_after h none none_written = tt
+scripted port whole begun some (BadCapture number kind) left left_after reads reads_after written written_after writes writes_after h none none_written = tt
+scripted port whole begun some NoMemory left left_after reads reads_after written written_after writes writes_after h none none_written = tt
+scripted port whole begun some ReadFault left left_after reads reads_after written written_after writes writes_after h none none_written = none h.0
+scripted port whole begun some WriteFault left left_after reads reads_after written written_after writes writes_after h none none_written = none_written h.0
+scripted port whole begun some (Usage place) left left_after reads reads_after written written_after writes writes_after h none none_written = h
+scripted port whole begun some (BadScript line kind) left left_after reads reads_after written written_after writes writes_after h none none_written = h
+scripted port whole begun some (NoAnswer req) left left_after reads reads_after written written_after writes writes_after h none none_written = h
+scripted port whole begun some (Refused status) left left_after reads reads_after written written_after writes writes_after h none none_written = h
+scripted port whole begun some LinkFault left left_after reads reads_after written written_after writes writes_after h none none_written = h
+scripted port whole begun some (TurnsSpent turns frames) left left_after reads reads_after written written_after writes writes_after h none none_written = h
+scripted port whole begun some (NoPicture why) left left_after reads reads_after written written_after writes writes_after h none none_written = h
+scripted port whole begun some (Silent frames) left left_after reads reads_after written written_after writes writes_after h none none_written = h
+scripted port whole begun some Controlled left left_after reads reads_after written written_after writes writes_after h none none_written = h
+scripted port whole begun some NoDescription left left_after reads reads_after written written_after writes writes_after h none none_written = h
+scripted port whole begun some (ControlLost frames) left left_after reads reads_after written written_after writes writes_after h none none_written = h
+scripted port whole begun some (NoDatagram to) left left_after reads reads_after written written_after writes writes_after h none none_written = tt
+scripted port whole begun some (RefusedAt register code) left left_after reads reads_after written written_after writes writes_after h none none_written = h
 
 made : (text : List ℕ) (status : Status) (written written_after : Option (List ℕ)) (writes writes_after : ℕ)
     → Writes text status written written_after writes writes_after → NoneRose writes writes_after → EndsText status
@@ -144,6 +170,7 @@ made text (Silent frames) written written_after writes writes_after h none = h
 made text Controlled written written_after writes writes_after h none = h
 made text NoDescription written written_after writes writes_after h none = h
 made text (ControlLost frames) written written_after writes writes_after h none = h
+made text (NoDatagram port) written written_after writes writes_after h none = h
 made text (RefusedAt register code) written written_after writes writes_after h none = h
 
 soaked : (end : SoakEnd) (run : Run) (written written_after : Option (List ℕ)) (writes writes_after : ℕ)
@@ -163,9 +190,9 @@ completes Explain status left left_after reads reads_after written written_after
 completes (Image wanted) status left left_after reads reads_after written written_after writes writes_after h none none_written =
     shown wanted status left left_after reads reads_after written written_after writes writes_after h none none_written
 completes Streams status left left_after reads reads_after written written_after writes writes_after h none none_written =
-    captured streams_text listed_text status left left_after reads reads_after written written_after writes writes_after h none none_written
+    captured streams_text listed_text always status left left_after reads reads_after written written_after writes writes_after h none none_written
 completes (Capture port p bytes) status left left_after reads reads_after written written_after writes writes_after h none none_written =
-    captured (capture_script port p bytes) (begun_script port p bytes) status left left_after reads reads_after written written_after writes writes_after h none none_written
+    scripted port (capture_script port p bytes) (begun_script port p bytes) (has_datagram port) status left left_after reads reads_after written written_after writes writes_after h none none_written
 completes Camera status left left_after reads reads_after written written_after writes writes_after h none none_written =
     served status left left_after reads reads_after written written_after writes writes_after h none none_written
 completes (Make seed frames rates) status left left_after reads reads_after written written_after writes writes_after h none none_written =

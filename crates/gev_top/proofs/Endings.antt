@@ -60,6 +60,7 @@ if_ended P Q f (statuses.Silent frames) h = h
 if_ended P Q f statuses.Controlled h = h
 if_ended P Q f statuses.NoDescription h = h
 if_ended P Q f (statuses.ControlLost frames) h = h
+if_ended P Q f (statuses.NoDatagram port) h = h
 if_ended P Q f (statuses.RefusedAt register code) h = h
 
 pub ended : (P : Ending → Type 0) (ending : Ending) → P ending → IfEnded P (status_of ending)

@@ -9,14 +9,14 @@ use Rattle.camera_trace.specs.Standing as camera
 use Rattle.camera_trace.specs.Laws.{IsTold, CameraTells, HasOnePrimary}
 use Rattle.gev_make.specs.MakeText.{make_text}
 use Rattle.gev_status.specs.declared.status.Status.{Status}
-use Rattle.gev_status.specs.declared.status.Status.TheVariants.{Done, Usage, BadScript, ReadFault, WriteFault, LinkFault, NoMemory, NoAnswer, Refused, TurnsSpent, BadCapture, NoPicture, Silent, Controlled, NoDescription, ControlLost, RefusedAt}
+use Rattle.gev_status.specs.declared.status.Status.TheVariants.{Done, Usage, BadScript, ReadFault, WriteFault, LinkFault, NoMemory, NoAnswer, Refused, TurnsSpent, BadCapture, NoPicture, Silent, Controlled, NoDescription, ControlLost, NoDatagram, RefusedAt}
 use Rattle.gev_top.specs.declared.command.Command.{Command}
 use Rattle.gev_top.specs.declared.command.Command.TheVariants.{Replay, Explain, Image, Streams, Capture, Camera, Make, Soak}
 use Rattle.gev_top.specs.Scripts.{Ends, IfEnded, AnswersContent}
 use Rattle.gev_top.specs.Explained.{Explains}
 use Rattle.gev_top.specs.Imaging.{Images, AnswersImage}
 use Rattle.gev_top.specs.Soaking.{Soaks}
-use Rattle.gev_top.specs.Capturing.{ListsStreams, ScriptsCapture, IsCaptureRead, AnswersCapture}
+use Rattle.gev_top.specs.Capturing.{ListsStreams, ScriptsCapture, IsCaptureRead, IsScriptRead, AnswersCapture, AnswersScript}
 
 -- A replay: behind each line its trace keeps its promises. It is a run of the board machine, each buffer
 -- has one owner at each step, buffers are handed out once and in the order of their fills, the
@@ -56,6 +56,7 @@ Writes text (Silent frames) written written_after writes writes_after = ⊥
 Writes text Controlled written written_after writes writes_after = ⊥
 Writes text NoDescription written written_after writes writes_after = ⊥
 Writes text (ControlLost frames) written written_after writes writes_after = ⊥
+Writes text (NoDatagram port) written written_after writes writes_after = ⊥
 Writes text (RefusedAt register code) written written_after writes writes_after = ⊥
 
 -- A text is made, and nothing is read.
@@ -84,7 +85,7 @@ ReadsSteady Replay status reads reads_after = status ≢ ReadFault → reads_aft
 ReadsSteady Explain status reads reads_after = status ≢ ReadFault → reads_after ≡ reads
 ReadsSteady (Image wanted) status reads reads_after = status ≢ ReadFault → reads_after ≡ reads
 ReadsSteady Streams status reads reads_after = IsCaptureRead status → reads_after ≡ reads
-ReadsSteady (Capture port p bytes) status reads reads_after = IsCaptureRead status → reads_after ≡ reads
+ReadsSteady (Capture port p bytes) status reads reads_after = IsScriptRead port status → reads_after ≡ reads
 ReadsSteady Camera status reads reads_after = status ≢ ReadFault → reads_after ≡ reads
 ReadsSteady (Make seed frames rates) status reads reads_after = status ≢ ReadFault → reads_after ≡ reads
 ReadsSteady (Soak seed frames rates short) status reads reads_after = status ≢ ReadFault → reads_after ≡ reads
@@ -95,7 +96,7 @@ IsDecided Replay status content = AnswersContent status (outcome replay.replay_v
 IsDecided Explain status content = AnswersContent status (outcome replay.replay_verdict content)
 IsDecided (Image wanted) status content = AnswersImage wanted status (outcome replay.replay_verdict content)
 IsDecided Streams status content = AnswersCapture status content
-IsDecided (Capture port p bytes) status content = AnswersCapture status content
+IsDecided (Capture port p bytes) status content = AnswersScript port status content
 IsDecided Camera status content = AnswersContent status (outcome camera.camera_verdict content)
 IsDecided (Make seed frames rates) status content = ⊤
 IsDecided (Soak seed frames rates short) status content = ⊤

@@ -3,7 +3,7 @@ use Rattle.std.specs.Prelude.{⊤, ℕ, List, Option}
 use Rattle.gev_links.specs.Faults.{Rose}
 use Rattle.script_runs.specs.Verdicts.{IfTold}
 use Rattle.gev_status.specs.declared.status.Status.{Status}
-use Rattle.gev_status.specs.declared.status.Status.TheVariants.{Done, BadScript, NoMemory, NoAnswer, Refused, TurnsSpent, BadCapture, NoPicture, NoDescription}
+use Rattle.gev_status.specs.declared.status.Status.TheVariants.{Done, BadScript, NoMemory, NoAnswer, Refused, TurnsSpent, BadCapture, NoDatagram, NoPicture, NoDescription}
 use Rattle.gev_top.specs.declared.command.Command.{Command}
 use Rattle.gev_top.specs.declared.command.Command.TheVariants.{Replay, Explain, Image, Streams, Capture, Camera, Make, Soak}
 use Rattle.gev_top.specs.Answers.{IsDecided}
@@ -37,6 +37,14 @@ EndsCapture Done = ⊤
 EndsCapture (BadCapture number kind) = ⊤
 EndsCapture NoMemory = ⊤
 EndsCapture _ = ⊥
+
+-- the same for its script, which has a datagram or none
+abbrev pub EndsCaptured : Status → Type 0
+EndsCaptured (NoDatagram port) = ⊤
+EndsCaptured Done = ⊤
+EndsCaptured (BadCapture number kind) = ⊤
+EndsCaptured NoMemory = ⊤
+EndsCaptured _ = ⊥
 
 -- a text was made
 abbrev pub EndsText : Status → Type 0
@@ -82,7 +90,7 @@ IsComplete Replay = EndsScript
 IsComplete Explain = EndsScript
 IsComplete (Image wanted) = EndsImage
 IsComplete Streams = EndsCapture
-IsComplete (Capture port p bytes) = EndsCapture
+IsComplete (Capture port p bytes) = EndsCaptured
 IsComplete Camera = EndsScript
 IsComplete (Make seed frames rates) = EndsText
 IsComplete (Soak seed frames rates short) = EndsWorld

@@ -6,7 +6,7 @@ use Rattle.script_image.specs.declared.image_end.ImageEnd.TheVariants as ends
 use Rattle.script_image.specs.declared.wanted.Wanted.{Wanted}
 use Rattle.script_image.specs.Ends.{ImageEnds, AnswersContent}
 use Rattle.gev_status.specs.declared.status.Status.{Status}
-use Rattle.gev_status.specs.declared.status.Status.TheVariants.{Done, Usage, BadScript, ReadFault, WriteFault, LinkFault, NoMemory, NoAnswer, Refused, TurnsSpent, BadCapture, NoPicture, Silent, Controlled, NoDescription, ControlLost, RefusedAt}
+use Rattle.gev_status.specs.declared.status.Status.TheVariants.{Done, Usage, BadScript, ReadFault, WriteFault, LinkFault, NoMemory, NoAnswer, Refused, TurnsSpent, BadCapture, NoPicture, Silent, Controlled, NoDescription, ControlLost, NoDatagram, RefusedAt}
 
 -- the answer by how the writing of the picture ended
 abbrev pub status_for : ImageEnd → Status
@@ -35,6 +35,7 @@ IfImaged P (Silent frames) = ⊥
 IfImaged P Controlled = ⊥
 IfImaged P NoDescription = ⊥
 IfImaged P (ControlLost frames) = ⊥
+IfImaged P (NoDatagram port) = ⊥
 IfImaged P (RefusedAt register code) = ⊥
 
 -- The pictures that are wanted of the buffers that a script's `take` lines get: they were written, or a front of them, or

@@ -8,7 +8,7 @@ use Rattle.script_runs.specs.Runs.{Running, Refusing, RunTo}
 use Rattle.script_runs.specs.Outcomes.{EndsAt}
 use Rattle.script_runs.specs.Verdicts.{Outcome, whole, refused}
 use Rattle.gev_status.specs.declared.status.Status.{Status}
-use Rattle.gev_status.specs.declared.status.Status.TheVariants.{Done, Usage, BadScript, ReadFault, WriteFault, LinkFault, NoMemory, NoAnswer, Refused, TurnsSpent, BadCapture, NoPicture, Silent, Controlled, NoDescription, ControlLost, RefusedAt}
+use Rattle.gev_status.specs.declared.status.Status.TheVariants.{Done, Usage, BadScript, ReadFault, WriteFault, LinkFault, NoMemory, NoAnswer, Refused, TurnsSpent, BadCapture, NoPicture, Silent, Controlled, NoDescription, ControlLost, NoDatagram, RefusedAt}
 
 -- The line is run from one state to another, of which this holds.
 pub record RunsWell {M : Type 0} (moves : Running M) (Keeps : M → Type 0) (m : M) (n : ℕ) (line : List ℕ) (ran : Ran) (report : List ℕ) (new : M) : Type 0 where
@@ -55,6 +55,7 @@ IfEnded P (Silent frames) = ⊥
 IfEnded P Controlled = ⊥
 IfEnded P NoDescription = ⊥
 IfEnded P (ControlLost frames) = ⊥
+IfEnded P (NoDatagram port) = ⊥
 IfEnded P (RefusedAt register code) = ⊥
 
 -- The answer to these bytes, all that a source holds: but for faults and want of memory, the script is
@@ -78,4 +79,5 @@ AnswersContent (Silent frames) found = ⊥
 AnswersContent Controlled found = ⊥
 AnswersContent NoDescription found = ⊥
 AnswersContent (ControlLost frames) found = ⊥
+AnswersContent (NoDatagram port) found = ⊥
 AnswersContent (RefusedAt register code) found = ⊥

@@ -1,6 +1,6 @@
 ghost use Rattle.std.specs.Prelude.{◌≡◌, ◌≢◌, ◌≤◌};
 ghost use Rattle.script_runs.specs.Verdicts.{IfTold};
-ghost use Rattle.gev_top.specs.Capturing.{status_from, ListsStreams, ScriptsCapture, IsCaptureRead, AnswersCapture};
+ghost use Rattle.gev_top.specs.Capturing.{status_from, script_status, ListsStreams, ScriptsCapture, IsCaptureRead, IsScriptRead, AnswersCapture, AnswersScript};
 
 use capture_runs::Ending;
 use capture_script::write_capture;
@@ -9,12 +9,26 @@ use gev_links::{Sink, Source};
 use gev_status::Status;
 use std::alloc::Global;
 
-/// The answer where the run over a capture ended so.
+/// The answer of `streams` where the run over a capture ended so.
 fn status_from(ending: Ending) -> Status
     ensures { result ≡ status_from ending }
 {
     match ending {
-        Ending::Done => Status::Done,
+        Ending::Done { .. } => Status::Done,
+        Ending::BadCapture { record, kind } => Status::BadCapture { record, kind },
+        Ending::ReadFault => Status::ReadFault,
+        Ending::WriteFault => Status::WriteFault,
+        Ending::NoMemory => Status::NoMemory,
+    }
+}
+
+/// The answer of `capture` for a port where the run over a capture ended so.
+fn script_status(port: u16, ending: Ending) -> Status
+    ensures { result ≡ script_status port ending }
+{
+    match ending {
+        Ending::Done { told: true } => Status::Done,
+        Ending::Done { told: false } => Status::NoDatagram { port },
         Ending::BadCapture { record, kind } => Status::BadCapture { record, kind },
         Ending::ReadFault => Status::ReadFault,
         Ending::WriteFault => Status::WriteFault,
@@ -49,9 +63,9 @@ pub(crate) fn capture<S: Source, K: Sink>(
     requires in_limits { bytes ≤ 67108864 }
     ensures cause { ScriptsCapture port p bytes result (S.left source.old) (S.left source.new) (S.faults source.old) (S.faults source.new)
         (K.written sink.old) (K.written sink.new) (K.faults sink.old) (K.faults sink.new) }
-    ensures exact { IfTold (S.left source.old) (λ content. AnswersCapture result content) }
-    ensures reads_steady { IsCaptureRead result → S.faults source.new ≡ S.faults source.old }
+    ensures exact { IfTold (S.left source.old) (λ content. AnswersScript port result content) }
+    ensures reads_steady { IsScriptRead port result → S.faults source.new ≡ S.faults source.old }
     ensures writes_steady { result ≢ Status.WriteFault → K.faults sink.new ≡ K.faults sink.old }
 {
-    status_from(write_capture(alloc, port, p, bytes, source, sink))
+    script_status(port, write_capture(alloc, port, p, bytes, source, sink))
 }

@@ -49,6 +49,7 @@ untold n camera stream (status.Silent frames) o e h script written written_after
 untold n camera stream status.Controlled o e h script written written_after faults faults_after run none same steady = absurd run.ended.wrote
 untold n camera stream status.NoDescription o e h script written written_after faults faults_after run none same steady = absurd run.ended.wrote
 untold n camera stream (status.ControlLost frames) o e h script written written_after faults faults_after run none same steady = absurd run.ended.wrote
+untold n camera stream (status.NoDatagram port) o e h script written written_after faults faults_after run none same steady = absurd run.ended.wrote
 untold n camera stream (status.RefusedAt register code) o e h script written written_after faults faults_after run none same steady = absurd run.ended.wrote
 
 writes_whole : (lived : Status) (script : List ℕ) (written written_after : Option (List ℕ)) (faults faults_after : ℕ) → is_told lived ≡ true → Appends written written_after script × (faults_after ≡ faults)

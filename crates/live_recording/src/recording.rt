@@ -43,6 +43,7 @@ fn is_told(status: Status) -> bool
         Status::Controlled => false,
         Status::NoDescription => false,
         Status::ControlLost { .. } => false,
+        Status::NoDatagram { .. } => false,
         Status::RefusedAt { .. } => false,
         Status::ReadFault => false,
         Status::WriteFault => false,

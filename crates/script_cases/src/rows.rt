@@ -1,6 +1,6 @@
 //! Which call a row is.
 
-use crate::captures::{capture, content, moment, moments};
+use crate::captures::{capture, content, dropped, moment, moments};
 use crate::fields::Fields;
 use crate::machines::{Held, echo};
 use crate::miss::Miss;
@@ -43,6 +43,7 @@ fn later_answer(alloc: Global, word: &str, fields: &mut Fields<'_>) -> Result<St
         "capture" => capture(alloc, fields),
         "content" => content(alloc, fields),
         "moments" => moments(alloc, fields),
+        "dropped" => dropped(alloc, fields),
         "moment" => moment(alloc, fields),
         _ => Err(Miss::Row),
     }

@@ -1,6 +1,6 @@
 //! Each law of the definitions is a function with nothing to do.
 
-use capture_streams::packets_are_counted;
+use capture_streams::{packets_are_counted, streams_are_within};
 use captured_scripts::laws as captured;
 use gev_capture::{captures_are_one, packets_have_bytes, pieces_tell};
 use gev_script::laws::{kinds_of_lines, read_is_spelled, spelled_is_read};
@@ -24,6 +24,7 @@ fn laws_can_be_called(_rt: HostRuntime) {
     captures_are_one();
     packets_have_bytes();
     packets_are_counted();
+    streams_are_within();
     captured::datagrams_are_told();
     captured::packets_make_scripts();
     captured::captures_make_scripts();

@@ -1,4 +1,5 @@
-use Rattle.capture_script.specs.Script.{new_script}
+use Rattle.std.proofs.Common.{refl}
+use Rattle.capture_script.specs.Script.{not_written}
 use Rattle.capture_script.proofs.Written.{scripted, scripted_none}
 use Rattle.capture_script.proofs.scripting.write_capture.Goals as goal
 
@@ -11,10 +12,10 @@ returns-in-Ok-new_scripting-clause-ends g c =
     scripted c.args.port c.args.p c.args.size c.in-Ok.out.items c.run_capture.result
     (g.S.Source.left c.args.source.now) (g.S.Source.left c.run_capture.new.source) (g.S.Source.faults c.args.source.now) (g.S.Source.faults c.run_capture.new.source)
     (g.K.Sink.written c.args.sink.now) (g.K.Sink.written c.run_capture.new.sink) (g.K.Sink.faults c.args.sink.now) (g.K.Sink.faults c.run_capture.new.sink)
-    c.in-Ok.ensures (c.run_capture.ensures.ends (new_script c.args.port c.args.p c.args.size) c.in-Ok-new_scripting.ensures)
+    c.in-Ok.ensures (c.run_capture.ensures.ends (not_written c.args.port c.args.p c.args.size) (record { stands = c.in-Ok-new_scripting.ensures; told_is = refl }))
 
 pub returns-in-Ok-new_scripting-clause-exact : goal.returns-in-Ok-new_scripting-clause-exact
-returns-in-Ok-new_scripting-clause-exact g c = c.run_capture.ensures.exact (new_script c.args.port c.args.p c.args.size) c.in-Ok-new_scripting.ensures
+returns-in-Ok-new_scripting-clause-exact g c = c.run_capture.ensures.exact (not_written c.args.port c.args.p c.args.size) (record { stands = c.in-Ok-new_scripting.ensures; told_is = refl })
 
 pub returns-clause-ends : goal.returns-clause-ends
 returns-clause-ends g c =
