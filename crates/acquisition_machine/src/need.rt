@@ -1,4 +1,5 @@
 use gvsp_wire::WireError;
+use std::fmt;
 
 /// Why nothing of a datagram was kept.
 #[derive(Clone, Copy, Debug, PartialEq, Eq)]
@@ -16,6 +17,20 @@ pub enum Why {
     Starved,
     /// It is the camera's word that a packet can't be sent again.
     Notice,
+}
+
+impl fmt::Display for Why {
+    fn fmt<W: fmt::Write>(&self, f: &mut fmt::Formatter<W>) -> fmt::Result {
+        match self {
+            Why::Foreign(error) => write!(f, "no packet of the stream: {error}"),
+            Why::Late(Some(lowest)) => write!(f, "late: its block lies below {lowest}"),
+            Why::Late(None) => write!(f, "late: the last block id was used up"),
+            Why::Repeat => write!(f, "kept before"),
+            Why::Misfit => write!(f, "its status, packet id or length doesn't fit the stream"),
+            Why::Starved => write!(f, "its block was opened without a buffer"),
+            Why::Notice => write!(f, "the camera can't send a packet again"),
+        }
+    }
 }
 
 /// What a datagram needs, or what became of it.

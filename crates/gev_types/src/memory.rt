@@ -1,4 +1,5 @@
 use std::alloc::{AllocError, AllocFailed};
+use std::io;
 use thiserror::Error;
 
 /// Memory ran out. The call that answers it has changed nothing, unless it says otherwise.
@@ -15,5 +16,11 @@ impl From<AllocError> for NoMemory {
 impl<T: Drop> From<AllocFailed<T>> for NoMemory {
     fn from(_error: AllocFailed<T>) -> NoMemory {
         NoMemory
+    }
+}
+
+impl From<NoMemory> for io::Error {
+    fn from(_error: NoMemory) -> io::Error {
+        io::Error::from(io::ErrorKind::OutOfMemory)
     }
 }
