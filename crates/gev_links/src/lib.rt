@@ -13,6 +13,7 @@ mod fault_count; // `CountsFaults`
 mod gate; // `Gate`
 mod gates; // open gates, and gates that hold
 mod link; // `Link`
+mod meeting_gate; // a gate where two workers meet
 mod memory_clock; // a clock in memory
 mod memory_link; // a link in memory
 mod memory_ports; // ports in memory
@@ -34,6 +35,7 @@ pub use fault_count::CountsFaults;
 pub use gate::Gate;
 pub use gates::{HoldingGate, OpenGate};
 pub use link::Link;
+pub use meeting_gate::MeetingGate;
 pub use memory_clock::MemoryClock;
 pub use memory_link::MemoryLink;
 pub use memory_ports::MemoryPorts;

@@ -13,7 +13,7 @@ use acq_core::{Acq, AcqConfig};
 use anyhow::Result;
 use buffer_words::{Board, Pass};
 use gev_acq::{acquire, drain};
-use gev_gates::MeetingGate;
+use gev_links::MeetingGate;
 use gev_links::{Clock, CountsFaults, Link, MemoryClock, MemoryLink};
 use gev_types::NoMemory;
 use std::alloc::Global;

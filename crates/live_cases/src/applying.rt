@@ -9,7 +9,7 @@ use crate::links::print_text;
 use anyhow::{Result, anyhow};
 use buffer_words::{Board, Pass, Tried};
 use gev_apply::apply;
-use gev_gates::MeetingGate;
+use gev_links::MeetingGate;
 use gev_links::{Clock, MemoryClock};
 use gev_types::{Buf, Record};
 use std::alloc::Global;

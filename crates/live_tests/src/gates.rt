@@ -1,6 +1,6 @@
 //! Workers that meet at a gate, on two threads, and one that waits in vain.
 
-use gev_gates::MeetingGate;
+use gev_links::MeetingGate;
 use gev_links::Gate;
 use std::thread;
 use std::thread::Threads;

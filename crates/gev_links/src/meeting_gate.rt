@@ -1,4 +1,4 @@
-use gev_links::Gate;
+use crate::gate::Gate;
 use std::sync::atomic::{AtomicBool, AtomicU64, Ordering};
 
 /// A gate where a worker that fills and one that takes meet: whoever passes point 1, before a fill, for the
