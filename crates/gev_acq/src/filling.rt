@@ -36,7 +36,7 @@ pub(crate) fn fill_one<R: Wait, G: Gate>(
     let Retired { place, buf } = retired;
     let (end, _dropped) = fill_for(rt, board, pass, mode, place, buf);
     match end {
-        FillEnd::Filled => {}
+        FillEnd::Filled => gate.pass(3),
         FillEnd::Closed(back) => {
             board.set_down(pass, place, back);
             board.lay(pass, place);

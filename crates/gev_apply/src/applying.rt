@@ -19,8 +19,8 @@ use std::sync::Wait;
 /// and queues it. `NoMemory` where a line wanted memory; its buffer was given back and queued all the same.
 ///
 /// A turn looks at the run word and then waits no time for a buffer, so the clock is read once in a turn that
-/// finds one and twice in another. It passes point 2 of the gate after each buffer that it took, and rests where
-/// turns found none.
+/// finds one and twice in another. It passes point 2 of the gate after each buffer that it took, and where turns
+/// found none it rests at the gate, so that a gate that each fill rings wakes it at once.
 pub fn apply<R: Wait, C: Clock, G: Gate>(
     rt: &R,
     alloc: Global,
@@ -36,18 +36,24 @@ pub fn apply<R: Wait, C: Clock, G: Gate>(
     ensures hands { SameHands pass.old pass.new }
 {
     let mut taken = 0;
-    let mut rest = Rest::new();
+    let mut rest = Rest::woken();
     'turns: for _ in rt.forever() {
         if taken == frames {
             return Ok(taken);
         }
+        let rings = gate.rings();
         match look_once(rt, alloc, board, pass, clock, gate, out) {
             Ok(end) => match end {
                 LookEnd::Handed => {
                     taken += 1;
                     rest.found();
                 }
-                LookEnd::Idle => rest.rest(rt),
+                LookEnd::Idle => {
+                    let micros = rest.micros();
+                    if micros > 0 {
+                        gate.rest(rt, rings, micros);
+                    }
+                }
                 LookEnd::Over => return Ok(taken),
             },
             Err(error) => return Err(error),

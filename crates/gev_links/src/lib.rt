@@ -10,6 +10,7 @@ mod counting; // one more, where it can be counted
 mod discarding_link; // a link in memory that discards
 mod failed; // what a call that failed answers
 mod fault_count; // `CountsFaults`
+mod fill_bell; // a gate that each fill rings
 mod gate; // `Gate`
 mod gates; // open gates, and gates that hold
 mod link; // `Link`
@@ -32,6 +33,7 @@ pub use clock::Clock;
 pub use discarding_link::DiscardingLink;
 pub use failed::Failed;
 pub use fault_count::CountsFaults;
+pub use fill_bell::FillBell;
 pub use gate::Gate;
 pub use gates::{HoldingGate, OpenGate};
 pub use link::Link;

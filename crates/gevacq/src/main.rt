@@ -5,7 +5,7 @@ mod help;
 
 use crate::help::{HELP, USAGE};
 use gev_call::gevacq_top;
-use gev_links::OpenGate;
+use gev_links::FillBell;
 use gev_real::{RealPorts, StandardInput, StandardOutput};
 use gev_status::Status;
 use std::net::Net;
@@ -69,7 +69,7 @@ fn run<R: Threads + Wait + Net + Clock + Sync>(
         &mut source,
         &mut sink,
         &mut ports,
-        &OpenGate,
+        &FillBell::new(),
         &mut kept,
     )
 }

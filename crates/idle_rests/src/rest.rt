@@ -14,6 +14,9 @@ pub const SHORT: u64 = 100;
 /// How long a long rest is, in microseconds.
 const LONG: u64 = 1000;
 
+/// How long a long rest is of a thread that is woken, in microseconds.
+const WOKEN_LONG: u64 = 20_000;
+
 /// Rests for so many microseconds. The system may make it longer.
 pub fn rest_for<R: Wait>(rt: &R, micros: u64) {
     // nobody wakes who sleeps on it
@@ -22,16 +25,29 @@ pub fn rest_for<R: Wait>(rt: &R, micros: u64) {
 }
 
 /// How a thread rests between its looks for something to do: not at all at first, then for a tenth of a millisecond,
-/// and for a millisecond where nothing comes for long.
+/// and for longer where nothing comes for long.
 #[derive(Clone, Copy)]
 pub struct Rest {
     idle: u32,
+    long: u64,
 }
 
 impl Rest {
-    /// Of a thread that has just had something to do.
+    /// Of a thread that has just had something to do, and that nobody wakes: its long rests take a millisecond.
     pub const fn new() -> Rest {
-        Rest { idle: 0 }
+        Rest {
+            idle: 0,
+            long: LONG,
+        }
+    }
+
+    /// Of a thread that has just had something to do, and that is woken where there is more: its long rests take 20
+    /// milliseconds.
+    pub const fn woken() -> Rest {
+        Rest {
+            idle: 0,
+            long: WOKEN_LONG,
+        }
     }
 
     /// The thread has found something to do: the rests begin anew.
@@ -39,15 +55,20 @@ impl Rest {
         self.idle = 0;
     }
 
-    /// The thread has found nothing to do, and rests.
-    pub fn rest<R: Wait>(&mut self, rt: &R) {
+    /// The thread has found nothing to do: how long it's to rest, in microseconds; 0 where it isn't.
+    pub fn micros(&mut self) -> u64 {
         if self.idle >= LOOKS + SHORT_RESTS {
-            rest_for(rt, LONG);
-            return;
+            return self.long;
         }
         self.idle += 1;
-        if self.idle > LOOKS {
-            rest_for(rt, SHORT);
+        if self.idle > LOOKS { SHORT } else { 0 }
+    }
+
+    /// The thread has found nothing to do, and rests.
+    pub fn rest<R: Wait>(&mut self, rt: &R) {
+        let micros = self.micros();
+        if micros > 0 {
+            rest_for(rt, micros);
         }
     }
 }
