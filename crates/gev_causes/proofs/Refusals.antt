@@ -20,7 +20,7 @@ use Rattle.gev_control.specs.SetsUp.{setup_after, SetupGoesOn}
 use Rattle.gev_control.specs.SetupLaws.{outcomes_of, outcomes_after, hears_outcomes}
 use Rattle.gev_acq.specs.Turns.{Turned, inputs_of}
 use Rattle.gev_acq.specs.Acquired.{ControlEach, AllGoOn, EndsIn, EndsBy}
-use Rattle.gev_reader.specs.Reads.{IsSetUp, EndsAfter}
+use Rattle.gev_acq.specs.Reads.{IsSetUp, EndsAfter}
 use Rattle.gev_causes.specs.Causes.{refused_by, refused_in, setup_refusals, reader_refusals, refusal_of, RefusedIsRead}
 
 -- ---- the setup

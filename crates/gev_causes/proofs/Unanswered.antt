@@ -13,7 +13,7 @@ use Rattle.gev_control.specs.SetupTurns.{SetUp, set_up, SetupTurned, setup_turn,
 use Rattle.gev_control.specs.SetsUp.{setup_after, SetupGoesOn, setup_sent, setup_heards}
 use Rattle.gev_acq.specs.Turns.{Turned, inputs_of}
 use Rattle.gev_acq.specs.Acquired.{heards_in, ControlEach, AllGoOn, EndsIn}
-use Rattle.gev_reader.specs.Reads.{IsSetUp, EndsAfter}
+use Rattle.gev_acq.specs.Reads.{IsSetUp, EndsAfter}
 use Rattle.gev_causes.specs.Moves.{Move, sends_all, hears_of, setup_moves, turn_moves, reader_moves, moves_sent, moves_heard, datagrams, later_moves}
 use Rattle.gev_causes.specs.Causes.{IsUnanswered, NoAnswerIsUnanswered}
 use Rattle.gev_causes.proofs.Keeping.{later-append, Kept}

@@ -19,7 +19,7 @@ use Rattle.gev_control.specs.SetupLaws.{outcomes_of, hears_outcomes}
 use Rattle.gev_acq.specs.declared.turn.Turn.{Turn}
 use Rattle.gev_acq.specs.Turns.{Turned, Outside}
 use Rattle.gev_acq.specs.Acquired.{heards_in, sends_in}
-use Rattle.gev_reader.specs.Reads.{ReadsOn}
+use Rattle.gev_acq.specs.Reads.{ReadsOn}
 use Rattle.gev_causes.specs.Moves.{Move, sends, setup_moves, reader_moves, moves_sent, moves_heard, datagrams, is_answering, later_moves}
 
 -- So many of these moves, the latest of which comes first, send the request's bytes, and since the first of these

@@ -22,7 +22,7 @@ use Rattle.mode_calls.specs.declared.mode.Mode.{Mode}
 use Rattle.gev_control.specs.declared.acq_end.AcqEnd.{AcqEnd}
 use Rattle.gev_acq.specs.Turns.{Turned}
 use Rattle.gev_acq.specs.Acquired.{inputs_in}
-use Rattle.gev_reader.specs.History.{LiveReading}
+use Rattle.gev_acq.specs.History.{LiveReading}
 use Rattle.gev_apply.specs.Looks.{Looked}
 use Rattle.gev_apply.specs.Applied.{EndsStopped}
 use Rattle.gev_apply.specs.History.{LiveTakes}

@@ -24,7 +24,7 @@ use Rattle.gev_control.specs.declared.acq_end.AcqEnd.{AcqEnd}
 use Rattle.gev_control.specs.declared.acq_end.AcqEnd.TheVariants as reads
 use Rattle.gev_acq.specs.Turns.{Turned}
 use Rattle.gev_apply.specs.Applied.{IsEnough}
-use Rattle.gev_reader.specs.History.{LiveReading}
+use Rattle.gev_acq.specs.History.{LiveReading}
 use Rattle.gev_crew.specs.Prepared.{Prepares, SawOnly}
 use Rattle.gev_crew.specs.Kinds.{is_hosts}
 use Rattle.gev_crew.specs.Work.{StopsIf, has_failed, most_turns, ServesAndStops}

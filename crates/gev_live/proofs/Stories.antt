@@ -19,7 +19,7 @@ use Rattle.gev_crew.specs.Prepared.{Prepares, SawOnly}
 use Rattle.gev_crew.specs.Kinds.{is_cameras, is_applications, is_hosts}
 use Rattle.gev_crew.specs.Homes.{CameHome, CrewHome}
 use Rattle.gev_crew.proofs.Crews.{home_worker, crew_hosted, crew_apart}
-use Rattle.gev_reader.specs.Kinds.{is_readers, is_strict_readers}
+use Rattle.gev_acq.specs.Kinds.{is_readers, is_strict_readers}
 use Rattle.mode_calls.specs.declared.mode.Mode.{Mode}
 use Rattle.mode_calls.specs.declared.mode.Mode.TheVariants.{OldestFirst, OldestFirstOverwrite, NewestOnly}
 use Rattle.gev_live.specs.Kinds.{is_live, is_filling, is_taking, is_handing}

@@ -23,10 +23,10 @@ use Rattle.gev_status.specs.declared.status.Status.{Status}
 use Rattle.gev_status.specs.declared.status.Status.TheVariants.{NoMemory}
 use Rattle.gev_crew.specs.Prepared.{Prepares, SawOnly}
 use Rattle.mode_calls.specs.declared.mode.Mode.{Mode}
-use Rattle.gev_reader.specs.Kinds.{is_readers, is_strict_readers}
-use Rattle.gev_reader.specs.History.{LiveReading}
-use Rattle.gev_reader.proofs.Whole.{part_stays, part_fills, part_sized}
-use Rattle.gev_reader.proofs.Strict.{part_lays_nothing}
+use Rattle.gev_acq.specs.Kinds.{is_readers, is_strict_readers}
+use Rattle.gev_acq.specs.History.{LiveReading}
+use Rattle.gev_acq.proofs.Whole.{part_stays, part_fills, part_sized}
+use Rattle.gev_acq.proofs.Strict.{part_lays_nothing}
 use Rattle.gev_live.specs.Told.{Told, reader_side, live_config, live_camera}
 use Rattle.gev_live.specs.History.{live_size, LiveHistory}
 use Rattle.gev_live.specs.Acquirers.{acquires}

@@ -21,8 +21,8 @@ use Rattle.gev_acq.specs.Reading.{FaultsOf}
 use Rattle.gev_acq.specs.Claims.{claims_in}
 use Rattle.gev_acq.specs.Turns.{Turned}
 use Rattle.gev_acq.specs.Acquired.{inputs_in}
-use Rattle.gev_reader.specs.Reads.{ReadsOn}
-use Rattle.gev_reader.specs.History.{LiveReading, AreSized}
+use Rattle.gev_acq.specs.Reads.{ReadsOn}
+use Rattle.gev_acq.specs.History.{LiveReading, AreSized}
 use Rattle.board_machine.specs.Handout.{taken_items}
 use Rattle.mode_calls.specs.declared.mode.Mode.{Mode}
 use Rattle.gev_live.specs.Acquirers.{handed_out, DropsNothing}

@@ -18,7 +18,7 @@ use Rattle.gev_control.specs.SetsUp.{setup_after, SetupGoesOn}
 use Rattle.gev_control.specs.SetupLaws.{outcomes_of, outcomes_after, hears_outcomes}
 use Rattle.board_machine.specs.declared.events.Event.{Event as Act}
 use Rattle.gev_acq.specs.Turns.{Outside}
-use Rattle.gev_reader.specs.Reads.{IsSetUp}
+use Rattle.gev_acq.specs.Reads.{IsSetUp}
 use Rattle.lane_turns.specs.Turns.{ReaderTurn}
 use Rattle.lane_reader.specs.Reads.{ControlEach, AllGoOn, EndsIn, EndsBy}
 use Rattle.lane_crew.specs.Reader.{EndsAfter, ReadsOn}

@@ -17,7 +17,7 @@ use Rattle.gev_control.specs.Ends.{is_fault_end}
 use Rattle.mode_calls.specs.declared.mode.Mode.{Mode}
 use Rattle.gev_acq.specs.Reading.{FaultsOf}
 use Rattle.gev_acq.specs.Claims.{claims_in}
-use Rattle.gev_reader.specs.History.{AreSized}
+use Rattle.gev_acq.specs.History.{AreSized}
 use Rattle.gev_lanes.specs.declared.parts.LaneQueues.{LaneQueues}
 use Rattle.gev_lanes.specs.declared.parts.ReaderLane.{ReaderLane}
 use Rattle.gev_lanes.specs.Sides.{LaneEnd, AreNew}

@@ -12,7 +12,7 @@ use Rattle.gev_control.specs.SetsUp.{setup_sent, setup_heards}
 use Rattle.gev_acq.specs.declared.turn.Turn.{Turn}
 use Rattle.gev_acq.specs.Turns.{Turned, Outside}
 use Rattle.gev_acq.specs.Acquired.{heards_in, sends_in}
-use Rattle.gev_reader.specs.Reads.{ReadsOn}
+use Rattle.gev_acq.specs.Reads.{ReadsOn}
 use Rattle.gev_causes.specs.Moves.{datagrams, later_moves}
 use Rattle.gev_causes.specs.Causes.{IsUnanswered, GivesUpUnanswered, run_moves}
 use Rattle.gev_causes.proofs.Unanswered.{no_answer}

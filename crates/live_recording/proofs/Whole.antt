@@ -27,8 +27,8 @@ use Rattle.gev_acq.specs.declared.turn.Turn.{Turn}
 use Rattle.gev_acq.specs.Claims.{claims_in}
 use Rattle.gev_acq.specs.Turns.{Turned}
 use Rattle.gev_acq.specs.Acquired.{inputs_in, answers_in, NoteEach, EndsBy}
-use Rattle.gev_reader.specs.History.{AreSized}
-use Rattle.gev_reader.specs.Reads.{EndsAfter}
+use Rattle.gev_acq.specs.History.{AreSized}
+use Rattle.gev_acq.specs.Reads.{EndsAfter}
 use Rattle.gev_live.specs.Told.{Told, live_config}
 use Rattle.gev_live.specs.History.{live_size}
 use Rattle.gev_live.specs.Endings.{is_told}

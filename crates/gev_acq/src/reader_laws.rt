@@ -1,6 +1,6 @@
 //! Laws of the reader's part in the whole history. Each function only carries its statement.
 
-ghost use Rattle.gev_reader.specs.History.{ReadersPartStays, ReadersFillsAreRetired, ReadersLayNothing, ReadersClaimOneSize};
+ghost use Rattle.gev_acq.specs.History.{ReadersPartStays, ReadersFillsAreRetired, ReadersLayNothing, ReadersClaimOneSize};
 
 /// What the reader did is its part of each history that goes on from what it had seen.
 pub fn readers_part_stays()

@@ -36,8 +36,8 @@ use Rattle.gev_acq.specs.Turns.{Turned, Outside}
 use Rattle.gev_acq.specs.Acquired.{inputs_in}
 use Rattle.gev_acq.proofs.Owning.{met_by-append, met_none}
 use Rattle.gev_acq.proofs.Filled.{tried_both, served_fills, turns_fill}
-use Rattle.gev_reader.specs.Reads.{LastLook, Reads}
-use Rattle.gev_reader.specs.History.{LiveReading, AreSized}
+use Rattle.gev_acq.specs.Reads.{LastLook, Reads}
+use Rattle.gev_acq.specs.History.{LiveReading, AreSized}
 
 -- all that a new pass did is what it entered
 own_entered : (s t : Token) (events : List Event) → own s ≡ [] → EntersEach s events t → own t ≡ entries_of s.number events

@@ -22,10 +22,10 @@ use Rattle.gev_acq.specs.Serving.{Serves}
 use Rattle.gev_acq.specs.Turns.{Turned, inputs_of}
 use Rattle.gev_acq.specs.Acquired.{inputs_in, ServesTurns}
 use Rattle.gev_acq.proofs.Parts.{Holds, served_hold}
-use Rattle.gev_reader.specs.Kinds.{is_strict_readers}
-use Rattle.gev_reader.specs.Reads.{LastLook}
-use Rattle.gev_reader.specs.History.{LiveReading}
-use Rattle.gev_reader.proofs.OfKind.{drops_so}
+use Rattle.gev_acq.specs.Kinds.{is_strict_readers}
+use Rattle.gev_acq.specs.Reads.{LastLook}
+use Rattle.gev_acq.specs.History.{LiveReading}
+use Rattle.gev_acq.proofs.OfKind.{drops_so}
 
 abbrev Are : Mode → List Event → Type 0
 Are mode es = AreEvents (is_strict_readers mode) es

@@ -26,7 +26,7 @@ use Rattle.gev_acq.specs.Turns.{Outside}
 use Rattle.gev_acq.specs.Acquired.{inputs_in, heards_in, sends_in, moments_in, LooksLast, Acquires}
 use Rattle.gev_acq.proofs.Owning.{ClaimNothing, claims_none, claims_then}
 use Rattle.acquisition_machine.specs.Blocks.{Given}
-use Rattle.gev_reader.specs.Reads.{IsSetUp, EndsAfter, LastLook, ReadsTurns, Reads}
+use Rattle.gev_acq.specs.Reads.{IsSetUp, EndsAfter, LastLook, ReadsTurns, Reads}
 
 -- what the setup told, without its lists
 setup_is : (camera stream : Address) (o n : SetupSide) (end : AcqEnd) → (up : SetsUp camera stream o n end) → IsSetUp stream o.client (up.before ++ up.last ∷ []) end n.client

@@ -1,9 +1,9 @@
 -- The setup and the turns, and then the stop of the receiver and of the acquisition.
 use Rattle.std.proofs.Common.{◌∙◌}
 use Rattle.acq_core.specs.Receiver.{config_of, buffers, Stands}
-use Rattle.gev_reader.proofs.Joined.{reads_all, alone_none}
-use Rattle.gev_reader.proofs.OfKind.{reads_work}
-use Rattle.gev_reader.proofs.reading.read.Goals as goal
+use Rattle.gev_acq.proofs.Joined.{reads_all, alone_none}
+use Rattle.gev_acq.proofs.OfKind.{reads_work}
+use Rattle.gev_acq.proofs.reading.read.Goals as goal
 
 pub returns-clause-reads : goal.returns-clause-reads
 returns-clause-reads g c =

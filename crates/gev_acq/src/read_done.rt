@@ -1,7 +1,8 @@
+use crate::turn::Turn;
 use acquisition_machine::Counts;
 use buffer_words::Pass;
 use control_client::Client;
-use gev_acq::{AcqEnd, Turn};
+use gev_control::AcqEnd;
 
 /// What a live run's reader gives back: its pass, its client, its links, its clock and its journal, and how it
 /// ended.

@@ -24,8 +24,8 @@ use Rattle.gev_acq.specs.Serving.{Serves}
 use Rattle.gev_acq.specs.Claims.{claims_in, claims_by}
 use Rattle.gev_acq.specs.Turns.{Turned, Outside}
 use Rattle.gev_acq.specs.Acquired.{inputs_in, ServesTurns}
-use Rattle.gev_reader.specs.Kinds.{is_strict_readers}
-use Rattle.gev_reader.specs.Reads.{LastLook, Reads}
+use Rattle.gev_acq.specs.Kinds.{is_strict_readers}
+use Rattle.gev_acq.specs.Reads.{LastLook, Reads}
 
 -- All entries of actor n are those of these turns of a new receiver, of the last look, of the receiver's stop and
 -- of the acquisition's. The outcomes of claims among the turns' inputs are what its claims gave in this history.

@@ -20,8 +20,8 @@ use Rattle.gev_acq.specs.Serving.{Serves}
 use Rattle.gev_acq.specs.Turns.{Turned, Outside, inputs_of}
 use Rattle.gev_acq.specs.Acquired.{inputs_in, ServesTurns}
 use Rattle.gev_acq.proofs.Parts.{MayDrop, Holds, served_hold}
-use Rattle.gev_reader.specs.Kinds.{may_drop, is_readers}
-use Rattle.gev_reader.specs.Reads.{LastLook, Reads}
+use Rattle.gev_acq.specs.Kinds.{may_drop, is_readers}
+use Rattle.gev_acq.specs.Reads.{LastLook, Reads}
 
 abbrev Are : Mode → List Event → Type 0
 Are mode es = AreEvents (is_readers mode) es

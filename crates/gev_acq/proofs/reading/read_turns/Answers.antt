@@ -2,8 +2,8 @@
 use Rattle.std.proofs.Common.{refl}
 use Rattle.acq_core.specs.Receiver.{config_of, Stands}
 use Rattle.gev_control.specs.declared.acq_end.AcqEnd.TheVariants as how
-use Rattle.gev_reader.proofs.Joined.{ends_early, then_turns}
-use Rattle.gev_reader.proofs.reading.read_turns.Goals as goal
+use Rattle.gev_acq.proofs.Joined.{ends_early, then_turns}
+use Rattle.gev_acq.proofs.reading.read_turns.Goals as goal
 
 pub returns-in-Stopped-clause-reads : goal.returns-in-Stopped-clause-reads
 returns-in-Stopped-clause-reads g c =
