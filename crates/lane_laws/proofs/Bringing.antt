@@ -3,7 +3,7 @@ use Rattle.std.proofs.Common.{◌≡◌, ℕ, zero, suc, ◌+◌, ◌≤◌, Boo
 use Rattle.std.specs.Prelude.{slice_get, nat_lt, MatchBool}
 use Rattle.std.proofs.lemmas.List.{append-nil, map-append}
 use Rattle.gev_control.specs.Controlled.{listed}
-use Rattle.lane_queues.specs.Ends.{GiverEnd, TakerEnd, gave, took, missed}
+use Rattle.gev_lanes.specs.LineEnds.{GiverEnd, TakerEnd, gave, took, missed}
 use Rattle.gev_lanes.specs.declared.cell.Cell.{Cell}
 use Rattle.gev_lanes.specs.declared.parts.ReaderLane.{ReaderLane}
 use Rattle.gev_lanes.specs.Messages.{Says, Message, heard, told, ended, message_of, messages, GoOn}

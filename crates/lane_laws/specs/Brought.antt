@@ -1,7 +1,7 @@
 -- What the reader's turns bring to one lane.
 use Rattle.std.specs.Prelude.{◌≡◌, ◌⊎◌, ℕ, ◌+◌, ◌≤◌, List, [], ◌∷◌, ◌++◌, length, Option, Some, None}
 use Rattle.gev_control.specs.Controlled.{listed}
-use Rattle.lane_queues.specs.Ends.{TakerEnd, gave}
+use Rattle.gev_lanes.specs.LineEnds.{TakerEnd, gave}
 use Rattle.gev_lanes.specs.declared.cell.Cell.{Cell}
 use Rattle.gev_lanes.specs.declared.parts.ReaderLane.{ReaderLane}
 use Rattle.gev_lanes.specs.Messages.{Says, Message, heard, told, ended, messages, GoOn}

@@ -1,6 +1,6 @@
 -- Laws of reader and lane, whatever they were.
 use Rattle.std.specs.Prelude.{◌≡◌, ℕ, ◌≤◌, List, [], ◌∷◌, ◌++◌, length, slice_get, Some}
-use Rattle.lane_queues.specs.Ends.{gave, BeginsWith}
+use Rattle.gev_lanes.specs.LineEnds.{gave, BeginsWith}
 use Rattle.gev_lanes.specs.declared.cell.Cell.{Cell}
 use Rattle.gev_lanes.specs.declared.parts.ReaderLane.{ReaderLane}
 use Rattle.gev_lanes.specs.Sides.{CELLS}

@@ -2,7 +2,7 @@
 use Rattle.std.proofs.Common.{◌≡◌, ℕ, zero, suc, ◌+◌, ◌<◌, List, [], ◌∷◌, ◌++◌, length, Some, refl, ap, sym, ◌∙◌, subst, inl, inr, append_assoc, arith}
 use Rattle.std.specs.Prelude.{slice_get, slice_set}
 use Rattle.std.proofs.lemmas.List.{append-nil}
-use Rattle.lane_queues.specs.Ends.{TakerEnd, took, missed, WasEmpty}
+use Rattle.gev_lanes.specs.LineEnds.{TakerEnd, took, missed, WasEmpty}
 use Rattle.gev_lanes.specs.declared.parts.ReaderLane.{ReaderLane}
 use Rattle.gev_lanes.specs.Sides.{AreKept, KeptAt}
 use Rattle.gev_lanes.specs.Acts.{DoesAt, AsksOne, AsksNone, with_asked}

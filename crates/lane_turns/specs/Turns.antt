@@ -2,7 +2,7 @@
 use Rattle.std.specs.Prelude.{◌≡◌, ◌⊎◌, ⊤, ℕ, suc, ◌<◌, ◌-◌, ◌%◌, ◌==◌, if◌then◌else◌, List, [], ◌∷◌, ◌++◌, length, Option, Some, None, Bool}
 use Rattle.stream_packets.specs.Packets.{StreamPacket, head_of}
 use Rattle.gvsp_wire.specs.Reading.{packet_of}
-use Rattle.lane_queues.specs.Ends.{took, missed, WasEmpty}
+use Rattle.gev_lanes.specs.LineEnds.{took, missed, WasEmpty}
 use Rattle.gev_lanes.specs.declared.parts.ReaderLane.{ReaderLane}
 use Rattle.gev_lanes.specs.Sides.{CELLS}
 use Rattle.gev_lanes.specs.Acts.{Hears, Ticks, Ends, with_asked}

@@ -3,7 +3,7 @@ use Rattle.std.specs.Prelude.{◌≡◌, ⊤, ℕ, List, [], ◌∷◌, ◌++◌
 use Rattle.acquisition_machine.specs.declared.config.AcqConfig.{AcqConfig}
 use Rattle.acquisition_machine.specs.Machine.{Input, stop}
 use Rattle.buffer_words.specs.Passes.{Token}
-use Rattle.lane_queues.specs.Ends.{GiverEnd, gave, took}
+use Rattle.gev_lanes.specs.LineEnds.{GiverEnd, gave, took}
 use Rattle.mode_calls.specs.declared.mode.Mode.{Mode}
 use Rattle.gev_acq.specs.Claims.{ServesOn}
 use Rattle.gev_lanes.specs.declared.cell.Cell.{Cell}
