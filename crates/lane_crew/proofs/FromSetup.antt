@@ -19,7 +19,7 @@ use Rattle.gev_control.proofs.Fronts.{added_then}
 use Rattle.gev_acq.specs.Acquired.{LooksLast}
 use Rattle.gev_acq.specs.Reads.{IsSetUp, LastLook}
 use Rattle.gev_lanes.specs.declared.parts.ReaderLane.{ReaderLane}
-use Rattle.lane_turns.specs.Turns.{EndsEach}
+use Rattle.lane_reader.specs.LanesTurns.{EndsEach}
 use Rattle.lane_reader.specs.Reads.{looks_in, moments_in, heards_in, sends_in, ReadsLanes}
 use Rattle.lane_crew.specs.Reader.{EndsAfter, ReadsAll}
 

@@ -14,7 +14,7 @@ use Rattle.gev_acq.specs.Serving.{Serves}
 use Rattle.gev_acq.proofs.Parts.{Holds, served_hold}
 use Rattle.gev_acq.specs.Reads.{LastLook}
 use Rattle.gev_acq.proofs.OfKind.{drops_so}
-use Rattle.lane_turns.specs.Turns.{ReaderTurn}
+use Rattle.lane_reader.specs.LanesTurns.{ReaderTurn}
 use Rattle.lane_reader.specs.Reads.{looks_in}
 use Rattle.lane_crew.specs.declared.lane_tools.LaneTools.{LaneTools}
 use Rattle.lane_crew.specs.Kinds.{is_lanes, is_lane_readers}

@@ -18,8 +18,8 @@ use Rattle.gev_lanes.specs.declared.parts.ReaderLane.{ReaderLane}
 use Rattle.gev_lanes.specs.declared.parts.LaneHands.{LaneHands}
 use Rattle.gev_lanes.specs.Sides.{LaneEnd, Met}
 use Rattle.gev_lanes.specs.Messages.{ended, message_of, messages, GoOn}
-use Rattle.lane_turns.specs.Turns.{ReaderTurn}
-use Rattle.lane_laws.specs.Brought.{IsSublist, datagrams_in, parts_of, news_of}
+use Rattle.lane_reader.specs.LanesTurns.{ReaderTurn}
+use Rattle.lane_reader.specs.Brought.{IsSublist, datagrams_in, parts_of, news_of}
 use Rattle.lane_worker.specs.Cells.{CellServed, inputs_in}
 use Rattle.lane_worker.specs.Lane.{messages_in, ClaimEach, PutsEach}
 use Rattle.lane_crew.specs.declared.lane_tools.LaneTools.{LaneTools}

@@ -17,7 +17,7 @@ use Rattle.gev_control.specs.SetupTurns.{SetUp, set_up, SetupTurned, setup_turn,
 use Rattle.gev_control.specs.SetsUp.{setup_after, SetupGoesOn, setup_sent, setup_heards}
 use Rattle.gev_acq.specs.Turns.{SendsAll, Outside}
 use Rattle.gev_acq.specs.Reads.{IsSetUp}
-use Rattle.lane_turns.specs.Turns.{ReaderTurn, joined}
+use Rattle.lane_reader.specs.LanesTurns.{ReaderTurn, joined}
 use Rattle.lane_reader.specs.Turned.{IsControlled}
 use Rattle.lane_reader.specs.Reads.{heards_in, sends_in, ControlEach, AllGoOn, EndsIn}
 use Rattle.lane_crew.specs.Reader.{EndsAfter, ReadsOn}

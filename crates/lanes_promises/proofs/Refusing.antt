@@ -19,7 +19,7 @@ use Rattle.gev_control.specs.SetupLaws.{outcomes_of, outcomes_after, hears_outco
 use Rattle.board_machine.specs.declared.events.Event.{Event as Act}
 use Rattle.gev_acq.specs.Turns.{Outside}
 use Rattle.gev_acq.specs.Reads.{IsSetUp}
-use Rattle.lane_turns.specs.Turns.{ReaderTurn}
+use Rattle.lane_reader.specs.LanesTurns.{ReaderTurn}
 use Rattle.lane_reader.specs.Reads.{ControlEach, AllGoOn, EndsIn, EndsBy}
 use Rattle.lane_crew.specs.Reader.{EndsAfter, ReadsOn}
 use Rattle.gev_causes.specs.Causes.{refused_by, refused_in, setup_refusals, refusal_of}

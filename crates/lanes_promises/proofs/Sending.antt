@@ -20,8 +20,8 @@ use Rattle.gev_links.specs.Links.{Answer, nothing, failed, came}
 use Rattle.gev_control.specs.Controlled.{listed}
 use Rattle.gev_acq.specs.Turning.{inputs_if}
 use Rattle.gev_lanes.specs.Messages.{Says, heard, told, ended}
-use Rattle.lane_turns.specs.Turns.{ReaderTurn, lane_of, part_of}
-use Rattle.lane_laws.specs.Brought.{IsSublist, datagram_in, datagrams_in, parts_of}
+use Rattle.lane_reader.specs.LanesTurns.{ReaderTurn, lane_of, part_of}
+use Rattle.lane_reader.specs.Brought.{IsSublist, datagram_in, datagrams_in, parts_of}
 use Rattle.lane_reader.specs.Reads.{answers_in}
 use Rattle.lane_worker.specs.Cells.{CellServed, came_in, inputs_of, inputs_in}
 use Rattle.lane_worker.specs.Lane.{messages_in}

@@ -10,7 +10,7 @@ use Rattle.gev_control.specs.SetupTurns.{set_up}
 use Rattle.gev_control.specs.SetsUp.{setup_sent, setup_heards}
 use Rattle.gev_control.specs.SetupLaws.{outcomes_of}
 use Rattle.gev_acq.specs.Turns.{Outside}
-use Rattle.lane_turns.specs.Turns.{ReaderTurn, joined}
+use Rattle.lane_reader.specs.LanesTurns.{ReaderTurn, joined}
 use Rattle.lane_reader.specs.Reads.{heards_in, sends_in}
 use Rattle.lane_crew.specs.Reader.{ReadsOn}
 use Rattle.gev_causes.specs.Moves.{Move, sends_all, hears_of, setup_moves, datagrams}

@@ -8,8 +8,8 @@ use Rattle.gev_links.specs.Links.{Address}
 use Rattle.gev_status.specs.declared.status.Status.{Status}
 use Rattle.acquisition_machine.specs.Machine.{stop}
 use Rattle.acquisition_machine.specs.Runs.{packets_in}
-use Rattle.lane_turns.specs.Turns.{ReaderTurn}
-use Rattle.lane_laws.specs.Brought.{IsSublist, datagrams_in, parts_of}
+use Rattle.lane_reader.specs.LanesTurns.{ReaderTurn}
+use Rattle.lane_reader.specs.Brought.{IsSublist, datagrams_in, parts_of}
 use Rattle.lane_reader.specs.Reads.{answers_in}
 use Rattle.lane_worker.specs.Cells.{CellServed, inputs_in}
 use Rattle.lane_worker.specs.Lane.{messages_in}

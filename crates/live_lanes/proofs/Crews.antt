@@ -14,7 +14,7 @@ use Rattle.buffer_words.specs.Workers.{AreApart, IsChildless, Worker, numbers, I
 use Rattle.buffer_words.proofs.Working.{are_of_entries}
 use Rattle.mode_calls.specs.declared.mode.Mode.{Mode}
 use Rattle.gev_lanes.specs.declared.parts.ReaderLane.{ReaderLane}
-use Rattle.lane_turns.specs.Turns.{ReaderTurn}
+use Rattle.lane_reader.specs.LanesTurns.{ReaderTurn}
 use Rattle.gev_live.proofs.Quiet.{own_none}
 use Rattle.gev_live.proofs.Splitting.{member_or}
 use Rattle.lane_crew.specs.declared.lane_tools.LaneTools.{LaneTools}

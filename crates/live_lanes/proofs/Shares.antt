@@ -15,7 +15,7 @@ use Rattle.gev_acq.proofs.Filled.{served_fills}
 use Rattle.gev_acq.specs.History.{AreSized}
 use Rattle.gev_acq.proofs.Whole.{claims_sized, met_sized}
 use Rattle.gev_lanes.specs.declared.parts.ReaderLane.{ReaderLane}
-use Rattle.lane_turns.specs.Turns.{ReaderTurn}
+use Rattle.lane_reader.specs.LanesTurns.{ReaderTurn}
 use Rattle.lane_worker.specs.Cells.{inputs_in}
 use Rattle.gev_live.specs.Told.{live_config}
 use Rattle.gev_live.specs.History.{live_size}

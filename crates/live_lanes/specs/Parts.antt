@@ -21,7 +21,7 @@ use Rattle.gev_acq.specs.History.{AreSized}
 use Rattle.gev_lanes.specs.declared.parts.LaneQueues.{LaneQueues}
 use Rattle.gev_lanes.specs.declared.parts.ReaderLane.{ReaderLane}
 use Rattle.gev_lanes.specs.Sides.{LaneEnd, AreNew}
-use Rattle.lane_turns.specs.Turns.{ReaderTurn}
+use Rattle.lane_reader.specs.LanesTurns.{ReaderTurn}
 use Rattle.lane_reader.specs.Reads.{looks_in}
 use Rattle.lane_worker.specs.Cells.{CellServed, inputs_in}
 use Rattle.lane_crew.specs.Reader.{ReadsOn, BringsAll}
