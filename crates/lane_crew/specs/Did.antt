@@ -20,8 +20,8 @@ use Rattle.gev_lanes.specs.Sides.{LaneEnd, Met}
 use Rattle.gev_lanes.specs.Messages.{ended, message_of, messages, GoOn}
 use Rattle.lane_reader.specs.LanesTurns.{ReaderTurn}
 use Rattle.lane_reader.specs.Brought.{IsSublist, datagrams_in, parts_of, news_of}
-use Rattle.lane_worker.specs.Cells.{CellServed, inputs_in}
-use Rattle.lane_worker.specs.Lane.{messages_in, ClaimEach, PutsEach}
+use Rattle.lane_crew.specs.Cells.{CellServed, inputs_in}
+use Rattle.lane_crew.specs.Lane.{messages_in, ClaimEach, PutsEach}
 use Rattle.lane_crew.specs.declared.lane_tools.LaneTools.{LaneTools}
 use Rattle.lane_crew.specs.Kinds.{is_lanes}
 

@@ -21,7 +21,7 @@ use Rattle.mode_calls.specs.declared.mode.Mode.{Mode}
 use Rattle.gev_lanes.specs.declared.parts.ReaderLane.{ReaderLane}
 use Rattle.gev_lanes.specs.Sides.{LaneEnd}
 use Rattle.lane_reader.specs.LanesTurns.{ReaderTurn}
-use Rattle.lane_worker.specs.Cells.{inputs_in}
+use Rattle.lane_crew.specs.Cells.{inputs_in}
 use Rattle.gev_live.specs.Kinds.{is_filling}
 use Rattle.gev_live.specs.History.{live_size}
 use Rattle.gev_live.proofs.Quiet.{is_beginning, beginning_are}

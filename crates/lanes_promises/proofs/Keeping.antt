@@ -17,7 +17,7 @@ use Rattle.gev_lanes.specs.declared.parts.ReaderLane.{ReaderLane}
 use Rattle.gev_lanes.specs.Sides.{LaneEnd}
 use Rattle.lane_reader.specs.LanesTurns.{ReaderTurn}
 use Rattle.lane_reader.specs.Reads.{answers_in}
-use Rattle.lane_worker.specs.Cells.{inputs_in}
+use Rattle.lane_crew.specs.Cells.{inputs_in}
 use Rattle.client_machine.specs.Times.{SEND_LIMIT}
 use Rattle.client_machine.specs.Machine.{new_client}
 use Rattle.gev_live.specs.Told.{Told, live_config, reader_side}

@@ -23,8 +23,8 @@ use Rattle.gev_lanes.specs.Messages.{Says, heard, told, ended}
 use Rattle.lane_reader.specs.LanesTurns.{ReaderTurn, lane_of, part_of}
 use Rattle.lane_reader.specs.Brought.{IsSublist, datagram_in, datagrams_in, parts_of}
 use Rattle.lane_reader.specs.Reads.{answers_in}
-use Rattle.lane_worker.specs.Cells.{CellServed, came_in, inputs_of, inputs_in}
-use Rattle.lane_worker.specs.Lane.{messages_in}
+use Rattle.lane_crew.specs.Cells.{CellServed, came_in, inputs_of, inputs_in}
+use Rattle.lane_crew.specs.Lane.{messages_in}
 use Rattle.live_promises.specs.Promises.{packets_among}
 
 -- ---- the packets of the inputs came on the link

@@ -11,8 +11,8 @@ use Rattle.acquisition_machine.specs.Runs.{packets_in}
 use Rattle.lane_reader.specs.LanesTurns.{ReaderTurn}
 use Rattle.lane_reader.specs.Brought.{IsSublist, datagrams_in, parts_of}
 use Rattle.lane_reader.specs.Reads.{answers_in}
-use Rattle.lane_worker.specs.Cells.{CellServed, inputs_in}
-use Rattle.lane_worker.specs.Lane.{messages_in}
+use Rattle.lane_crew.specs.Cells.{CellServed, inputs_in}
+use Rattle.lane_crew.specs.Lane.{messages_in}
 use Rattle.live_promises.specs.Promises.{packets_among}
 use Rattle.gev_live.specs.Told.{Told}
 use Rattle.gev_live.specs.LiveRun.{Numbers}

@@ -16,7 +16,7 @@ use Rattle.gev_acq.specs.History.{AreSized}
 use Rattle.gev_acq.proofs.Whole.{claims_sized, met_sized}
 use Rattle.gev_lanes.specs.declared.parts.ReaderLane.{ReaderLane}
 use Rattle.lane_reader.specs.LanesTurns.{ReaderTurn}
-use Rattle.lane_worker.specs.Cells.{inputs_in}
+use Rattle.lane_crew.specs.Cells.{inputs_in}
 use Rattle.gev_live.specs.Told.{live_config}
 use Rattle.gev_live.specs.History.{live_size}
 use Rattle.lane_crew.specs.declared.lane_tools.LaneTools.{LaneTools}

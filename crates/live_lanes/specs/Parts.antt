@@ -23,7 +23,7 @@ use Rattle.gev_lanes.specs.declared.parts.ReaderLane.{ReaderLane}
 use Rattle.gev_lanes.specs.Sides.{LaneEnd, AreNew}
 use Rattle.lane_reader.specs.LanesTurns.{ReaderTurn}
 use Rattle.lane_reader.specs.Reads.{looks_in}
-use Rattle.lane_worker.specs.Cells.{CellServed, inputs_in}
+use Rattle.lane_crew.specs.Cells.{CellServed, inputs_in}
 use Rattle.lane_crew.specs.Reader.{ReadsOn, BringsAll}
 use Rattle.lane_crew.specs.Did.{IsHeard, IsQueued, LanePart}
 use Rattle.gev_live.specs.History.{live_size}

@@ -10,7 +10,7 @@ use Rattle.gev_lanes.specs.declared.cell.Cell.{Cell}
 use Rattle.gev_lanes.specs.Sides.{LaneEnd}
 use Rattle.gev_lanes.specs.Messages.{Message, ended, message_of, messages, GoOn}
 use Rattle.gev_lanes.specs.Acts.{Puts, with_requests}
-use Rattle.lane_worker.specs.Cells.{CellServed, came_in, inputs_of, inputs_in, asks_of, IsClaimed}
+use Rattle.lane_crew.specs.Cells.{CellServed, came_in, inputs_of, inputs_in, asks_of, IsClaimed}
 
 abbrev pub messages_in : List CellServed → List Message
 messages_in xs = map (λ (x : CellServed). x.message) xs

@@ -4,7 +4,7 @@ ghost use Rattle.std.specs.Prelude.{◌≡◌, []};
 ghost use Rattle.acq_core.specs.Receiver.{KeepsBlocks};
 ghost use Rattle.acq_core.specs.Waiting.{waiting_fills, waiting_requests};
 ghost use Rattle.gev_lanes.specs.Sides.{IsLaneAt};
-ghost use Rattle.lane_worker.specs.Lane.{PutsRequests};
+ghost use Rattle.lane_crew.specs.Lane.{PutsRequests};
 
 use acq_core::Acq;
 use gev_lanes::{LaneEnds, Lanes};

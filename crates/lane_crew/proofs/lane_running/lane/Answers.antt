@@ -3,8 +3,8 @@ use Rattle.std.proofs.Common.{refl, sym, ◌∙◌, subst}
 use Rattle.acq_core.specs.Receiver.{config_of, Stands}
 use Rattle.acq_core.specs.Waiting.{waiting_requests}
 use Rattle.gev_acq.specs.Buffers.{Backs, HoldsAlone}
-use Rattle.lane_worker.proofs.Lanes.{begins, goes_on, ends_so}
-use Rattle.lane_worker.proofs.running.lane.Goals as goal
+use Rattle.lane_crew.proofs.Cells.{begins, goes_on, ends_so}
+use Rattle.lane_crew.proofs.lane_running.lane.Goals as goal
 
 pub cells-init : goal.cells-init
 cells-init g c = record {

@@ -3,8 +3,8 @@ use Rattle.acq_core.specs.Receiver.{config_of, buffers, Stands}
 use Rattle.acq_core.specs.Waiting.{waiting_fills, waiting_requests}
 use Rattle.gev_acq.specs.Buffers.{Backs, HoldsAlone}
 use Rattle.gev_lanes.specs.Sides.{IsLaneAt}
-use Rattle.lane_worker.proofs.Lanes.{Serving}
-use Rattle.lane_worker.proofs.running.lane.Given as goal
+use Rattle.lane_crew.proofs.Cells.{Serving}
+use Rattle.lane_crew.proofs.lane_running.lane.Given as goal
 
 abbrev pub invariant-cells : goal.invariant-cells
 invariant-cells g l = record {

@@ -1,6 +1,6 @@
 -- One request more.
-use Rattle.lane_worker.proofs.Lanes.{putting_begins, putting_goes_on}
-use Rattle.lane_worker.proofs.putting.put_requests.Goals as goal
+use Rattle.lane_crew.proofs.Cells.{putting_begins, putting_goes_on}
+use Rattle.lane_crew.proofs.putting.put_requests.Goals as goal
 
 pub requests-init : goal.requests-init
 requests-init g c = record { lane = c.requires.lane; so = putting_begins c.args.ends.now c.args.acq.now }

@@ -16,8 +16,8 @@ use Rattle.gev_lanes.specs.declared.cell.Cell.{Cell}
 use Rattle.gev_lanes.specs.Sides.{LaneEnd}
 use Rattle.gev_lanes.specs.Messages.{Message, Says, heard, told, ended, message_of, messages, GoOn}
 use Rattle.gev_lanes.specs.Acts.{Puts, PutsOne, with_taken, with_freed, with_requests}
-use Rattle.lane_worker.specs.Cells.{CellServed, came_in, is_end, inputs_of, inputs_in, asks_of, IsClaimed, ServesCell}
-use Rattle.lane_worker.specs.Lane.{messages_in, ClaimEach, PutsAll, PutsEach, PutsRequests, ServesCells}
+use Rattle.lane_crew.specs.Cells.{CellServed, came_in, is_end, inputs_of, inputs_in, asks_of, IsClaimed, ServesCell}
+use Rattle.lane_crew.specs.Lane.{messages_in, ClaimEach, PutsAll, PutsEach, PutsRequests, ServesCells}
 
 -- ---- requests
 

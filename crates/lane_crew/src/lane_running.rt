@@ -7,10 +7,10 @@ ghost use Rattle.buffer_words.specs.Boards.{board_id};
 ghost use Rattle.buffer_words.specs.Passes.{IsEmptyHanded};
 ghost use Rattle.gev_acq.specs.Buffers.{Backs, HoldsAlone};
 ghost use Rattle.gev_lanes.specs.Sides.{IsLaneAt};
-ghost use Rattle.lane_worker.specs.Lane.{ServesCells};
+ghost use Rattle.lane_crew.specs.Lane.{ServesCells};
 
+use crate::cell_serving::{is_end, serve_cell};
 use crate::putting::put_requests;
-use crate::serving::{is_end, serve_cell};
 use acq_core::Acq;
 use buffer_words::{Board, Pass};
 use gev_acq::retire_all;

@@ -6,7 +6,7 @@ ghost use Rattle.acq_core.specs.Waiting.{waiting_fills, waiting_requests};
 ghost use Rattle.buffer_words.specs.Boards.{board_id};
 ghost use Rattle.gev_acq.specs.Buffers.{Backs, HoldsAlone};
 ghost use Rattle.gev_lanes.specs.Messages.{says_of, message_of};
-ghost use Rattle.lane_worker.specs.Cells.{came_in, is_end as says_end, ServesCell};
+ghost use Rattle.lane_crew.specs.Cells.{came_in, is_end as says_end, ServesCell};
 
 use acq_core::Acq;
 use buffer_words::{Board, Pass};
