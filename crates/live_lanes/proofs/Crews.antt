@@ -20,7 +20,7 @@ use Rattle.gev_live.proofs.Splitting.{member_or}
 use Rattle.lane_crew.specs.declared.lane_tools.LaneTools.{LaneTools}
 use Rattle.lane_crew.specs.Kinds.{is_lanes}
 use Rattle.lane_crew.specs.Did.{LaneDid, LanesDid}
-use Rattle.lane_homes.proofs.Bringing.{bring_home}
+use Rattle.live_crew.proofs.Bringing.{bring_home}
 use Rattle.live_lanes.specs.Kinds.{is_strict_lanes}
 use Rattle.live_lanes.specs.Made.{numbers_in}
 use Rattle.live_lanes.proofs.Apart.{lanes_no_stop}
