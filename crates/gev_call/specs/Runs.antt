@@ -13,7 +13,7 @@ use Rattle.gev_live.specs.Told.{Told}
 use Rattle.gev_live.specs.LiveRun.{Numbers, RunsLive}
 use Rattle.live_promises.specs.Promises.{KeepsLivePromises}
 use Rattle.live_lanes.specs.LanesRun.{RunsLanes}
-use Rattle.lanes_promises.specs.Promises.{KeepsLanesPromises}
+use Rattle.live_promises.specs.LanesPromises.{KeepsLanesPromises}
 use Rattle.live_recording.specs.Recorded.{RecordsLive}
 
 -- what these three links and three clocks tell
