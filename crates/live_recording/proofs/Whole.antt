@@ -17,8 +17,8 @@ use Rattle.gev_status.specs.declared.status.Status.TheVariants as status
 use Rattle.recorded_runs.specs.Script.{script_of}
 use Rattle.recorded_runs.specs.Marks.{IsReceived, HasWidths, IsMarkedRun}
 use Rattle.recorded_runs.specs.TakeLines.{take_lines, AreTakesOf}
-use Rattle.recorded_reports.specs.Reports.{ReportsRun}
-use Rattle.recorded_reports.proofs.Reporting.{recorded_scripts_report}
+use Rattle.recorded_runs.specs.Reports.{ReportsRun}
+use Rattle.recorded_runs.proofs.Reporting.{recorded_scripts_report}
 use Rattle.gev_record.specs.Taped.{datagram_of, KeepsFront}
 use Rattle.gev_record.specs.Writing.{noted}
 use Rattle.gev_control.specs.declared.acq_end.AcqEnd.{AcqEnd}

@@ -40,10 +40,10 @@ use Rattle.recorded_runs.proofs.LinesFit.{lines_fit}
 use Rattle.recorded_runs.proofs.Marking.{marks_tell_the_script}
 use Rattle.recorded_runs.proofs.Replaying.{whole, recorded_runs_replay}
 use Rattle.recorded_runs.proofs.Saying.{IsClean, Says, contents, filter-append, says_nothing, says_other, says_both, clean_number}
-use Rattle.recorded_reports.specs.Reports.{Reports, RecordedScriptsReport}
-use Rattle.recorded_reports.proofs.Counts.{few_lines}
-use Rattle.recorded_reports.proofs.FitLines.{no_feed}
-use Rattle.recorded_reports.proofs.Following.{Followed, followed, fit_lines}
+use Rattle.recorded_runs.specs.Reports.{Reports, RecordedScriptsReport}
+use Rattle.recorded_runs.proofs.Counts.{few_lines}
+use Rattle.recorded_runs.proofs.SpellingsFit.{no_feed}
+use Rattle.recorded_runs.proofs.Following.{Followed, followed, fit_lines}
 
 -- ---- lines and their text
 

@@ -16,7 +16,7 @@ use Rattle.script_trace.specs.Adding.{Spells, Leads}
 use Rattle.script_trace.specs.Standing.{running, is_out_of_place, kind_of_read, later_kind, ReplayRuns}
 use Rattle.script_trace.proofs.WorkedLines.{nothing_kept, goes_on}
 use Rattle.script_replay.proofs.FirstNames.{name_of_line, begins_so}
-use Rattle.recorded_reports.proofs.FitLines.{line_no_feed, line_short}
+use Rattle.recorded_runs.proofs.SpellingsFit.{line_no_feed, line_short}
 
 -- a line that adds to a trace stands behind a header
 in_its_place : (c : AcqConfig) (t : Trace) (l : ScriptLine) (part : Part) → Spells c t l part → is_out_of_place (Ok (name_of_line l)) ≡ false
