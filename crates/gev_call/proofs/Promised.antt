@@ -4,7 +4,7 @@ use Rattle.board_machine.specs.declared.events.Entry.{Entry}
 use Rattle.board_machine.specs.Histories.{Run}
 use Rattle.gev_links.specs.Links.{Address, Answer}
 use Rattle.gev_status.specs.declared.status.Status.{Status}
-use Rattle.gev_binding.specs.Bound.{AllToldOfThree}
+use Rattle.gev_call.specs.Bound.{AllToldOfThree}
 use Rattle.gev_top.specs.declared.live_numbers.LiveNumbers.{LiveNumbers}
 use Rattle.gev_live.specs.Told.{Told}
 use Rattle.live_promises.proofs.Keeping.{live_runs_keep}

@@ -4,7 +4,7 @@ use mathlib.Core.Logic.{inl, inr}
 use Rattle.board_machine.specs.declared.events.Entry.{Entry}
 use Rattle.gev_links.specs.Links.{Address, Answer, IsBlank}
 use Rattle.gev_links.specs.PortsState.{IsNew}
-use Rattle.gev_binding.specs.Bound.{AllToldOfThree, GivesBack, more_binds}
+use Rattle.gev_call.specs.Bound.{AllToldOfThree, GivesBack, more_binds}
 use Rattle.gev_serve.specs.Wires.{Wire, wire}
 use Rattle.gev_status.specs.declared.status.Status.{Status}
 use Rattle.gev_status.specs.declared.status.Status.TheVariants.{LinkFault, NoMemory}

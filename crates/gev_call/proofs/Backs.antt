@@ -6,7 +6,7 @@ use Rattle.gev_links.specs.Faults.{Rose}
 use Rattle.gev_links.specs.Given.{one_more, ToldOfThree, Raises}
 use Rattle.gev_links.specs.Links.{Address, Answer}
 use Rattle.gev_links.specs.PortsState.{IsNew}
-use Rattle.gev_binding.specs.Bound.{AllToldOfThree, GivesBack, RaisesBy}
+use Rattle.gev_call.specs.Bound.{AllToldOfThree, GivesBack, RaisesBy}
 
 pub none_back : {A : Type 0} (old : Option (List A)) → AllToldOfThree old old []
 none_back None = refl

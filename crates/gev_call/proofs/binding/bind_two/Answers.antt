@@ -1,8 +1,8 @@
 -- The first link goes back.
 use Rattle.std.proofs.Common.{◌∙◌, ap, subst}
 use Rattle.gev_links.specs.Given.{one_more, ToldOfThree}
-use Rattle.gev_binding.proofs.Backs.{unbound_first}
-use Rattle.gev_binding.proofs.binding.bind_two.Goals as goal
+use Rattle.gev_call.proofs.Backs.{unbound_first}
+use Rattle.gev_call.proofs.binding.bind_two.Goals as goal
 
 pub returns-in-Err-clause-back : goal.returns-in-Err-clause-back
 returns-in-Err-clause-back g c =

@@ -4,7 +4,7 @@ ghost use Rattle.std.specs.Prelude.{◌≡◌, ◌+◌, ◌≤◌, ℕ, [], ◌�
 ghost use Rattle.gev_links.specs.Faults.{Rose};
 ghost use Rattle.gev_links.specs.Given.{one_more};
 ghost use Rattle.gev_links.specs.PortsState.{IsNew};
-ghost use Rattle.gev_binding.specs.Bound.{AllToldOfThree, GivesBack, more_binds};
+ghost use Rattle.gev_call.specs.Bound.{AllToldOfThree, GivesBack, more_binds};
 
 use crate::three_links::ThreeLinks;
 use gev_links::{Failed, Ports};

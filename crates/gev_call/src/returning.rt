@@ -1,7 +1,7 @@
 //! What goes back to the ports after a run.
 
 ghost use Rattle.std.specs.Prelude.{◌≡◌, [], ◌∷◌};
-ghost use Rattle.gev_binding.specs.Bound.{AllToldOfThree, RaisesBy};
+ghost use Rattle.gev_call.specs.Bound.{AllToldOfThree, RaisesBy};
 
 use crate::three_links::ThreeLinks;
 use gev_links::Ports;
