@@ -18,6 +18,12 @@ const WAITING_LINKS: u64 = 2;
 ///
 /// `bind` gives a socket on 127.0.0.1. The third link and each later one of them doesn't wait in its receives: it's
 /// that of the reader's commands, on which the reader looks once for each datagram of the stream.
+///
+/// ```
+/// let mut ports = RealPorts::new(&rt);
+/// let (mut link, own) = ports.bind_towards(camera)?;
+/// let mut clock = ports.clock();
+/// ```
 #[derive(Drop)]
 pub struct RealPorts<'a, R: Net + Time + Sync> {
     rt: &'a R,
