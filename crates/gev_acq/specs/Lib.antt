@@ -10,3 +10,6 @@ pub mod Turns
 pub mod Reading
 pub mod Acquired
 pub mod Laws
+pub mod Kinds
+pub mod Reads
+pub mod History
