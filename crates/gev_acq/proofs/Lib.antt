@@ -11,3 +11,4 @@ pub mod OneTurn
 pub mod TurnLists
 pub mod AllTurns
 pub mod Filled
+pub mod Pacing

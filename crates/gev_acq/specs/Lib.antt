@@ -9,4 +9,5 @@ pub mod Turning
 pub mod Turns
 pub mod Reading
 pub mod Acquired
+pub mod Moments
 pub mod Laws
