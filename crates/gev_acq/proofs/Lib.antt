@@ -12,3 +12,7 @@ pub mod TurnLists
 pub mod AllTurns
 pub mod Filled
 pub mod Pacing
+pub mod Joined
+pub mod OfKind
+pub mod Whole
+pub mod Strict

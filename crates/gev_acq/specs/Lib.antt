@@ -11,3 +11,6 @@ pub mod Reading
 pub mod Acquired
 pub mod Moments
 pub mod Laws
+pub mod Kinds
+pub mod Reads
+pub mod History
