@@ -12,6 +12,7 @@ ghost use Rattle.gev_acq.specs.Turning.{ServesTurn};
 ghost use Rattle.gev_acq.specs.Turns.{bytes_in, TakesOne};
 
 use crate::heard::Heard;
+use crate::moments::Moments;
 use crate::sending::send_requests;
 use crate::turn::Turn;
 use crate::turning::serve_turn;
@@ -90,7 +91,12 @@ fn serve_received<R: Wait, G: Gate>(
 }
 
 /// One turn of the reader: its entry for the journal, and how it ended.
-pub(crate) fn turn_once<R: Wait, L: Link, M: Link, C: Clock, G: Gate>(
+///
+/// It receives once on `stream` and reads the clock once: the turn's moment, in milliseconds. The receiver is given the
+/// datagram that came, if one did, and then the moment that `moments` says, and is served by the mode. The requests that
+/// the moment brought are sent on `control`, and the client has its part there, with the turn's own moment. After a
+/// receive or a send that failed the turn sends and receives nothing more. `out` is the room of a receive.
+pub fn turn_once<R: Wait, L: Link, M: Link, C: Clock, G: Gate, P: Moments>(
     rt: &R,
     board: &Board,
     pass: &mut Pass,
@@ -102,6 +108,7 @@ pub(crate) fn turn_once<R: Wait, L: Link, M: Link, C: Clock, G: Gate>(
     gate: &G,
     camera: Peer,
     out: &mut [u8],
+    moments: &mut P,
     mode: Mode,
 ) -> (Turn, TurnEnd)
     requires table { pass.old.table ≡ board_id board.now }
@@ -109,7 +116,7 @@ pub(crate) fn turn_once<R: Wait, L: Link, M: Link, C: Clock, G: Gate>(
     requires requests { waiting_requests acq.old ≡ [] }
     requires backs { Backs pass.old (buffers acq.old) }
     requires room { length out.old ≡ receive_room }
-    ensures takes { TakesOne mode (config_of acq.old) camera (Stands acq.old) (Stands acq.new)
+    ensures takes { TakesOne mode (config_of acq.old) camera (Stands acq.old) (Stands acq.new) (λ moment told. P.says moments.old moment told moments.new)
         (record { received = L.received stream.old; heard = M.received control.old; sent = M.sent control.old; told = C.told clock.old; client = client.old })
         (record { received = L.received stream.new; heard = M.received control.new; sent = M.sent control.new; told = C.told clock.new; client = client.new })
         result.0 result.1 pass.old pass.new }
@@ -123,9 +130,10 @@ pub(crate) fn turn_once<R: Wait, L: Link, M: Link, C: Clock, G: Gate>(
 {
     let received = stream.recv(out);
     let moment = clock.now();
+    let told = moments.tell(moment);
     let lost = has_failed(&received);
     let datagram = has_come(&received);
-    let heard = serve_received(rt, board, pass, acq, gate, received, out, moment, mode);
+    let heard = serve_received(rt, board, pass, acq, gate, received, out, told, mode);
     let failed = send_requests(acq, control, camera, lost);
     let end = client_turn(client, control, camera, moment, failed, out);
     let turn = Turn {
