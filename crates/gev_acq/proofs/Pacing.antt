@@ -1,12 +1,12 @@
 -- What a policy tells over a run, and the steps of the receiver's clock.
 use Rattle.std.proofs.Common.{◌≡◌, ℕ, ◌-◌, ◌^◌, ◌<◌, ◌≤◌, min, List, [], ◌∷◌, ◌++◌, map, refl, ap, ap₂, subst, arith}
 use Rattle.gev_acq.specs.Turns.{Turned}
-use Rattle.gev_acq.specs.Acquired.{moments_in}
-use Rattle.gev_acq.specs.Moments.{SaysOwn, SaysPaced, SaysEach, PacedClock, begins_at, told_at, read_at, paced_from, paced, most_rise, told_in, InOrder, steps_from, steps}
+use Rattle.gev_acq.specs.Acquired.{moments_in, TellsOwn}
+use Rattle.gev_acq.specs.Moments.{SaysPaced, SaysEach, PacedClock, begins_at, told_at, read_at, paced_from, paced, most_rise, told_in, InOrder, steps_from, steps}
 
-pub own_told : (p q : PacedClock) (made : List Turned) → SaysEach SaysOwn p made q → told_in made ≡ moments_in made
-own_told p q [] same = refl
-own_told p q (t ∷ ts) each = ap₂ (λ (m : ℕ) (l : List ℕ). m ∷ l) each.1 (own_told each.0 q ts each.2)
+pub own_told : (made : List Turned) → TellsOwn made → told_in made ≡ moments_in made
+own_told [] own = refl
+own_told (t ∷ ts) own = ap₂ (λ (m : ℕ) (l : List ℕ). m ∷ l) own.0 (own_told ts own.1)
 
 told_from : (c q : PacedClock) (made : List Turned) → SaysEach SaysPaced c made q → told_in made ≡ paced_from c (moments_in made)
 told_from c q [] same = refl

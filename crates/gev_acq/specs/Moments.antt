@@ -1,7 +1,7 @@
 -- Which moment a reader tells its receiver in a turn, and the receiver's clock, for which a pause is no time.
 use Rattle.std.specs.Prelude.{◌≡◌, ℕ, ◌+◌, ◌-◌, ◌^◌, ◌<◌, ◌≤◌, min, List, [], ◌∷◌, map}
 use Rattle.gev_acq.specs.Turns.{Turned}
-use Rattle.gev_acq.specs.Acquired.{moments_in}
+use Rattle.gev_acq.specs.Acquired.{moments_in, TellsOwn}
 
 -- the moment of each turn is told
 abbrev pub SaysOwn : {P : Type 0} → P → ℕ → ℕ → P → Type 0
@@ -62,9 +62,9 @@ abbrev pub PacedTellsItsClock : Type 0
 PacedTellsItsClock =
     (m : ℕ) (q : PacedClock) (made : List Turned) → SaysEach SaysPaced (begins_at m) made q → m ∷ told_in made ≡ paced (m ∷ moments_in made)
 
--- Over a run of turns whose policy tells each turn's moment those are the moments told.
+-- Over a run of turns in each of which the turn's moment was told, the moments told are those of the turns.
 abbrev pub OwnTellsMoments : Type 0
-OwnTellsMoments = (p q : PacedClock) (made : List Turned) → SaysEach SaysOwn p made q → told_in made ≡ moments_in made
+OwnTellsMoments = (made : List Turned) → TellsOwn made → told_in made ≡ moments_in made
 
 -- ---- the receiver's clock by its steps
 
