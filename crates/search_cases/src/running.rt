@@ -27,7 +27,7 @@ struct Row {
 }
 
 /// The next field of a row, `.` where there is none.
-fn field<'a>(fields: &mut Split<'a, char>) -> &'a str {
+pub fn field<'a>(fields: &mut Split<'a, char>) -> &'a str {
     fields.next().unwrap_or(".")
 }
 
