@@ -2,3 +2,6 @@ pub mod Parts
 pub mod Addresses
 pub mod Words
 pub mod SimulateWords
+pub mod Writes
+pub mod Choices
+pub mod Receiving

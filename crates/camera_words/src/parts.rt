@@ -1,5 +1,6 @@
 ghost use Rattle.std.specs.Prelude.{◌≡◌, ◌==◌, position};
 ghost use Rattle.std.specs.Option.{option_copied};
+ghost use Rattle.std.specs.Str.{bytes_eq};
 ghost use Rattle.camera_words.specs.Parts.{before_byte, behind_byte};
 
 /// Where the first such byte is.
@@ -27,4 +28,11 @@ pub fn behind_byte(byte: u8, text: &[u8]) -> Option<&[u8]>
         Some(place) => Some(&text[place + 1..]),
         None => None,
     }
+}
+
+/// Whether the word is just this one.
+pub(crate) fn is(word: &[u8], wanted: &[u8]) -> bool
+    ensures { result ≡ bytes_eq word.now wanted.now }
+{
+    word == wanted
 }

@@ -56,6 +56,7 @@ ends_early mode c camera stream New r h k w v d b s u journal turns end t ends l
     set_up_by = setup_is camera stream (record { heard = h; sent = w; told = d; client = s }) (record { heard = k; sent = v; told = b; client = u }) end up;
     ends = ends;
     serves = refl;
+    own = tt;
     looks = looks;
     controlled = refl;
     entries = [];
@@ -117,6 +118,7 @@ then_turns mode c camera stream Old New r m h k l w v x d b e s u z journal jour
     set_up_by = setup_is camera stream (record { heard = h; sent = w; told = d; client = s }) (record { heard = k; sent = v; told = b; client = u }) how.Stopped up;
     ends = acquires.ends;
     serves = acquires.on.serves [] new;
+    own = acquires.own;
     looks = look.is;
     controlled = acquires.on.controlled [] new;
     entries = acquires.entries;

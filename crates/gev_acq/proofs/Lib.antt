@@ -11,6 +11,7 @@ pub mod OneTurn
 pub mod TurnLists
 pub mod AllTurns
 pub mod Filled
+pub mod Pacing
 pub mod Joined
 pub mod OfKind
 pub mod Whole

@@ -9,6 +9,7 @@ pub mod Turning
 pub mod Turns
 pub mod Reading
 pub mod Acquired
+pub mod Moments
 pub mod Laws
 pub mod Kinds
 pub mod Reads

@@ -21,7 +21,7 @@ use Rattle.mode_calls.specs.declared.mode.Mode.{Mode}
 use Rattle.gev_acq.specs.Serving.{Serves}
 use Rattle.gev_acq.specs.Claims.{Claims}
 use Rattle.gev_acq.specs.Turns.{Turned, Outside}
-use Rattle.gev_acq.specs.Acquired.{inputs_in, answers_in, moments_in, heards_in, sends_in, ServesTurns, NoteEach, ControlEach, EndsBy}
+use Rattle.gev_acq.specs.Acquired.{inputs_in, answers_in, moments_in, heards_in, sends_in, ServesTurns, TellsOwn, NoteEach, ControlEach, EndsBy}
 
 -- These turns set the camera up, so that it sends its stream to this address: after all but the last the setup
 -- went on, and the last ended it so.
@@ -50,8 +50,8 @@ LastLook how.Fault es = es ≡ []
 LastLook (how.NoAnswer req) es = es ≡ []
 LastLook (how.Refused status) es = es ≡ []
 
--- The camera was set up by its turns, and then these turns of a new receiver were made, at most the asked number;
--- their entries were added to the journal. The links and the clock told just what came, was sent and was read.
+-- The camera was set up by its turns, and then these turns of a new receiver were made, at most the asked number, in each
+-- of which the receiver was told the turn's moment; their entries were added to the journal. The links and the clock told just what came, was sent and was read.
 pub record ReadsOn (mode : Mode) (c : AcqConfig) (camera stream : Address) (o n : Outside) (journal journal_after : List Turn) (turns : ℕ) (end : AcqEnd)
     (made : List Turned) (turned last : List Event) : Type 0 where
   pub setup : List SetupTurned
@@ -60,6 +60,7 @@ pub record ReadsOn (mode : Mode) (c : AcqConfig) (camera stream : Address) (o n 
   pub set_up_by : IsSetUp stream o.client setup setup_end client
   pub ends : EndsAfter setup_end end turns made
   pub serves : ServesTurns mode c first_state made turned
+  pub own : TellsOwn made
   pub looks : LastLook end last
   pub controlled : ControlEach c [] client made n.client
   pub entries : List Turn

@@ -1,14 +1,15 @@
-//! The rows of the commands that look for cameras: addresses, URLs, what a camera tells of itself, and whole commands
+//! The rows of the commands that meet a camera on the network: addresses, URLs, what a camera tells of itself, and whole commands
 //! over ports in memory.
 //!
 //! A row is a word and what it's given. Of `discover` and `describe` these are six fields: the moments of the clock; the
 //! numbers of the binds that fail, of the receives, of the sends and of the writes, each counted from 1; and what the
-//! link hears. A field that is `.` is empty.
+//! link hears. A field that is `.` is empty. `simulate` has two more: its settings, and how many bytes standard input has.
 #![tactic(auto)]
 
 mod datagrams; // what a link hears
 mod ports; // ports in memory
 mod running; // whole commands
+mod simulating; // a simulated camera
 mod telling; // addresses, URLs, acknowledges
 
 use anyhow::Result;
@@ -38,6 +39,7 @@ fn answer<R: Wait>(rt: &HostRuntime, handles: &R, row: &str) -> Result<()> {
         "acknowledge" => telling::acknowledge(rt, rest),
         "discover" => running::discover_row(rt, handles, rest),
         "describe" => running::describe_row(rt, handles, rest),
+        "simulate" => simulating::simulate_row(rt, handles, rest),
         _ => {
             print!(rt; "not understood")?;
             Ok(())

@@ -13,26 +13,26 @@ use std::str::Split;
 use std::sync::Wait;
 
 /// The most bytes that a sink takes in a call.
-const PIECE: usize = 100_000;
+pub const PIECE: usize = 100_000;
 
 /// The fields of a row.
 #[derive(Drop)]
-struct Row {
-    moments: Vec<u64>,
-    binds: Vec<u64>,
-    receives: Vec<u64>,
-    sends: Vec<u64>,
-    writes: Vec<u64>,
-    came: Vec<Option<Datagram>>,
+pub struct Row {
+    pub moments: Vec<u64>,
+    pub binds: Vec<u64>,
+    pub receives: Vec<u64>,
+    pub sends: Vec<u64>,
+    pub writes: Vec<u64>,
+    pub came: Vec<Option<Datagram>>,
 }
 
 /// The next field of a row, `.` where there is none.
-fn field<'a>(fields: &mut Split<'a, char>) -> &'a str {
+pub fn field<'a>(fields: &mut Split<'a, char>) -> &'a str {
     fields.next().unwrap_or(".")
 }
 
 /// The fields of a row, in order.
-fn row_of(alloc: Global, text: &str) -> Result<Row> {
+pub fn row_of(alloc: Global, text: &str) -> Result<Row> {
     let mut row = Row {
         moments: Vec::new(alloc),
         binds: Vec::new(alloc),

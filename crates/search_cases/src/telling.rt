@@ -2,7 +2,7 @@
 
 use anyhow::Result;
 use camera_description::location_in;
-use camera_words::{address_in, read_description, read_discover};
+use camera_words::{address_in, read_description, read_discover, read_simulate};
 use gvcp_discovery::{add_camera, add_count, read_discovery};
 use gvcp_wire::parse_ack;
 
@@ -24,6 +24,9 @@ pub fn words(rt: &HostRuntime, line: &str) -> Result<()> {
         own.push_str(word)?;
         all.push(own)?;
     }
+    if line.starts_with("simulate") {
+        return simulate_words(rt, all.as_slice());
+    }
     let said = if line.starts_with("discover") {
         read_discover(all.as_slice())
     } else {
@@ -31,6 +34,18 @@ pub fn words(rt: &HostRuntime, line: &str) -> Result<()> {
     };
     match said {
         Ok(address) => print!(rt; "{address:08x}")?,
+        Err(place) => print!(rt; "not at {place}")?,
+    }
+    Ok(())
+}
+
+/// Those of `simulate`.
+fn simulate_words(rt: &HostRuntime, words: &[String]) -> Result<()> {
+    match read_simulate(words) {
+        Ok(asked) => print!(rt;
+            "{:08x} seed={} rate={} turns={} {}",
+            asked.address, asked.seed, asked.rate, asked.turns, asked.with_input
+        )?,
         Err(place) => print!(rt; "not at {place}")?,
     }
     Ok(())

@@ -1,0 +1,4 @@
+pub mod OneStep
+pub mod Joining
+pub mod Fronts
+pub mod Refusals

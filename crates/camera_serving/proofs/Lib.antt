@@ -1,0 +1,2 @@
+mod Serves
+mod Ending

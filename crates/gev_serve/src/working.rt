@@ -1,0 +1,75 @@
+//! The camera's worker of a live run, which owns what it works with and gives it back.
+
+ghost use Rattle.std.specs.Prelude.{◌≡◌};
+ghost use Rattle.buffer_words.specs.Boards.{board_id};
+ghost use Rattle.buffer_words.specs.Passes.{IsEmptyHanded};
+ghost use Rattle.buffer_words.specs.Workers.{Works};
+ghost use Rattle.live_crew.specs.Crews.{ComesBack};
+ghost use Rattle.gev_serve.specs.Wires.{wire};
+ghost use Rattle.gev_serve.specs.Kinds.{is_cameras};
+ghost use Rattle.gev_serve.specs.Work.{has_failed, ServesAndStops};
+
+use crate::ends::ServeEnd;
+use crate::serving::serve;
+use buffer_words::{Board, Pass};
+use camera_sim::Camera;
+use gev_links::{Clock, Link};
+use live_crew::{Worked, stop_if};
+use std::alloc::Global;
+
+// The most turns of a run: the camera isn't what ends it.
+const MOST_TURNS: u64 = 1_000_000_000;
+
+/// What the camera's worker gives back beside its pass.
+pub struct CameraDone<L, C> {
+    /// The camera's link.
+    pub link: L,
+    /// The camera's clock.
+    pub clock: C,
+    /// How it ended.
+    pub end: ServeEnd,
+}
+
+// Whether the run can't go on without the camera.
+fn is_failure(end: ServeEnd) -> bool
+    ensures { result ≡ has_failed end }
+{
+    match end {
+        ServeEnd::Stopped | ServeEnd::Spent => false,
+        ServeEnd::Fault | ServeEnd::NoMemory => true,
+    }
+}
+
+/// The camera's worker: serves on its link until the run is over, and stops the run where its link failed or
+/// memory was wanting.
+pub fn work_camera<L: Link, C: Clock>(
+    alloc: Global,
+    board: &Board,
+    mut pass: Pass,
+    mut camera: Camera,
+    mut link: L,
+    mut clock: C,
+) -> Worked<CameraDone<L, C>>
+    requires table { pass.table ≡ board_id board.now }
+    requires hands { IsEmptyHanded pass }
+    requires new { camera.shelf.count ≡ 0 }
+    ensures serves { ServesAndStops result.done.end camera (wire (L.received link) (L.sent link) (L.faults link))
+        (wire (L.received result.done.link) (L.sent result.done.link) (L.faults result.done.link)) (C.told clock) (C.told result.done.clock) pass result.pass }
+    ensures works { Works is_cameras pass result.pass }
+    ensures back { ComesBack pass result.pass }
+{
+    let end = serve(
+        alloc,
+        board,
+        &mut pass,
+        &mut camera,
+        &mut link,
+        &mut clock,
+        MOST_TURNS,
+    );
+    stop_if(board, &mut pass, is_failure(end));
+    Worked {
+        pass,
+        done: CameraDone { link, clock, end },
+    }
+}
