@@ -63,6 +63,15 @@ images=2 complete=1 incomplete=1 leader=0 small=0 trailer=1 payloads=1 short=0 a
 All packets of all images are in the capture, but for what may lie before its begin or behind its end: what the application lacks was lost behind it: see (b) in docs/LOST_FRAMES.md.
 """
 
+# One of which a packet came when its image was done, whose capture has dropped packets.
+HELD = """\
+stream 192.168.1.10:50001 192.168.1.2:49152 ids=extended datagrams=10 payload=1000 leaders=2 width=60 height=50 pixel=0x01080001 bytes=3000 first=1 last=2 ms=600
+images=2 complete=1 incomplete=1 leader=0 small=0 trailer=0 payloads=1 short=0 absent=0 missing=1 late=1 repeat=0
+@0 block=1 cause=old why=payloads missing=1 ids=3 late=3
+warning: the capture itself dropped 5 packets: so many of those that are missing here may have come
+No packet was lost of the images that are told here, but 1 packet came when the image was done; the warnings say of what nothing is told.
+"""
+
 
 class Camera:
     """A camera that sends images of so many rows and columns in payloads of so many bytes to a port of the host."""
@@ -226,6 +235,8 @@ class Check:
         self.wants(self.write("anew.pcapng", capture_of(anew, [])), 0, timed(ANEW, self.begins))
         whole = one.image(0, 1) + one.image(40, 2, [2, 3, TRAILER])
         self.wants(self.write("whole.pcapng", capture_of(whole, [])), 0, timed(WHOLE, self.begins))
+        held = one.image(0, 1, [3]) + [(300, one.frame(1, 3))] + one.image(600, 2)
+        self.wants(self.write("held.pcapng", capture_of(held, [5])), 0, timed(HELD, self.begins))
         none = "There is no image stream in 0 packets: a stream begins with a leader.\n"
         self.wants(self.write("none.pcapng", capture_of([], [])), 0, none)
         path = self.write("script", b"gevacq 1 528 1 1000 100 2\n")
