@@ -1,14 +1,11 @@
 use crate::turn::Turn;
 use acquisition_machine::Counts;
-use buffer_words::Pass;
 use control_client::Client;
 use gev_control::AcqEnd;
 
-/// What a live run's reader gives back: its pass, its client, its links, its clock and its journal, and how it
+/// What a live run's reader gives back beside its pass: its client, its links, its clock and its journal, and how it
 /// ended.
 pub struct ReadDone<S, M, C> {
-    /// The pass, with nothing in its hands.
-    pub pass: Pass,
     /// The client of the control link.
     pub client: Client,
     /// The link of the stream.

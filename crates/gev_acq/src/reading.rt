@@ -7,6 +7,7 @@ ghost use Rattle.acq_core.specs.Waiting.{waiting_fills, waiting_requests};
 ghost use Rattle.buffer_words.specs.Boards.{board_id};
 ghost use Rattle.buffer_words.specs.Passes.{IsEmptyHanded};
 ghost use Rattle.buffer_words.specs.Workers.{Works};
+ghost use Rattle.live_crew.specs.Crews.{ComesBack};
 ghost use Rattle.gev_control.specs.Ends.{is_fault_end};
 ghost use Rattle.gev_acq.specs.Buffers.{Backs, HoldsAlone};
 ghost use Rattle.gev_acq.specs.Reading.{FaultsOf};
@@ -23,6 +24,7 @@ use control_client::Client;
 use gev_control::{AcqEnd, setup};
 use gev_links::{Clock, Gate, Link};
 use gev_types::Peer;
+use live_crew::Worked;
 use mode_calls::Mode;
 use std::sync::Wait;
 
@@ -92,7 +94,7 @@ pub fn read<R: Wait, S: Link, M: Link, C: Clock, G: Gate>(
     mut journal: Vec<Turn>,
     turns: u64,
     mode: Mode,
-) -> ReadDone<S, M, C>
+) -> Worked<ReadDone<S, M, C>>
     requires table { pass.table ≡ board_id board.now }
     requires hands { IsEmptyHanded pass }
     requires new { Stands acq [] }
@@ -103,11 +105,11 @@ pub fn read<R: Wait, S: Link, M: Link, C: Clock, G: Gate>(
     requires room { vec_len journal + turns ≤ vec_capacity journal }
     ensures reads { Reads mode (config_of acq) camera own
         (record { received = S.received stream; heard = M.received control; sent = M.sent control; told = C.told clock; client = client })
-        (record { received = S.received result.stream; heard = M.received result.control; sent = M.sent result.control; told = C.told result.clock; client = result.client })
-        journal.items result.journal.items turns result.end pass result.pass }
+        (record { received = S.received result.done.stream; heard = M.received result.done.control; sent = M.sent result.done.control; told = C.told result.done.clock; client = result.done.client })
+        journal.items result.done.journal.items turns result.done.end pass result.pass }
     ensures works { Works (is_readers mode) pass result.pass }
-    ensures empty { IsEmptyHanded result.pass }
-    ensures faults { FaultsOf (is_fault_end result.end) (S.faults stream) (S.faults result.stream) (M.faults control) (M.faults result.control) }
+    ensures back { ComesBack pass result.pass }
+    ensures faults { FaultsOf (is_fault_end result.done.end) (S.faults stream) (S.faults result.done.stream) (M.faults control) (M.faults result.done.control) }
 {
     let end = read_turns(
         rt,
@@ -127,14 +129,16 @@ pub fn read<R: Wait, S: Link, M: Link, C: Clock, G: Gate>(
     );
     drain(rt, board, &mut pass, &mut acq, mode);
     let _stopped = board.stop(&mut pass, false);
-    ReadDone {
+    Worked {
         pass,
-        client,
-        stream,
-        control,
-        clock,
-        journal,
-        counts: acq.counts(),
-        end,
+        done: ReadDone {
+            client,
+            stream,
+            control,
+            clock,
+            journal,
+            counts: acq.counts(),
+            end,
+        },
     }
 }

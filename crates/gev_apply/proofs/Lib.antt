@@ -5,3 +5,4 @@ pub mod OneLook
 pub mod AllLooks
 pub mod OfKind
 pub mod Whole
+pub mod Acts

@@ -1,7 +1,7 @@
--- What kinds of acts the application's turns have.
+-- What kinds of acts the application's turns have, and its worker does.
 use Rattle.std.specs.Prelude.{Bool, true, false, List}
 use Rattle.board_machine.specs.declared.events.Event.{Event}
-use Rattle.board_machine.specs.declared.events.Event.TheVariants.{LookOut, LookRun, Grab, Lay, Pool, Take, Unpost}
+use Rattle.board_machine.specs.declared.events.Event.TheVariants.{LookOut, LookRun, Grab, Lay, Pool, Take, Unpost, Stop}
 use Rattle.buffer_words.specs.Workers.{AreEvents}
 use Rattle.gev_apply.specs.Looks.{Looked, LookEach}
 
@@ -16,6 +16,11 @@ is_turns (LookOut output closed) = true
 is_turns (Grab place generation answer) = true
 is_turns (Pool place) = true
 is_turns _ = false
+
+-- The application's worker does what its turns do, and stops the run when it has enough.
+abbrev pub is_applications : Event → Bool
+is_applications (Stop kill answer) = true
+is_applications event = is_turns event
 
 -- The events of turns are of these kinds.
 abbrev pub TurnsAreOfTheirKind : Type 0

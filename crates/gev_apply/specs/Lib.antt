@@ -3,3 +3,4 @@ pub mod Looks
 pub mod Applied
 pub mod Kinds
 pub mod History
+pub mod Work

@@ -10,6 +10,8 @@ mod handing; // what becomes of a taken buffer
 mod laws; // laws of the definitions, as contracts
 mod look_end; // how a turn ended
 mod looking; // one turn
+mod working; // the worker, with what it works with by value
 
 pub use applying::apply;
 pub use laws::{the_applications_part_stays, turns_are_of_their_kind};
+pub use working::{ApplicationDone, work_application};

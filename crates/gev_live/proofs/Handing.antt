@@ -27,7 +27,8 @@ use Rattle.gev_apply.specs.Applied.{IsEnough}
 use Rattle.gev_acq.specs.History.{LiveReading}
 use Rattle.live_crew.specs.Prepared.{Prepares, SawOnly}
 use Rattle.live_crew.specs.Kinds.{is_hosts}
-use Rattle.live_crew.specs.Work.{StopsIf, has_failed, most_turns, ServesAndStops}
+use Rattle.live_crew.specs.Stops.{StopsIf}
+use Rattle.gev_serve.specs.Work.{has_failed, most_turns, ServesAndStops}
 use Rattle.gev_live.specs.History.{Crew, LiveHistory}
 use Rattle.gev_live.specs.Endings.{taken_of, camera_status, status_by, is_told, FailsLast}
 use Rattle.gev_live.specs.Parts.{LiveApplication}

@@ -16,7 +16,9 @@ use Rattle.buffer_words.specs.Passes.{Token, own, Enters}
 use Rattle.buffer_words.specs.Workers.{AreOf, OnlyBy, Works, HostedAll}
 use Rattle.buffer_words.proofs.Working.{works_own, own_for_good}
 use Rattle.live_crew.specs.Prepared.{Prepares, SawOnly}
-use Rattle.live_crew.specs.Kinds.{is_cameras, is_applications, is_hosts}
+use Rattle.gev_serve.specs.Kinds.{is_cameras}
+use Rattle.gev_apply.specs.Kinds.{is_applications}
+use Rattle.live_crew.specs.Kinds.{is_hosts}
 use Rattle.live_crew.specs.Homes.{CameHome, CrewHome}
 use Rattle.live_crew.proofs.Crews.{home_worker, crew_hosted, crew_apart}
 use Rattle.gev_acq.specs.Kinds.{is_readers, is_strict_readers}

@@ -43,7 +43,9 @@ use Rattle.gev_live.proofs.ApplicationPart.{application_part}
 use Rattle.gev_live.specs.Parts.{LiveCamera, LiveApplication}
 use Rattle.gev_live.proofs.Meaning.{links_stay, link_failed, answer_means, spent_all, never_spent}
 use Rattle.buffer_words.proofs.Working.{works_own}
-use Rattle.live_crew.specs.Kinds.{is_cameras, is_applications, is_hosts}
+use Rattle.gev_serve.specs.Kinds.{is_cameras}
+use Rattle.gev_apply.specs.Kinds.{is_applications}
+use Rattle.live_crew.specs.Kinds.{is_hosts}
 use Rattle.live_crew.proofs.Crews.{home_worker, crew_hosts}
 use Rattle.gev_live.proofs.Handing.{camera_stops_nothing, host_stops_nothing, all_or_empty}
 use Rattle.gev_live.proofs.Stories.{seen_more, prefix_then, home_own, home_prefix, Story, crew_of, live_history}

@@ -36,7 +36,8 @@ use Rattle.gev_apply.specs.Looks.{Looked, lent_in, lines_of}
 use Rattle.gev_apply.specs.Looks as application
 use Rattle.gev_apply.specs.Applied.{IsEnough}
 use Rattle.gev_apply.specs.History.{IsStopAfter, LiveTakes}
-use Rattle.live_crew.specs.Work.{most_turns, has_failed, has_enough}
+use Rattle.gev_serve.specs.Work.{most_turns, has_failed}
+use Rattle.gev_apply.specs.Work.{has_enough}
 use Rattle.gev_live.specs.Told.{Told, reader_side}
 use Rattle.gev_live.specs.History.{live_size}
 

@@ -1,4 +1,4 @@
-//! Passes are split off for the workers, and joined again.
+//! The workers of a run, and what they gave back.
 
 ghost use Rattle.std.specs.Prelude.{◌≡◌, [], vec_capacity};
 ghost use Rattle.board_machine.specs.Actors.{born};
@@ -9,16 +9,16 @@ ghost use Rattle.gev_live.specs.Told.{live_config, live_camera, AreNew};
 ghost use Rattle.gev_live.specs.Ran.{RanCrew};
 
 use crate::counting::Tally;
-use crate::crew::work_crew;
 use crate::ends::Ends;
+use crate::reading::work_with_reader;
 use crate::tools::Tools;
 use buffer_words::{Board, Pass};
 use gev_acq::{ReadDone, Turn};
+use gev_apply::ApplicationDone;
 use gev_control::AcqEnd;
 use gev_links::{Clock, Gate, Link};
-use gev_serve::ServeEnd;
+use gev_serve::{CameraDone, ServeEnd};
 use gev_types::NoMemory;
-use live_crew::{ApplicationWork, CameraWork};
 use mode_calls::Mode;
 use std::alloc::Global;
 use std::sync::Wait;
@@ -42,7 +42,7 @@ pub(crate) struct CrewDone<L, S, C> {
     pub(crate) tally: Tally,
 }
 
-/// Splits a pass off for each worker, runs the workers, and joins the passes.
+/// Runs the workers.
 pub(crate) fn run_crew<
     R: Threads + Wait + Sync,
     L: Link + Send + Drop,
@@ -87,22 +87,15 @@ pub(crate) fn run_crew<
         })
         frames turns result.served result.read result.taken result.lines.items pass.old pass.new) × (ran.journal ≡ result.journal.items) }
 {
-    pass.witness();
-    let watcher = board.split(pass);
-    let reader = board.split(pass);
-    let taker = board.split(pass);
-    let (watched, done) = work_crew(
-        rt, alloc, board, watcher, reader, taker, tools, ends, gate, turns, frames, mode,
+    let (watched, told, applied) = work_with_reader(
+        rt, alloc, board, pass, tools, ends, gate, turns, frames, mode,
     );
-    let (told, applied) = done;
-    let CameraWork {
-        pass: watcher_back,
+    let CameraDone {
         link: camera,
         clock: camera_clock,
         end: served,
     } = watched;
     let ReadDone {
-        pass: reader_back,
         client,
         stream,
         control,
@@ -111,16 +104,11 @@ pub(crate) fn run_crew<
         counts,
         end: read,
     } = told;
-    let ApplicationWork {
-        pass: taker_back,
+    let ApplicationDone {
         clock: app_clock,
         lines,
         answer: taken,
     } = applied;
-    board.join(pass, watcher_back);
-    board.join(pass, reader_back);
-    board.join(pass, taker_back);
-    pass.witness();
     CrewDone {
         ends: Ends {
             camera,

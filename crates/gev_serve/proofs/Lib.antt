@@ -2,3 +2,4 @@ pub mod Partial
 pub mod Draining
 pub mod Parting
 pub mod Turning
+pub mod Acts

@@ -2,3 +2,5 @@ pub mod Wires
 pub mod Turns
 pub mod Sending
 pub mod Serving
+pub mod Kinds
+pub mod Work

@@ -10,8 +10,10 @@ mod rooms; // where the camera writes
 mod sending; // what the camera has to send
 mod serving; // all turns
 mod turns; // one turn
+mod working; // the worker, with what it works with by value
 
 pub use ends::{ServeEnd, ServeTurn};
 pub use rooms::Rooms;
 pub use serving::{RECEIVE_ROOM, make_turn, serve};
 pub use turns::serve_once;
+pub use working::{CameraDone, work_camera};

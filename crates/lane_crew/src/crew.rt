@@ -5,6 +5,7 @@ ghost use Rattle.client_machine.specs.Machine.{HasSubmittedNone};
 ghost use Rattle.buffer_words.specs.Boards.{board_id};
 ghost use Rattle.buffer_words.specs.Passes.{IsEmptyHanded, SameHands};
 ghost use Rattle.buffer_words.specs.Workers.{Works};
+ghost use Rattle.live_crew.specs.Crews.{ComesBack};
 ghost use Rattle.gev_control.specs.Ends.{is_fault_end};
 ghost use Rattle.gev_acq.specs.Reading.{FaultsOf};
 ghost use Rattle.gev_lanes.specs.Sides.{AreReadersOf, AreKept, AreNew};
@@ -24,6 +25,7 @@ use gev_control::AcqEnd;
 use gev_lanes::{Lanes, ReaderEnds};
 use gev_links::{Clock, Gate, Link};
 use gev_types::Peer;
+use live_crew::Worked;
 use mode_calls::Mode;
 use std::sync::Wait;
 use std::thread;
@@ -181,7 +183,7 @@ pub fn read_by_lanes<
     own: Peer,
     turns: u64,
     mode: Mode,
-) -> LanesDone<S, M, C>
+) -> Worked<LanesDone<S, M, C>>
     requires table { pass.table ≡ board_id board.now }
     requires hands { IsEmptyHanded pass }
     requires client { HasSubmittedNone client }
@@ -191,11 +193,11 @@ pub fn read_by_lanes<
     requires some { 0 < length lanes.now }
     ensures reads { ReadsByLanes mode camera own
         (record { received = S.received stream; heard = M.received control; sent = M.sent control; told = C.told clock; client = client })
-        (record { received = S.received result.stream; heard = M.received result.control; sent = M.sent result.control; told = C.told result.clock; client = result.client })
-        reader tools.items turns result.end pass result.pass }
+        (record { received = S.received result.done.stream; heard = M.received result.done.control; sent = M.sent result.done.control; told = C.told result.done.clock; client = result.done.client })
+        reader tools.items turns result.done.end pass result.pass }
     ensures works { Works is_lane_readers pass result.pass }
-    ensures empty { IsEmptyHanded result.pass }
-    ensures faults { FaultsOf (is_fault_end result.end) (S.faults stream) (S.faults result.stream) (M.faults control) (M.faults result.control) }
+    ensures back { ComesBack pass result.pass }
+    ensures faults { FaultsOf (is_fault_end result.done.end) (S.faults stream) (S.faults result.done.stream) (M.faults control) (M.faults result.done.control) }
 {
     let mine = ReaderTools {
         pass,
@@ -218,14 +220,16 @@ pub fn read_by_lanes<
     } = back;
     let counts = bring_home(board, &mut pass, lanes, &mut reader, served);
     let _stopped = board.stop(&mut pass, false);
-    LanesDone {
+    Worked {
         pass,
-        client,
-        stream,
-        control,
-        clock,
-        counts,
-        shed: reader.shed(),
-        end,
+        done: LanesDone {
+            client,
+            stream,
+            control,
+            clock,
+            counts,
+            shed: reader.shed(),
+            end,
+        },
     }
 }

@@ -1,13 +1,10 @@
 use acquisition_machine::Counts;
-use buffer_words::Pass;
 use control_client::Client;
 use gev_control::AcqEnd;
 
-/// What the acquisition's worker with lanes gives back: its pass, its client, its links and its clock, and how it
-/// ended.
+/// What the acquisition's worker with lanes gives back beside its pass, which has joined the lanes' passes: its client,
+/// its links and its clock, and how it ended.
 pub struct LanesDone<S, M, C> {
-    /// The pass, with nothing in its hands. It has joined the lanes' passes.
-    pub pass: Pass,
     /// The client of the control link.
     pub client: Client,
     /// The link of the stream.

@@ -13,6 +13,7 @@ use buffer_words::{Board, Pass};
 use control_client::Client;
 use gev_acq::{AcqEnd, ReadDone, read};
 use gev_links::{MemoryClock, MemoryLink, OpenGate};
+use live_crew::Worked;
 use mode_calls::Mode;
 use std::sync::Wait;
 
@@ -37,16 +38,7 @@ fn read_over<R: Wait>(
     let stream = stream_link(rt.alloc(), case)?;
     let control = control_link(rt.alloc(), case, HOST)?;
     let journal = Vec::with_capacity(rt.alloc(), 3)?;
-    let ReadDone {
-        mut pass,
-        client: _,
-        stream: _,
-        control,
-        clock: _,
-        journal,
-        counts: _,
-        end,
-    } = read(
+    let Worked { mut pass, done } = read(
         handles,
         board,
         pass,
@@ -62,6 +54,15 @@ fn read_over<R: Wait>(
         3,
         Mode::OldestFirst,
     );
+    let ReadDone {
+        client: _,
+        stream: _,
+        control,
+        clock: _,
+        journal,
+        counts: _,
+        end,
+    } = done;
     print_done(rt, handles, board, &mut pass, end, journal.len(), &control)
 }
 

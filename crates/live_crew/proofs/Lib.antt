@@ -1,7 +1,8 @@
 pub mod Vacancies
 pub mod Buffers
 pub mod Beginning
-pub mod Working
+pub mod Stopped
+pub mod Coming
 pub mod Crews
 pub mod Bringing
 pub mod Rising

@@ -19,6 +19,13 @@ pub record CameHome (s t given worked u v : Token) : Type 0 where
   pub did : own_of worked.number v.seen ≡ own worked
   pub ended : IsEnded (After v.seen) worked.number
 
+-- The pass `worked` was joined in the step from u to v: its actor has ended, and what it did is what it had done.
+pub record Joins (u worked v : Token) : Type 0 where
+  pub enters : Enters u (Join worked.number) v
+  pub begins : IsPrefix worked.seen v.seen
+  pub did : own_of worked.number v.seen ≡ own worked
+  pub ended : IsEnded (After v.seen) worked.number
+
 -- The first actor's pass, which had split nobody off, split three passes off from the token s on, and joined them
 -- again up to the token u, in the same order.
 pub record CrewHome (s one two three home back u a worked_a b worked_b d worked_d : Token) : Type 0 where

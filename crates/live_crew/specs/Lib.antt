@@ -1,5 +1,6 @@
 pub mod Prepared
 pub mod Kinds
-pub mod Work
+pub mod Stops
 pub mod Homes
 pub mod HomeLaws
+pub mod Crews

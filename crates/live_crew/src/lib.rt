@@ -1,17 +1,18 @@
-//! How a live run begins, its workers for the camera and for the application, and laws of workers that come home.
+//! How a run of workers as threads begins, how they work, each with a pass of its own, and laws of workers that come home.
 //!
-//! `specs/Prepared.antt` says what the board sees of the beginning, `specs/Work.antt` what the workers promise, and
-//! `specs/Kinds.antt` of which kinds their acts are. `specs/Homes.antt` has workers that come home, and
-//! `specs/HomeLaws.antt` what is true of them and of passes that are split off one after another.
+//! `specs/Prepared.antt` says what the board sees of the beginning, `specs/Crews.antt` what is known of workers that ran
+//! at the same time, and `specs/Stops.antt` how one of them stops the run. `specs/Homes.antt` has workers that come home,
+//! and `specs/HomeLaws.antt` what is true of them and of passes that are split off one after another.
 #![tactic(auto)]
 
-mod application_work; // the application's worker
-mod camera_work; // the camera's worker
 mod laws; // laws of workers that come home, as contracts
 mod preparing; // the beginning
+mod running; // two and three workers as threads
 mod stopping; // a worker that stops the run
+mod worked; // what a worker gives back
 
-pub use application_work::{ApplicationWork, work_application};
-pub use camera_work::{CameraWork, work_camera};
 pub use laws::{split_numbers_are_apart, workers_bring_home};
 pub use preparing::prepare;
+pub use running::{run_three, run_two};
+pub use stopping::stop_if;
+pub use worked::Worked;

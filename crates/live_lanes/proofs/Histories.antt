@@ -18,7 +18,9 @@ use Rattle.buffer_words.specs.Passes.{Token}
 use Rattle.buffer_words.specs.Workers.{AreApart, OnlyBy, Works, Worker, Hosts, OthersAreApart, HostedAll}
 use Rattle.buffer_words.proofs.Working.{are_of_entries}
 use Rattle.live_crew.specs.Prepared.{Prepares, SawOnly}
-use Rattle.live_crew.specs.Kinds.{is_cameras, is_applications, is_hosts}
+use Rattle.gev_serve.specs.Kinds.{is_cameras}
+use Rattle.gev_apply.specs.Kinds.{is_applications}
+use Rattle.live_crew.specs.Kinds.{is_hosts}
 use Rattle.mode_calls.specs.declared.mode.Mode.{Mode}
 use Rattle.mode_calls.specs.declared.mode.Mode.TheVariants.{OldestFirst, OldestFirstOverwrite, NewestOnly}
 use Rattle.gev_lanes.specs.declared.parts.ReaderLane.{ReaderLane}
@@ -41,9 +43,9 @@ use Rattle.live_lanes.proofs.Hosting.{three_home, split_off, three_hosts, hosted
 use Rattle.live_lanes.proofs.Stopping.{StoppedAt, quiet_all}
 
 -- What the preparation, the splits, the workers, the lanes and the joins ensured, from the empty board on.
-pub record Story (mode : Mode) (buffers : ℕ) (s one two three four home back u a worked_a b worked_b d worked_d : Token) (n : ℕ) (made : List ReaderTurn) (us : List ReaderLane) (tools : List LaneTools) (answer : Result (Unit {0}) ℕ) : Type 0 where
+pub record Story (mode : Mode) (buffers : ℕ) (s off one two three home back u a worked_a b worked_b d worked_d : Token) (n : ℕ) (made : List ReaderTurn) (us : List ReaderLane) (tools : List LaneTools) (answer : Result (Unit {0}) ℕ) : Type 0 where
   pub prepared : SawOnly (Prepares live_size buffers) s
-  pub crew : LanesHome s one two three four home back u a worked_a b worked_b d worked_d (numbers_in tools)
+  pub crew : LanesHome s off one two three home back u a worked_a b worked_b d worked_d (numbers_in tools)
   pub camera : Works is_cameras a worked_a
   pub reader : Works is_lane_readers b worked_b
   pub application : Works is_applications d worked_d
@@ -61,14 +63,14 @@ all_of l = record { rest = []; is = sym (append-nil l) }
 none_refused : (h : List Entry) → Run h → HasNone is_close h → HasNone is_fill_refused h
 none_refused h run none = open_takes_fills [] h run refl none
 
-pub lanes_history : (mode : Mode) (buffers : ℕ) (s one two three four home back u a worked_a b worked_b d worked_d : Token) (n : ℕ) (made : List ReaderTurn) (us : List ReaderLane) (tools : List LaneTools) (answer : Result (Unit {0}) ℕ)
-    → Story mode buffers s one two three four home back u a worked_a b worked_b d worked_d n made us tools answer → LanesHistory mode buffers (crew_of a b d tools) u.seen
-lanes_history mode buffers s one two three four home back u a worked_a b worked_b d worked_d n made us tools answer w = record {
+pub lanes_history : (mode : Mode) (buffers : ℕ) (s off one two three home back u a worked_a b worked_b d worked_d : Token) (n : ℕ) (made : List ReaderTurn) (us : List ReaderLane) (tools : List LaneTools) (answer : Result (Unit {0}) ℕ)
+    → Story mode buffers s off one two three home back u a worked_a b worked_b d worked_d n made us tools answer → LanesHistory mode buffers (crew_of a b d tools) u.seen
+lanes_history mode buffers s off one two three home back u a worked_a b worked_b d worked_d n made us tools answer w = record {
   run = w.crew.ended_run;
   owned = w.owned;
   legal = w.legal;
   alone = tight.alone;
-  apart = all_apart s one two three four home back u a worked_a b worked_b d worked_d (numbers_in tools) w.crew;
+  apart = all_apart s off one two three home back u a worked_a b worked_b d worked_d (numbers_in tools) w.crew;
   entries = subst (λ l. AllBy (0 ∷ l) u.seen) (workers_numbers (is_strict_lanes mode) mode n 0 made us tools u.seen w.did trio) tight.entries;
   prepared = w.prepared.events;
   prepares = w.prepared.kind;
@@ -94,10 +96,10 @@ lanes_history mode buffers s one two three four home back u a worked_a b worked_
     stop_entry = entry b.number (Stop false answer)
 
     hosts : Hosts s.seen is_hosts u (split_off a b d (numbers_in tools)) trio
-    hosts = three_hosts s one two three four home back u a worked_a b worked_b d worked_d (numbers_in tools) w.crew w.camera w.reader w.application
+    hosts = three_hosts s off one two three home back u a worked_a b worked_b d worked_d (numbers_in tools) w.crew w.camera w.reader w.application
 
     loose : HostedAll s.seen is_hosts u.seen (lane_workers (is_lanes mode) mode n 0 made us tools u.seen w.did trio)
-    loose = hosted s one two three four home back u a worked_a b worked_b d worked_d (numbers_in tools) (lane_workers (is_lanes mode) mode n 0 made us tools u.seen w.did trio) w.crew
+    loose = hosted s off one two three home back u a worked_a b worked_b d worked_d (numbers_in tools) (lane_workers (is_lanes mode) mode n 0 made us tools u.seen w.did trio) w.crew
         (lanes_home s.seen is_hosts u (split_off a b d (numbers_in tools)) trio mode n 0 made us tools u.seen (all_of u.seen) w.did hosts)
         (lanes_childless (is_lanes mode) mode n 0 made us tools u.seen w.did trio (childless_lanes mode) (childless_applications, (childless_readers, (childless_cameras, tt))))
         (workers_numbers (is_lanes mode) mode n 0 made us tools u.seen w.did trio)
@@ -108,7 +110,7 @@ lanes_history mode buffers s one two three four home back u a worked_a b worked_
         (lanes_apart (is_lanes mode) is_other [] mode n 0 made us tools u.seen w.did trio (lanes_live mode) (inr applications_live, (inr readers_live, (inr cameras_live, tt))))))
 
     tight : HostedAll s.seen is_hosts u.seen (lane_workers (is_strict_lanes mode) mode n 0 made us tools u.seen w.did trio)
-    tight = hosted s one two three four home back u a worked_a b worked_b d worked_d (numbers_in tools) (lane_workers (is_strict_lanes mode) mode n 0 made us tools u.seen w.did trio) w.crew
+    tight = hosted s off one two three home back u a worked_a b worked_b d worked_d (numbers_in tools) (lane_workers (is_strict_lanes mode) mode n 0 made us tools u.seen w.did trio) w.crew
         (strict_lanes_home s.seen is_hosts u (split_off a b d (numbers_in tools)) trio mode n 0 made us tools u.seen (all_of u.seen) (none_refused u.seen w.crew.ended_run unclosed) w.did hosts)
         (lanes_childless (is_strict_lanes mode) mode n 0 made us tools u.seen w.did trio (childless_strict mode) (childless_applications, (childless_readers, (childless_cameras, tt))))
         (workers_numbers (is_strict_lanes mode) mode n 0 made us tools u.seen w.did trio)

@@ -98,7 +98,7 @@ module _ (n : Numbers) (lanes : ℕ) (camera stream : Address) (o e : Told) (ser
   own_b = home_own r.one r.two r.b r.worked_b r.home r.back u.seen r.crew.second back_in r.crew.ended_run
 
   pub own_a : own_of r.a.number u.seen ≡ own r.worked_a
-  own_a = home_own s r.one r.a r.worked_a r.four r.home u.seen r.crew.first home_in r.crew.ended_run
+  own_a = home_own r.off r.one r.a r.worked_a r.three r.home u.seen r.crew.first home_in r.crew.ended_run
 
   -- what the acquisition's worker entered
   all_entered : EntersEach r.b ((looks_in r.reads.made ++ (r.reads.last ++ joins_of r.tools)) ++ Stop false r.reads.answer ∷ []) r.worked_b
@@ -132,7 +132,7 @@ module _ (n : Numbers) (lanes : ℕ) (camera stream : Address) (o e : Told) (ser
       (runs_rest empty_board r.reads.joined.seen behind_them (subst (λ l. Run l) joined_is r.crew.ended_run)))
 
   pub history_of : SawOnly (Prepares live_size n.buffers) s → LanesHistory n.mode n.buffers (crew_of r.a r.b r.d r.tools) u.seen
-  history_of saw = lanes_history n.mode n.buffers s r.one r.two r.three r.four r.home r.back u r.a r.worked_a r.b r.worked_b r.d r.worked_d (length r.tools) r.reads.made r.reads.after r.tools r.reads.answer
+  history_of saw = lanes_history n.mode n.buffers s r.off r.one r.two r.three r.home r.back u r.a r.worked_a r.b r.worked_b r.d r.worked_d (length r.tools) r.reads.made r.reads.after r.tools r.reads.answer
       (record {
         prepared = saw;
         crew = r.crew;
@@ -218,7 +218,7 @@ ran_lanes n lanes camera stream answer o e served read taken lines written writt
       (stops_last camera stream o e n.turns r.b.number (numbers_in r.tools) read u.seen part) taken_part
       (λ well. subst (λ l. HasNone is_stop l) (sym own_camera) (camera_stops_nothing served (live_camera n.seed) o.camera e.camera o.camera_clock e.camera_clock r.a r.worked_a well r.crew.first.new r.serves))
       (host_stops_nothing live_size n.buffers s u _ _ saw
-      (three_hosts s r.one r.two r.three r.four r.home r.back u r.a r.worked_a r.b r.worked_b r.d r.worked_d (numbers_in r.tools) r.crew r.camera_works r.reader_works r.application_works))
+      (three_hosts s r.off r.one r.two r.three r.home r.back u r.a r.worked_a r.b r.worked_b r.d r.worked_d (numbers_in r.tools) r.crew r.camera_works r.reader_works r.application_works))
       (lanes_stop_nothing n.mode (length r.tools) 0 r.reads.made r.reads.after r.tools u.seen did) ends.cause;
   means = answer_means served read n.frames n.turns (length r.reads.made) lines taken_part.made taken answer taken_part.told_lines
       (spent_all r.reads.on.setup_end read n.turns r.reads.made (never_spent stream (new_client SEND_LIMIT) r.reads.on.setup r.reads.on.setup_end r.reads.on.client r.reads.on.set_up_by) r.reads.on.ends) ends.cause;

@@ -15,8 +15,10 @@ use Rattle.gev_serve.specs.declared.ends.ServeEnd.{ServeEnd}
 use Rattle.gev_control.specs.declared.acq_end.AcqEnd.{AcqEnd}
 use Rattle.gev_control.specs.Ends.{is_fault_end}
 use Rattle.gev_acq.specs.Reading.{FaultsOf}
-use Rattle.live_crew.specs.Kinds.{is_cameras, is_applications}
-use Rattle.live_crew.specs.Work.{ServesAndStops, AppliesAndStops}
+use Rattle.gev_serve.specs.Kinds.{is_cameras}
+use Rattle.gev_apply.specs.Kinds.{is_applications}
+use Rattle.gev_serve.specs.Work.{ServesAndStops}
+use Rattle.gev_apply.specs.Work.{AppliesAndStops}
 use Rattle.gev_lanes.specs.declared.parts.LaneQueues.{LaneQueues}
 use Rattle.gev_lanes.specs.declared.parts.ReaderLane.{ReaderLane}
 use Rattle.gev_lanes.specs.Sides.{AreNew}
@@ -31,10 +33,10 @@ use Rattle.live_lanes.specs.Homes.{LanesHome}
 -- The workers' passes a, b and d and the lanes' were split off from the token s on and joined up to the token u, and each
 -- worker kept its promise.
 pub record RanLanes (mode : Mode) (lanes : ℕ) (new : Camera) (camera stream : Address) (o e : Told) (frames turns : ℕ) (served : ServeEnd) (read : AcqEnd) (answer : Result ℕ NoMemory) (lines : List ℕ) (s u : Token) : Type 0 where
+  pub off : Token
   pub one : Token
   pub two : Token
   pub three : Token
-  pub four : Token
   pub home : Token
   pub back : Token
   pub a : Token
@@ -46,7 +48,7 @@ pub record RanLanes (mode : Mode) (lanes : ℕ) (new : Camera) (camera stream : 
   pub tools : List LaneTools
   pub configs : AreLiveTools tools
   pub count : length tools ≡ lanes
-  pub crew : LanesHome s one two three four home back u a worked_a b worked_b d worked_d (numbers_in tools)
+  pub crew : LanesHome s off one two three home back u a worked_a b worked_b d worked_d (numbers_in tools)
   pub camera_works : Works is_cameras a worked_a
   pub serves : ServesAndStops served new o.camera e.camera o.camera_clock e.camera_clock a worked_a
   pub client : Client

@@ -1,4 +1,4 @@
-//! Passes are split off for the workers and the lanes, and joined again.
+//! The lanes' passes are split off, and the workers run.
 
 ghost use Rattle.std.specs.Prelude.{◌≡◌, ◌<◌, [], vec_capacity};
 ghost use Rattle.board_machine.specs.Actors.{born};
@@ -9,17 +9,17 @@ ghost use Rattle.gev_live.specs.Told.{live_camera};
 ghost use Rattle.live_lanes.specs.Made.{AreNew};
 ghost use Rattle.live_lanes.specs.Ran.{RanLanes};
 
-use crate::crew::{Acquirers, work_crew};
+use crate::crew::{Acquirers, work_with_lanes};
 use crate::making::LanesTools;
 use crate::splitting::split_lanes;
 use buffer_words::{Board, Pass};
+use gev_apply::ApplicationDone;
 use gev_control::AcqEnd;
 use gev_links::{Clock, Gate, Link};
 use gev_live::{Ends, Tally};
-use gev_serve::ServeEnd;
+use gev_serve::{CameraDone, ServeEnd};
 use gev_types::NoMemory;
 use lane_crew::LanesDone;
-use live_crew::{ApplicationWork, CameraWork};
 use mode_calls::Mode;
 use std::alloc::Global;
 use std::sync::Wait;
@@ -41,7 +41,7 @@ pub(crate) struct CrewDone<L, S, C> {
     pub(crate) tally: Tally,
 }
 
-/// Splits a pass off for each worker and each lane, runs the workers, and joins the passes.
+/// Splits a pass off for each lane, and runs the workers.
 pub(crate) fn run_crew<
     R: Threads + Wait + Sync,
     L: Link + Send + Drop,
@@ -98,29 +98,21 @@ pub(crate) fn run_crew<
         lines,
     } = tools;
     pass.witness();
-    let watcher = board.split(pass);
-    let reader = board.split(pass);
-    let taker = board.split(pass);
     let lane_tools = split_lanes(board, pass, parts, room);
     let mine = Acquirers {
-        pass: reader,
         reader: sides,
         tools: lane_tools,
         client,
     };
-    let (watched, done) = work_crew(
-        rt, alloc, board, &queues, watcher, mine, taker, new_camera, ends, gate, turns, frames,
-        lines, mode,
+    let (watched, told, applied) = work_with_lanes(
+        rt, alloc, board, pass, &queues, mine, new_camera, ends, gate, turns, frames, lines, mode,
     );
-    let (told, applied) = done;
-    let CameraWork {
-        pass: watcher_back,
+    let CameraDone {
         link: camera,
         clock: camera_clock,
         end: served,
     } = watched;
     let LanesDone {
-        pass: reader_back,
         client,
         stream,
         control,
@@ -129,16 +121,11 @@ pub(crate) fn run_crew<
         shed,
         end: read,
     } = told;
-    let ApplicationWork {
-        pass: taker_back,
+    let ApplicationDone {
         clock: app_clock,
         lines,
         answer: taken,
     } = applied;
-    board.join(pass, watcher_back);
-    board.join(pass, reader_back);
-    board.join(pass, taker_back);
-    pass.witness();
     CrewDone {
         ends: Ends {
             camera,

@@ -14,6 +14,7 @@ use gev_lanes::{LaneEnds, Lanes};
 use gev_links::{MemoryClock, MemoryLink, OpenGate};
 use gev_types::{NoMemory, Peer};
 use lane_crew::{LaneTools, LanesDone, lanes_parts_stay, read_by_lanes};
+use live_crew::Worked;
 use mode_calls::Mode;
 use std::alloc::Global;
 use std::sync::Wait;
@@ -84,16 +85,7 @@ fn read_blocks<R: Threads + Wait + Sync>(
     let (lanes, reader, ends) = Lanes::new(alloc, count)?;
     let tools = make_tools(alloc, &board, &mut host, &lanes, ends)?;
     let pass = board.split(&mut host);
-    let LanesDone {
-        pass,
-        client: _,
-        stream: _,
-        control,
-        clock: _,
-        counts: _,
-        shed: _,
-        end,
-    } = read_by_lanes(
+    let Worked { pass, done } = read_by_lanes(
         rt,
         &board,
         pass,
@@ -110,6 +102,15 @@ fn read_blocks<R: Threads + Wait + Sync>(
         6,
         Mode::OldestFirst,
     );
+    let LanesDone {
+        client: _,
+        stream: _,
+        control,
+        clock: _,
+        counts: _,
+        shed: _,
+        end,
+    } = done;
     board.join(&mut host, pass);
     let first = next_block(rt, &board, &mut host);
     let second = next_block(rt, &board, &mut host);

@@ -1,6 +1,8 @@
 -- The setup and the turns, and then the stop of the receiver and of the acquisition.
 use Rattle.std.proofs.Common.{◌∙◌}
 use Rattle.acq_core.specs.Receiver.{config_of, buffers, Stands}
+use Rattle.live_crew.proofs.Stopped.{comes_back}
+use Rattle.gev_acq.specs.Kinds.{is_readers}
 use Rattle.gev_acq.proofs.Joined.{reads_all, alone_none}
 use Rattle.gev_acq.proofs.OfKind.{reads_work}
 use Rattle.gev_acq.proofs.reading.read.Goals as goal
@@ -17,7 +19,8 @@ returns-clause-works g c =
     reads_work c.args.mode (config_of c.args.acq) c.args.camera c.args.own _ _ c.args.journal.items c.read_turns-end.new.journal.items c.args.turns
     c.read_turns-end.result c.args.pass c.stop-stopped.new.pass (returns-clause-reads g c)
 
-pub returns-clause-empty : goal.returns-clause-empty
-returns-clause-empty g c =
-    λ i. (c.stop-stopped.ensures.hands i).slot
-    ∙ c.drain.ensures.empty (c.read_turns-end.ensures.alone (alone_none c.args.pass (buffers c.args.acq) c.requires.buffers c.requires.hands)) i
+pub returns-clause-back : goal.returns-clause-back
+returns-clause-back g c =
+    comes_back (is_readers c.args.mode) c.args.pass c.stop-stopped.new.pass (returns-clause-works g c)
+    (λ i. (c.stop-stopped.ensures.hands i).slot
+    ∙ c.drain.ensures.empty (c.read_turns-end.ensures.alone (alone_none c.args.pass (buffers c.args.acq) c.requires.buffers c.requires.hands)) i)

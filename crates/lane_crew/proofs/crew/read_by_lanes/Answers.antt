@@ -1,6 +1,8 @@
 -- From the setup to the stop.
-use Rattle.std.proofs.Common.{subst}
+use Rattle.std.proofs.Common.{subst, ◌∙◌}
 use Rattle.buffer_words.specs.Boards.{board_id}
+use Rattle.live_crew.proofs.Stopped.{comes_back}
+use Rattle.lane_crew.specs.Kinds.{is_lane_readers}
 use Rattle.lane_crew.proofs.Lists.{served_back}
 use Rattle.lane_crew.proofs.Whole.{new_kept, crew_reads, crew_works}
 use Rattle.lane_crew.specs.Tools.{AreMet, ends_in}
@@ -26,3 +28,8 @@ pub returns-clause-works : goal.returns-clause-works
 returns-clause-works g c =
     crew_works c.args.mode c.args.camera c.args.own _ _ c.args.reader c.args.tools.items c.args.turns c.read_and_serve-served.result.1.1 c.args.pass
     c.stop-stopped.new.pass (returns-clause-reads g c)
+
+pub returns-clause-back : goal.returns-clause-back
+returns-clause-back g c =
+    comes_back is_lane_readers c.args.pass c.stop-stopped.new.pass (returns-clause-works g c)
+    (λ i. (c.stop-stopped.ensures.hands i).slot ∙ ((c.bring_home-counts.ensures.hands i).slot ∙ ((c.read_and_serve-served.ensures.hands i).slot ∙ c.requires.hands i)))

@@ -2,23 +2,22 @@
 
 ghost use Rattle.std.specs.Prelude.{◌≡◌};
 ghost use Rattle.buffer_words.specs.Boards.{board_id};
-ghost use Rattle.buffer_words.specs.Passes.{SameHands};
+ghost use Rattle.buffer_words.specs.Passes.{IsEmptyHanded};
 ghost use Rattle.buffer_words.specs.Workers.{Works};
-ghost use Rattle.live_crew.specs.Kinds.{is_applications};
-ghost use Rattle.live_crew.specs.Work.{has_enough, AppliesAndStops};
+ghost use Rattle.live_crew.specs.Crews.{ComesBack};
+ghost use Rattle.gev_apply.specs.Kinds.{is_applications};
+ghost use Rattle.gev_apply.specs.Work.{has_enough, AppliesAndStops};
 
-use crate::stopping::stop_if;
+use crate::applying::apply;
 use buffer_words::{Board, Pass};
-use gev_apply::apply;
 use gev_links::{Clock, Gate};
 use gev_types::NoMemory;
+use live_crew::{Worked, stop_if};
 use std::alloc::Global;
 use std::sync::Wait;
 
-/// What the application's worker gives back.
-pub struct ApplicationWork<C> {
-    /// Its pass, with hands as they were.
-    pub pass: Pass,
+/// What the application's worker gives back beside its pass.
+pub struct ApplicationDone<C> {
     /// Its clock.
     pub clock: C,
     /// The lines of the buffers that it took.
@@ -48,21 +47,24 @@ pub fn work_application<R: Wait, C: Clock, G: Gate>(
     gate: &G,
     frames: u32,
     mut lines: Vec<u8>,
-) -> ApplicationWork<C>
+) -> Worked<ApplicationDone<C>>
     requires table { pass.table ≡ board_id board.now }
-    ensures applies { AppliesAndStops frames (C.told clock) (C.told result.clock) lines.items result.lines.items result.answer pass result.pass }
+    requires hands { IsEmptyHanded pass }
+    ensures applies { AppliesAndStops frames (C.told clock) (C.told result.done.clock) lines.items result.done.lines.items result.done.answer pass result.pass }
     ensures works { Works is_applications pass result.pass }
-    ensures hands { SameHands pass result.pass }
+    ensures back { ComesBack pass result.pass }
 {
     let answer = apply(
         rt, alloc, board, &mut pass, &mut clock, gate, frames, &mut lines,
     );
     let over = is_enough(&answer, frames);
     stop_if(board, &mut pass, over);
-    ApplicationWork {
+    Worked {
         pass,
-        clock,
-        lines,
-        answer,
+        done: ApplicationDone {
+            clock,
+            lines,
+            answer,
+        },
     }
 }

@@ -2,26 +2,26 @@
 
 ghost use Rattle.std.specs.Prelude.{◌≡◌};
 ghost use Rattle.buffer_words.specs.Boards.{board_id};
+ghost use Rattle.buffer_words.specs.Passes.{IsEmptyHanded};
 ghost use Rattle.buffer_words.specs.Workers.{Works};
+ghost use Rattle.live_crew.specs.Crews.{ComesBack};
 ghost use Rattle.gev_serve.specs.Wires.{wire};
-ghost use Rattle.gev_serve.specs.Serving.{KeepsHands};
-ghost use Rattle.live_crew.specs.Kinds.{is_cameras};
-ghost use Rattle.live_crew.specs.Work.{has_failed, ServesAndStops};
+ghost use Rattle.gev_serve.specs.Kinds.{is_cameras};
+ghost use Rattle.gev_serve.specs.Work.{has_failed, ServesAndStops};
 
-use crate::stopping::stop_if;
+use crate::ends::ServeEnd;
+use crate::serving::serve;
 use buffer_words::{Board, Pass};
 use camera_sim::Camera;
 use gev_links::{Clock, Link};
-use gev_serve::{ServeEnd, serve};
+use live_crew::{Worked, stop_if};
 use std::alloc::Global;
 
 // The most turns of a run: the camera isn't what ends it.
 const MOST_TURNS: u64 = 1_000_000_000;
 
-/// What the camera's worker gives back.
-pub struct CameraWork<L, C> {
-    /// Its pass, with empty hands.
-    pub pass: Pass,
+/// What the camera's worker gives back beside its pass.
+pub struct CameraDone<L, C> {
     /// The camera's link.
     pub link: L,
     /// The camera's clock.
@@ -49,13 +49,14 @@ pub fn work_camera<L: Link, C: Clock>(
     mut camera: Camera,
     mut link: L,
     mut clock: C,
-) -> CameraWork<L, C>
+) -> Worked<CameraDone<L, C>>
     requires table { pass.table ≡ board_id board.now }
+    requires hands { IsEmptyHanded pass }
     requires new { camera.shelf.count ≡ 0 }
-    ensures serves { ServesAndStops result.end camera (wire (L.received link) (L.sent link) (L.faults link))
-        (wire (L.received result.link) (L.sent result.link) (L.faults result.link)) (C.told clock) (C.told result.clock) pass result.pass }
+    ensures serves { ServesAndStops result.done.end camera (wire (L.received link) (L.sent link) (L.faults link))
+        (wire (L.received result.done.link) (L.sent result.done.link) (L.faults result.done.link)) (C.told clock) (C.told result.done.clock) pass result.pass }
     ensures works { Works is_cameras pass result.pass }
-    ensures hands { KeepsHands pass result.pass }
+    ensures back { ComesBack pass result.pass }
 {
     let end = serve(
         alloc,
@@ -67,10 +68,8 @@ pub fn work_camera<L: Link, C: Clock>(
         MOST_TURNS,
     );
     stop_if(board, &mut pass, is_failure(end));
-    CameraWork {
+    Worked {
         pass,
-        link,
-        clock,
-        end,
+        done: CameraDone { link, clock, end },
     }
 }
