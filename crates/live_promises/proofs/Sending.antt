@@ -51,7 +51,7 @@ turns_came : (P : StreamPacket → Type 0) (made : List Turned) → EachIs P (pa
 turns_came P [] all = tt
 turns_came P (t ∷ ts) all =
     subst (EachIs P) (sym (packets_in-append (inputs_of t) (inputs_in ts)))
-    (all_append P (packets_in (inputs_of t)) (packets_in (inputs_in ts)) (turn_came P t.answer t.given t.moment (answers_in ts) all) (turns_came P ts (later_came P t.answer (answers_in ts) all)))
+    (all_append P (packets_in (inputs_of t)) (packets_in (inputs_in ts)) (turn_came P t.answer t.given t.told (answers_in ts) all) (turns_came P ts (later_came P t.answer (answers_in ts) all)))
 
 whole_came : (P : StreamPacket → Type 0) (made : List Turned) → EachIs P (packets_among (answers_in made)) → EachIs P (packets_in (inputs_in made ++ stop ∷ []))
 whole_came P made all =
@@ -82,7 +82,7 @@ turn_restarts_none (Some bytes) (Some given) moment = tt
 
 turns_restart_none : (made : List Turned) → HasNoRestart (inputs_in made)
 turns_restart_none [] = tt
-turns_restart_none (t ∷ ts) = none_restart (inputs_of t) (inputs_in ts) (turn_restarts_none (bytes_in t.answer) t.given t.moment) (turns_restart_none ts)
+turns_restart_none (t ∷ ts) = none_restart (inputs_of t) (inputs_in ts) (turn_restarts_none (bytes_in t.answer) t.given t.told) (turns_restart_none ts)
 
 one_acquisition : (c : AcqConfig) (s : State) (q : List Input) → HasNoRestart q → StartsClean c s q
 one_acquisition c s [] none = tt
