@@ -564,7 +564,8 @@ def judge(program, words, data):
         wants(text == b"", "words that aren't understood, and an output")
         return
     first = words[0].decode(errors="replace") if words else ""
-    if first in ("--help", "-h", "--version"):
+    if first in ("--help", "-h", "help", "--version", "-V") or words[1:] == [b"--help"]:
+        wants(status in (0, 5), f"status {status} of the help")
         return
     wants(status in STATUSES.get(first, ()) or status == 7, f"status {status} of `{first}`")
     if first in ("soak", "live"):

@@ -19,6 +19,7 @@ mod taking; // a camera is taken
 
 pub use control_end::ControlEnd;
 pub use leaving::let_go;
+pub use making::is_held;
 pub use register_write::RegisterWrite;
 pub use step::Step;
 pub use stream_wish::StreamWish;

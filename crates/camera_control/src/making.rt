@@ -22,8 +22,8 @@ use std::sync::Wait;
 // The status of a command that only the controlling application may send.
 const ACCESS_DENIED: u16 = 0x8006;
 
-// Whether an application controls the camera: one of the two lowest bits is set.
-pub(crate) fn is_held(privilege: u32) -> bool
+/// Whether an application controls a camera, by its control channel privilege: one of the two lowest bits is set.
+pub fn is_held(privilege: u32) -> bool
     ensures { result ≡ is_held privilege }
 {
     privilege % 4 != 0

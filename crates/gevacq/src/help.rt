@@ -1,5 +1,7 @@
 //! The texts of the help.
 
+use std::io;
+
 /// What each command does, reads and writes, with the ranges of its words.
 pub(crate) const HELP: &str = "\
 gevacq: images of a GigE Vision camera from its datagrams, in GenTL buffers
@@ -62,13 +64,14 @@ gevacq description <camera>
     Writes the description of the camera's registers, as it lies in the camera at
     this address: mostly a zip file, else XML.
 
-gevacq --help, gevacq -h
-    Prints this text.
+gevacq --help, gevacq -h, gevacq help
+    Prints this text; behind a command, as in `gevacq capture --help`, its part
+    with an example.
 
-gevacq --version
+gevacq --version, gevacq -V
     Prints the name and the version.
 
-<k>                         1 to 4294967295
+<k|all>                     1 to 4294967295, or all
 <port>                      1 to 65535
 <p>                         528 to 8964
 <bytes>                     1 to 67108864
@@ -101,3 +104,84 @@ usage: gevacq record <seed> <frames> <buffers> <turns>
 usage: gevacq discover [<address>]
 usage: gevacq description <camera>
 ";
+
+/// An example of each command.
+const EXAMPLES: [(&str, &str); 12] = [
+    ("replay", "./gevacq replay < examples/one_block.script"),
+    (
+        "explain",
+        "./gevacq explain < examples/one_block.script | grep '^# '",
+    ),
+    ("image", "./gevacq image 1 < lossy.script > image.pgm"),
+    ("streams", "./gevacq streams < examples/aravis_lossy.pcap"),
+    (
+        "capture",
+        "./gevacq capture 32852 1364 19200 < examples/aravis_lossy.pcap > lossy.script",
+    ),
+    (
+        "camera",
+        "./gevacq camera < cases/camera_sends_a_frame/stdin",
+    ),
+    ("make", "./gevacq make 1 3 100 50 20 | ./gevacq replay"),
+    ("soak", "./gevacq soak 7 200 50 20 30 | grep complete=0"),
+    ("live", "./gevacq live 1 20 4 1 1000000"),
+    ("record", "./gevacq record 1 10 4 100000 > run.script"),
+    ("discover", "./gevacq discover"),
+    (
+        "description",
+        "./gevacq description 192.168.10.7 > camera.zip",
+    ),
+];
+
+/// An example of this command, if there is such a command.
+fn example_of(command: &str) -> Option<&'static str> {
+    for (name, example) in EXAMPLES {
+        if name == command {
+            return Some(example);
+        }
+    }
+    None
+}
+
+/// The part of the help on this command, whose second word it is.
+fn part_on(command: &str) -> &'static str {
+    for part in HELP.split("\n\n") {
+        if part.split_whitespace().nth(1) == Some(command) {
+            return part;
+        }
+    }
+    HELP
+}
+
+/// Whether a line of the help tells the range of a word that this part names.
+fn is_range_of(line: &str, part: &str) -> bool {
+    for word in line.split_whitespace() {
+        if word.starts_with('<') && part.contains(word.trim_end_matches(',')) {
+            return true;
+        }
+    }
+    false
+}
+
+/// Prints the help on this command: its part, the ranges of its words and an example. None where there is no
+/// such command.
+pub(crate) fn print_help_on(rt: &HostRuntime, command: &str) -> Option<io::Result<()>> {
+    let example = example_of(command)?;
+    Some(print_part(rt, part_on(command), example))
+}
+
+/// Prints a part of the help, the ranges of the words that it names, and an example.
+fn print_part(rt: &HostRuntime, part: &str, example: &str) -> io::Result<()> {
+    println!(rt; "{part}")?;
+    let mut has_ranges = false;
+    for line in HELP.lines() {
+        if line.starts_with('<') && is_range_of(line, part) {
+            if !has_ranges {
+                println!(rt; "")?;
+            }
+            has_ranges = true;
+            println!(rt; "{line}")?;
+        }
+    }
+    println!(rt; "\nExample:\n    {example}")
+}

@@ -3,7 +3,7 @@
 
 mod help;
 
-use crate::help::{HELP, USAGE};
+use crate::help::{HELP, USAGE, print_help_on};
 use gev_call::gevacq_top;
 use gev_links::FillBell;
 use gev_real::{RealPorts, StandardInput, StandardOutput};
@@ -16,7 +16,7 @@ use std::time::Clock;
 use std::{env, io};
 
 /// The program's name and version.
-const VERSION: &str = "gevacq 0.2.0\n";
+const VERSION: &str = "gevacq 0.3.0\n";
 
 fn main(rt: HostRuntime) -> ExitCode {
     let status = match words(&rt) {
@@ -43,20 +43,18 @@ fn words(rt: &HostRuntime) -> Result<Vec<String>, Status> {
     Ok(words)
 }
 
-/// Answers `--help`, `-h` and `--version`, and hands every other command line on. A live run has its threads and
-/// its sockets of `handles`.
+/// Answers the words of the help and of the version, and hands every other command line on. A live run has its
+/// threads and its sockets of `handles`.
 fn run<R: Threads + Wait + Net + Clock + Sync>(
     rt: &HostRuntime,
     handles: &R,
     words: &[String],
 ) -> Status {
-    if let [word] = words {
-        if word.as_str() == "--help" || word.as_str() == "-h" {
-            return print(rt, HELP);
-        }
-        if word.as_str() == "--version" {
-            return print(rt, VERSION);
-        }
+    if let Some(printed) = print_help(rt, words) {
+        return match printed {
+            Ok(()) => Status::Done,
+            Err(_) => Status::WriteFault,
+        };
     }
     let mut source = StandardInput::new(rt.reader());
     let mut sink = StandardOutput::new(io::writer(rt));
@@ -74,11 +72,17 @@ fn run<R: Threads + Wait + Net + Clock + Sync>(
     )
 }
 
-/// Prints a text on standard output.
-fn print(rt: &HostRuntime, text: &str) -> Status {
-    match rt.print(text) {
-        Ok(()) => Status::Done,
-        Err(_) => Status::WriteFault,
+/// Prints the help or the version where the words ask for it: `--help`, `-h`, `help`, `--version` or `-V` alone, or
+/// `--help` behind a command. None where they don't.
+fn print_help(rt: &HostRuntime, words: &[String]) -> Option<io::Result<()>> {
+    match words {
+        [word] => match word.as_str() {
+            "--help" | "-h" | "help" => Some(rt.print(HELP)),
+            "--version" | "-V" => Some(rt.print(VERSION)),
+            _ => None,
+        },
+        [command, word] if word.as_str() == "--help" => print_help_on(rt, command.as_str()),
+        _ => None,
     }
 }
 

@@ -62,7 +62,8 @@ pub fn datagrams(alloc: Global, field: &str) -> Result<Vec<Option<Datagram>>> {
 
 /// Bytes in hex; or `found/MAC/NAME`, an acknowledge of DISCOVERY of a camera at 10.0.0.1 with this address and name;
 /// `memory/REQUEST/ADDRESS/BYTES/COUNT`, one of READMEM with the bytes so often, or once; `page/REQUEST/ADDRESS/TEXT`, one
-/// of a text and zero bytes, 512 in all; `refused/REQUEST/STATUS`, one that refuses it.
+/// of a text and zero bytes, 512 in all; `refused/REQUEST/STATUS`, one that refuses it; `value/REQUEST/BYTES`, one of READREG
+/// with these bytes; `written/REQUEST`, one of WRITEREG; `denied/REQUEST/CODE/STATUS`, one that refuses a command.
 fn bytes_of(alloc: Global, text: &str) -> Result<Vec<u8>> {
     let mut parts = text.split('/');
     let word = parts.next().unwrap_or("");
@@ -75,6 +76,14 @@ fn bytes_of(alloc: Global, text: &str) -> Result<Vec<u8>> {
         "memory" => memory(alloc, first, second, third, count),
         "page" => page(alloc, first, second, third),
         "refused" => refused(alloc, first, second),
+        "value" => acknowledge(
+            alloc,
+            "00000081",
+            first,
+            hex::decode(alloc, second)?.as_slice(),
+        ),
+        "written" => acknowledge(alloc, "00000083", first, &[0, 0, 0, 1]),
+        "denied" => denied(alloc, first, second, third),
         _ => Ok(hex::decode(alloc, word)?),
     }
 }
@@ -117,9 +126,14 @@ fn page(alloc: Global, req: &str, address: &str, text: &str) -> Result<Vec<u8>> 
 
 /// An acknowledge with success of READMEM, with this body.
 fn told(alloc: Global, req: &str, body: &[u8]) -> Result<Vec<u8>> {
+    acknowledge(alloc, "00000085", req, body)
+}
+
+/// An acknowledge that begins so, with this body.
+fn acknowledge(alloc: Global, head: &str, req: &str, body: &[u8]) -> Result<Vec<u8>> {
     let size = u16::try_from(body.len()).unwrap_or(0);
     let req = req.parse::<u16>().unwrap_or(0);
-    let mut bytes = hex::decode(alloc, "00000085")?;
+    let mut bytes = hex::decode(alloc, head)?;
     bytes.extend_from_slice(&size.to_be_bytes())?;
     bytes.extend_from_slice(&req.to_be_bytes())?;
     bytes.extend_from_slice(body)?;
@@ -131,6 +145,16 @@ fn refused(alloc: Global, req: &str, status: &str) -> Result<Vec<u8>> {
     let req = req.parse::<u16>().unwrap_or(0);
     let mut bytes = hex::decode(alloc, status)?;
     bytes.extend_from_slice(&[0x00, 0x85, 0x00, 0x00])?;
+    bytes.extend_from_slice(&req.to_be_bytes())?;
+    Ok(bytes)
+}
+
+/// An acknowledge that refuses a command, by its own code.
+fn denied(alloc: Global, req: &str, code: &str, status: &str) -> Result<Vec<u8>> {
+    let req = req.parse::<u16>().unwrap_or(0);
+    let mut bytes = hex::decode(alloc, status)?;
+    bytes.extend_from_slice(hex::decode(alloc, code)?.as_slice())?;
+    bytes.extend_from_slice(&[0x00, 0x00])?;
     bytes.extend_from_slice(&req.to_be_bytes())?;
     Ok(bytes)
 }

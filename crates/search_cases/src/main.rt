@@ -4,8 +4,12 @@
 //! A row is a word and what it's given. Of `discover` and `describe` these are six fields: the moments of the clock; the
 //! numbers of the binds that fail, of the receives, of the sends and of the writes, each counted from 1; and what the
 //! link hears. A field that is `.` is empty. `simulate` has two more: its settings, and how many bytes standard input has.
+//! Of `control` they are the moments; the numbers of the receives and of the sends that fail; the packet size; the writes
+//! before the stream opens, those that start and those that stop the camera; the moments that the client is told before it's
+//! let go; and what the link hears.
 #![tactic(auto)]
 
+mod controlling; // cameras that are taken and let go
 mod datagrams; // what a link hears
 mod ports; // ports in memory
 mod running; // whole commands
@@ -38,6 +42,7 @@ fn answer<R: Wait>(rt: &HostRuntime, handles: &R, row: &str) -> Result<()> {
         "url" => telling::url(rt, rest),
         "acknowledge" => telling::acknowledge(rt, rest),
         "discover" => running::discover_row(rt, handles, rest),
+        "control" => controlling::control_row(rt, handles, rest),
         "describe" => running::describe_row(rt, handles, rest),
         "simulate" => simulating::simulate_row(rt, handles, rest),
         _ => {

@@ -6,10 +6,10 @@ use gev_types::Peer;
 use std::alloc::Global;
 
 /// How many datagrams a link keeps of what is sent.
-const ROOM: usize = 600;
+pub const ROOM: usize = 600;
 
 /// The host's own address.
-const HOST: Peer = Peer {
+pub const HOST: Peer = Peer {
     address: 0x7f00_0001,
     port: 49_152,
 };

@@ -1,0 +1,19 @@
+//! Packets of a stream (GVSP) and control messages (GVCP), read and written.
+//!
+//! ```
+//! match parse(&bytes) {
+//!     Ok(packet) => println!(rt; "block {} has packet {}", packet.head().block, packet.head().id)?,
+//!     Err(refusal) => println!(rt; "{refusal}")?,
+//! }
+//! ```
+
+pub use gvcp_aux::{Resend, read_pending, read_resend, write_discovery, write_resend};
+pub use gvcp_wire::{
+    Ack, Command, CommandHead, ControlError, Status, parse_ack, parse_command, write_ack,
+    write_command,
+};
+pub use gvsp_std::{StdError, Widener, write_resend_std};
+pub use gvsp_wire::{
+    Head, LeaderInfo, Packet, WireError, parse, write_leader, write_notice, write_payload,
+    write_trailer,
+};
