@@ -12,6 +12,9 @@ import tempfile
 
 PIECES = (1, 7, 4096)
 
+# The status of `capture` where no datagram goes to its port; of that `streams` says nothing.
+NO_DATAGRAM = 18
+
 # How long one run may take, in seconds.
 RUN_SECONDS = 300
 
@@ -116,7 +119,8 @@ def faults_of(program, answer, piece):
             faults.append(f"{where}: {ran[2]!r} on standard error, not {error!r}")
         return where, ran[1]
 
-    where, text = wants(["streams"], answer.status, answer.error)
+    told = (0, "") if answer.status == NO_DATAGRAM else (answer.status, answer.error)
+    where, text = wants(["streams"], *told)
     found = text.decode("ascii", "replace")
     if found != answer.streams:
         faults.append(f"{where}: {first_difference(answer.streams.splitlines(), found.splitlines())}")

@@ -27,7 +27,7 @@ STATUSES = {
     "image": {0, 3, 13},
     "camera": {0, 3},
     "streams": {0, 12},
-    "capture": {0, 12},
+    "capture": {0, 12, 18},
     "make": {0},
     "soak": {0, 9, 10},
     "live": {0, 9, 10, 11},
@@ -49,6 +49,7 @@ TEXTS = {
     11: r"gevacq: \d+ turns spent, \d+ frames\n",
     12: r"gevacq: record \d+: (magic|cut off|version|length|interface)\n",
     13: r"gevacq: no picture: [^\n]+\n",
+    18: r"gevacq: no datagram to port \d+\n",
 }
 
 # ---------------------------------------------------------------------------------------------------------------
@@ -435,7 +436,7 @@ def judge_camera(script, status, text, error):
 PEER = r"\d+\.\d+\.\d+\.\d+:\d+"
 STREAM = rf"stream {PEER} {PEER} ids=(extended|standard|both) datagrams=(?P<datagrams>\d+) payload=\d+ leaders=(?P<leaders>\d+) width=\d+ height=\d+ pixel=0x[0-9a-f]{{8}} bytes=\d+ first=\d+ last=\d+ ms=\d+"
 RECORD_HEAD = ["gevacq 1 1452 2 200 20 3", *["announce 307200"] * 3, "start"]
-KINDS = "packets datagrams fragments cut other unlisted streams".split()
+KINDS = "packets datagrams fragments cut other unlisted streams dropped begin".split()
 LISTED = "end " + " ".join(rf"{name}=(?P<{name}>\d+)" for name in KINDS)
 
 
@@ -479,6 +480,13 @@ def judge_script(data, status, text, error):
     wants(status == 7 or lines and lines[0].startswith("gevacq ") and lines[-1] == "end", "no whole script")
     for line in lines[1:]:
         wants(re.fullmatch(r"(announce|flush|stop|t) \d+|start|take|end|d ([0-9a-f]{2})+", line), f"no line of a script: {line}")
+
+
+def judge_captured(data, status, text, error):
+    """Whether the lines are those of a capture's script, and the answer says whether a datagram is among them."""
+    judge_script(data, status, text, error)
+    has = any(line.startswith("d ") for line in lines_of(text))
+    wants(status in (7, 12) or has == (status == 0), "a script without a datagram, and no word of it, or the other way round")
 
 
 def judge_record(data, status, text, error):
@@ -526,7 +534,7 @@ JUDGES = {
     "image": judge_picture,
     "camera": judge_camera,
     "streams": judge_streams,
-    "capture": judge_script,
+    "capture": judge_captured,
     "make": judge_script,
     "soak": judge_run,
     "live": judge_run,

@@ -28,11 +28,17 @@ impl fmt::Display for Counts {
         let requests = self.requests;
         let foreign = self.foreign;
         let late = self.late;
-        write!(f, "underrun={underrun} requests={requests} foreign={foreign} late={late}")?;
+        write!(
+            f,
+            "underrun={underrun} requests={requests} foreign={foreign} late={late}"
+        )?;
         let repeat = self.repeat;
         let misfit = self.misfit;
         let starved = self.starved;
         let notice = self.notice;
-        write!(f, " repeat={repeat} misfit={misfit} starved={starved} notice={notice}")
+        write!(
+            f,
+            " repeat={repeat} misfit={misfit} starved={starved} notice={notice}"
+        )
     }
 }

@@ -8,7 +8,7 @@ use crate::addresses::address_in;
 const BROADCAST: u32 = u32::MAX;
 
 /// The address that follows the command's name, or its place.
-fn camera_at(words: &[String]) -> Result<u32, u32>
+pub(crate) fn camera_at(words: &[String]) -> Result<u32, u32>
     ensures { result ≡ camera_of 1 (slice_get (map (λ word. string_bytes word) words.now) 1) }
 {
     match words.get(1) {

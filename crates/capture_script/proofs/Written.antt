@@ -1,13 +1,14 @@
 -- The script of a capture is what its lines write.
-use Rattle.std.proofs.Common.{◌≡◌, ℕ, List, [], ◌∷◌, ◌++◌, Bool, true, false, Option, refl, ap, sym, ◌∙◌, append_assoc}
+use Rattle.std.proofs.Common.{◌≡◌, ℕ, List, [], ◌∷◌, ◌++◌, Bool, true, false, Option, Some, None, refl, ap, sym, ◌∙◌, append_assoc}
 use Rattle.std.proofs.lemmas.List.{append-nil}
 use Rattle.std.specs.Prelude.{◌||◌, nat_lt, if◌then◌else◌}
 use Rattle.gev_capture.specs.Contents.{Seen, other, fragment, cut, datagram, lost}
-use Rattle.gev_capture.specs.Sightings.{Sighting}
+use Rattle.gev_capture.specs.Sightings.{Sighting, sightings}
 use Rattle.capture_runs.specs.declared.ending.Ending.{Ending}
-use Rattle.capture_runs.specs.declared.ending.Ending.TheVariants.{NoMemory}
+use Rattle.capture_runs.specs.declared.ending.Ending.TheVariants.{Done, BadCapture, ReadFault, WriteFault, NoMemory}
 use Rattle.capture_runs.specs.Texts.{said, state, whole, broken, tells}
-use Rattle.capture_runs.specs.Ends.{RunEnds}
+use Rattle.script_runs.specs.Verdicts.{IfTold}
+use Rattle.capture_runs.specs.Ends.{RunEnds, AnswersContent}
 use Rattle.capture_runs.proofs.Walked.{ends_as, run_none}
 use Rattle.capture_script.specs.Script.{Scripted, Written, not_written, stands_in, has_datagram, seen, no_lines, both, goes_on, ticks, carries, is_for, new_script, text_of, opening_lines, closing_lines, sighted, script_texts, lines_from, script_behind, begun_lines, begun_script, capture_script}
 use Rattle.take_lines.proofs.Texts.{text_of-append}
@@ -91,3 +92,17 @@ pub scripted_none : (port p size : ℕ) (left : Option (List ℕ)) (reads : ℕ)
 scripted_none port p size left reads written writes =
     scripted port p size (text_of (opening_lines p size)) NoMemory left left reads reads written written writes writes refl
     (run_none script_texts (not_written port p size) (text_of (opening_lines p size)) left reads written writes)
+
+answers_as : (some same : List Sighting → Bool) → ((xs : List Sighting) → some xs ≡ same xs) → (ending : Ending) (l : List ℕ) → AnswersContent some ending l → AnswersContent same ending l
+answers_as some same g (Done told) l h packets end c = let k = h packets end c in (k.0, k.1 ∙ g (sightings packets))
+answers_as some same g (BadCapture n kind) l h packets end c = h packets end c
+answers_as some same g ReadFault l h packets end c = tt
+answers_as some same g WriteFault l h packets end c = tt
+answers_as some same g NoMemory l h packets end c = tt
+
+-- what the bytes decide
+pub scripted_exact : (port p size : ℕ) (ending : Ending) (left : Option (List ℕ)) → IfTold left (λ content. AnswersContent (tells script_texts (not_written port p size)) ending content)
+    → IfTold left (λ content. AnswersContent (has_datagram port) ending content)
+scripted_exact port p size ending None h = tt
+scripted_exact port p size ending (Some l) h =
+    answers_as (tells script_texts (not_written port p size)) (has_datagram port) (λ xs. told_is (not_written port p size) xs) ending l h

@@ -110,16 +110,7 @@ impl Scripting {
         }
         Ok(())
     }
-}
 
-/// The script's writer, and whether a `d` line is written.
-#[derive(Drop)]
-struct Teller {
-    scripting: Scripting,
-    told: bool,
-}
-
-impl Scripting {
     /// Whether this stands in the script.
     fn stands_in(&self, what: Content<'_>) -> bool
         ensures { result ≡ stands_in self.now.port (seen_as what.entry) }
@@ -170,6 +161,13 @@ impl Scripting {
         add_takes(self.alloc, self.playing.stop(), out)?;
         add_line(self.alloc, &Line::End, out)
     }
+}
+
+/// The script's writer, and whether a `d` line is written.
+#[derive(Drop)]
+struct Teller {
+    scripting: Scripting,
+    told: bool,
 }
 
 impl Telling for Teller {

@@ -22,37 +22,47 @@ use Rattle.gev_control.specs.Sends.{addressed}
 use Rattle.gev_control.specs.Controlled.{listed, is_fault}
 use Rattle.gev_acq.specs.Reading.{FaultsOf}
 use Rattle.gev_acq.specs.Turns.{Turned, Outside, inputs_of, TakesTurn, TakesOne}
-use Rattle.gev_acq.specs.Acquired.{inputs_in, answers_in, moments_in, heards_in, sends_in, TurnsOn, AllGoOn, EndsIn, Acquires}
+use Rattle.gev_acq.specs.Acquired.{inputs_in, answers_in, moments_in, heards_in, sends_in, TurnsOn, TellsOwn, AllGoOn, EndsIn, Acquires}
 use Rattle.gev_acq.proofs.Owning.{claims_none, claims_then}
 use Rattle.gev_control.proofs.Fronts.{added_then}
-use Rattle.gev_acq.proofs.TurnLists.{inputs-push, answers-push, moments-push, heards-push, sends-push, go_on-push, turns-push, notes-push, controls-push}
+use Rattle.gev_acq.proofs.TurnLists.{inputs-push, answers-push, moments-push, heards-push, sends-push, own-push, go_on-push, turns-push, notes-push, controls-push}
+
+-- what a reader tells that tells each turn's moment
+abbrev Own : ℕ → ℕ → Type 0
+Own moment told = told ≡ moment
 
 -- So many turns were made, and all went on.
 pub record GoesOn (mode : Mode) (c : AcqConfig) (camera : Address) (Old New : List Input → Type 0) (o n : Outside) (journal journal_now : List Turn) (count : ℕ) (s t : Token) : Type 0 where
   pub made : List Turned
   pub entries : List Turn
   pub on : TurnsOn mode c camera Old New o n made entries s t
+  pub own : TellsOwn made
   pub number : length made ≡ count
   pub all : AllGoOn made
   pub journal_is : journal_now ≡ journal ++ entries
+
+-- no turn
+pub turns_none : (mode : Mode) (c : AcqConfig) (camera : Address) (Old : List Input → Type 0) (o : Outside) (s : Token) → TurnsOn mode c camera Old Old o o [] [] s s
+turns_none mode c camera Old o s = record {
+  events = [];
+  enters = each_none s;
+  serves = λ q old. refl;
+  stands = λ q old. subst Old (sym (append-nil q)) old;
+  claims = claims_none mode [] s s [] refl tt (each_none s);
+  notes = λ q old. tt;
+  controlled = λ q old. refl;
+  received = tells_none o.received;
+  heard = tells_none o.heard;
+  sent = adds_none o.sent;
+  told = tells_none o.told;
+}
 
 pub begins : (mode : Mode) (c : AcqConfig) (camera : Address) (Old : List Input → Type 0) (o : Outside) (journal : List Turn) (s : Token) → GoesOn mode c camera Old Old o o journal journal 0 s s
 begins mode c camera Old o journal s = record {
   made = [];
   entries = [];
-  on = record {
-    events = [];
-    enters = each_none s;
-    serves = λ q old. refl;
-    stands = λ q old. subst Old (sym (append-nil q)) old;
-    claims = claims_none mode [] s s [] refl tt (each_none s);
-    notes = λ q old. tt;
-    controlled = λ q old. refl;
-    received = tells_none o.received;
-    heard = tells_none o.heard;
-    sent = adds_none o.sent;
-    told = tells_none o.told;
-  };
+  on = turns_none mode c camera Old o s;
+  own = tt;
   number = refl;
   all = tt;
   journal_is = sym (append-nil journal);
@@ -63,7 +73,8 @@ looked_claims : (mode : Mode) (is : List Input) (s t u : Token) (run : ℕ) → 
 looked_claims mode is s t u run look claims =
     claims_then mode [] is s t u look.number (claims_none mode [] s t (LookRun run ∷ []) refl (λ m b ms. refl, tt) (each_one s t (LookRun run) look refl)) claims
 
-turns_more : (mode : Mode) (c : AcqConfig) (camera : Address) (Old Mid New : List Input → Type 0) (o m n : Outside) (made : List Turned) (entries : List Turn) (turned : Turned) (entry : Turn) (s t u v : Token)
+-- a look that found the run word 1, and one more turn
+pub turns_more : (mode : Mode) (c : AcqConfig) (camera : Address) (Old Mid New : List Input → Type 0) (o m n : Outside) (made : List Turned) (entries : List Turn) (turned : Turned) (entry : Turn) (s t u v : Token)
     → TurnsOn mode c camera Old Mid o m made entries s t → Enters t (LookRun 1) u → TakesTurn mode c camera Mid New m n turned entry u v
     → TurnsOn mode c camera Old New o n (made ++ turned ∷ []) (entries ++ entry ∷ []) s v
 turns_more mode c camera Old Mid New o m n made entries turned entry s t u v on look one = record {
@@ -98,13 +109,14 @@ record OneMore (mode : Mode) (c : AcqConfig) (camera : Address) (Old New : List 
   turned : Turned
   entries : List Turn
   on : TurnsOn mode c camera Old New o n (made ++ turned ∷ []) entries s v
+  own : TellsOwn (made ++ turned ∷ [])
   number : length made ≡ count
   all : AllGoOn made
   ended : turned.end ≡ end
   journal_is : journal_after ≡ journal ++ entries
 
 one_more : (mode : Mode) (c d : AcqConfig) (camera : Address) (Old Mid New : List Input → Type 0) (o m n : Outside) (journal journal_now journal_after : List Turn) (count run : ℕ) (entry : Turn) (end : TurnEnd) (s t u v : Token)
-    → GoesOn mode c camera Old Mid o m journal journal_now count s t → d ≡ c → Enters t (LookRun run) u → run ≡ 1 → TakesOne mode d camera Mid New m n entry end u v → journal_after ≡ journal_now ++ entry ∷ []
+    → GoesOn mode c camera Old Mid o m journal journal_now count s t → d ≡ c → Enters t (LookRun run) u → run ≡ 1 → TakesOne mode d camera Mid New Own m n entry end u v → journal_after ≡ journal_now ++ entry ∷ []
     → OneMore mode c camera Old New o n journal journal_after count end s v
 one_more mode c d camera Old Mid New o m n journal journal_now journal_after count run entry end s t u v so config look one takes pushed = record {
   made = so.made;
@@ -112,6 +124,7 @@ one_more mode c d camera Old Mid New o m n journal journal_now journal_after cou
   entries = so.entries ++ entry ∷ [];
   on = turns_more mode c camera Old Mid New o m n so.made so.entries takes.turned entry s t u v so.on (subst (λ k. Enters t (LookRun k) u) one look)
       (subst (λ (x : AcqConfig). TakesTurn mode x camera Mid New m n takes.turned entry u v) config takes.takes);
+  own = own-push so.made takes.turned so.own takes.says;
   number = so.number;
   all = so.all;
   ended = takes.ended;
@@ -120,12 +133,13 @@ one_more mode c d camera Old Mid New o m n journal journal_now journal_after cou
 
 -- the turn went on
 pub goes_on : (mode : Mode) (c d : AcqConfig) (camera : Address) (Old Mid New : List Input → Type 0) (o m n : Outside) (journal journal_now journal_after : List Turn) (count run : ℕ) (entry : Turn) (end : TurnEnd) (s t u v : Token)
-    → GoesOn mode c camera Old Mid o m journal journal_now count s t → d ≡ c → Enters t (LookRun run) u → run ≡ 1 → TakesOne mode d camera Mid New m n entry end u v → journal_after ≡ journal_now ++ entry ∷ []
+    → GoesOn mode c camera Old Mid o m journal journal_now count s t → d ≡ c → Enters t (LookRun run) u → run ≡ 1 → TakesOne mode d camera Mid New Own m n entry end u v → journal_after ≡ journal_now ++ entry ∷ []
     → end ≡ ends.GoesOn → GoesOn mode c camera Old New o n journal journal_after (count + 1) s v
 goes_on mode c d camera Old Mid New o m n journal journal_now journal_after count run entry end s t u v so config look one takes pushed fine = record {
   made = more.made ++ more.turned ∷ [];
   entries = more.entries;
   on = more.on;
+  own = more.own;
   number = omega (arith, length-append more.made (more.turned ∷ []), more.number);
   all = go_on-push more.made more.turned more.all (more.ended ∙ fine);
   journal_is = more.journal_is;
@@ -145,13 +159,14 @@ ends_in mode c camera Old New o n journal journal_after count turns end s v more
 )
 
 pub ends_fault : (mode : Mode) (c d : AcqConfig) (camera : Address) (Old Mid New : List Input → Type 0) (o m n : Outside) (journal journal_now journal_after : List Turn) (count turns run : ℕ) (entry : Turn) (end : TurnEnd) (s t u v : Token)
-    → GoesOn mode c camera Old Mid o m journal journal_now count s t → d ≡ c → Enters t (LookRun run) u → run ≡ 1 → TakesOne mode d camera Mid New m n entry end u v → journal_after ≡ journal_now ++ entry ∷ []
+    → GoesOn mode c camera Old Mid o m journal journal_now count s t → d ≡ c → Enters t (LookRun run) u → run ≡ 1 → TakesOne mode d camera Mid New Own m n entry end u v → journal_after ≡ journal_now ++ entry ∷ []
     → count < turns → end ≡ ends.Fault → Acquires mode c camera Old New o n journal journal_after turns how.Fault s v
 ends_fault mode c d camera Old Mid New o m n journal journal_now journal_after count turns run entry end s t u v so config look one takes pushed few is = record {
   made = more.made ++ more.turned ∷ [];
   entries = more.entries;
   middle = v;
   on = more.on;
+  own = more.own;
   last = refl;
   ends = ends_in mode c camera Old New o n journal journal_after count turns ends.Fault s v more few;
   journal_is = more.journal_is;
@@ -159,16 +174,17 @@ ends_fault mode c d camera Old Mid New o m n journal journal_now journal_after c
   where
     more : OneMore mode c camera Old New o n journal journal_after count ends.Fault s v
     more = one_more mode c d camera Old Mid New o m n journal journal_now journal_after count run entry ends.Fault s t u v so config look one
-        (subst (λ e. TakesOne mode d camera Mid New m n entry e u v) is takes) pushed
+        (subst (λ e. TakesOne mode d camera Mid New Own m n entry e u v) is takes) pushed
 
 pub ends_unanswered : (mode : Mode) (c d : AcqConfig) (camera : Address) (Old Mid New : List Input → Type 0) (o m n : Outside) (journal journal_now journal_after : List Turn) (count turns run req : ℕ) (entry : Turn) (end : TurnEnd) (s t u v : Token)
-    → GoesOn mode c camera Old Mid o m journal journal_now count s t → d ≡ c → Enters t (LookRun run) u → run ≡ 1 → TakesOne mode d camera Mid New m n entry end u v → journal_after ≡ journal_now ++ entry ∷ []
+    → GoesOn mode c camera Old Mid o m journal journal_now count s t → d ≡ c → Enters t (LookRun run) u → run ≡ 1 → TakesOne mode d camera Mid New Own m n entry end u v → journal_after ≡ journal_now ++ entry ∷ []
     → count < turns → end ≡ ends.NoAnswer req → Acquires mode c camera Old New o n journal journal_after turns (how.NoAnswer req) s v
 ends_unanswered mode c d camera Old Mid New o m n journal journal_now journal_after count turns run req entry end s t u v so config look one takes pushed few is = record {
   made = more.made ++ more.turned ∷ [];
   entries = more.entries;
   middle = v;
   on = more.on;
+  own = more.own;
   last = refl;
   ends = ends_in mode c camera Old New o n journal journal_after count turns (ends.NoAnswer req) s v more few;
   journal_is = more.journal_is;
@@ -176,16 +192,17 @@ ends_unanswered mode c d camera Old Mid New o m n journal journal_now journal_af
   where
     more : OneMore mode c camera Old New o n journal journal_after count (ends.NoAnswer req) s v
     more = one_more mode c d camera Old Mid New o m n journal journal_now journal_after count run entry (ends.NoAnswer req) s t u v so config look one
-        (subst (λ e. TakesOne mode d camera Mid New m n entry e u v) is takes) pushed
+        (subst (λ e. TakesOne mode d camera Mid New Own m n entry e u v) is takes) pushed
 
 pub ends_refused : (mode : Mode) (c d : AcqConfig) (camera : Address) (Old Mid New : List Input → Type 0) (o m n : Outside) (journal journal_now journal_after : List Turn) (count turns run status : ℕ) (entry : Turn) (end : TurnEnd) (s t u v : Token)
-    → GoesOn mode c camera Old Mid o m journal journal_now count s t → d ≡ c → Enters t (LookRun run) u → run ≡ 1 → TakesOne mode d camera Mid New m n entry end u v → journal_after ≡ journal_now ++ entry ∷ []
+    → GoesOn mode c camera Old Mid o m journal journal_now count s t → d ≡ c → Enters t (LookRun run) u → run ≡ 1 → TakesOne mode d camera Mid New Own m n entry end u v → journal_after ≡ journal_now ++ entry ∷ []
     → count < turns → end ≡ ends.Refused status → Acquires mode c camera Old New o n journal journal_after turns (how.Refused status) s v
 ends_refused mode c d camera Old Mid New o m n journal journal_now journal_after count turns run status entry end s t u v so config look one takes pushed few is = record {
   made = more.made ++ more.turned ∷ [];
   entries = more.entries;
   middle = v;
   on = more.on;
+  own = more.own;
   last = refl;
   ends = ends_in mode c camera Old New o n journal journal_after count turns (ends.Refused status) s v more few;
   journal_is = more.journal_is;
@@ -193,7 +210,7 @@ ends_refused mode c d camera Old Mid New o m n journal journal_now journal_after
   where
     more : OneMore mode c camera Old New o n journal journal_after count (ends.Refused status) s v
     more = one_more mode c d camera Old Mid New o m n journal journal_now journal_after count run entry (ends.Refused status) s t u v so config look one
-        (subst (λ e. TakesOne mode d camera Mid New m n entry e u v) is takes) pushed
+        (subst (λ e. TakesOne mode d camera Mid New Own m n entry e u v) is takes) pushed
 
 pub ends_stopped : (mode : Mode) (c : AcqConfig) (camera : Address) (Old New : List Input → Type 0) (o n : Outside) (journal journal_now : List Turn) (count turns run : ℕ) (s t u : Token)
     → GoesOn mode c camera Old New o n journal journal_now count s t → Enters t (LookRun run) u → run ≢ 1 → count < turns → Acquires mode c camera Old New o n journal journal_now turns how.Stopped s u
@@ -202,6 +219,7 @@ ends_stopped mode c camera Old New o n journal journal_now count turns run s t u
   entries = so.entries;
   middle = t;
   on = so.on;
+  own = so.own;
   last = record { run = run; stopped = other; enters = each_one t u (LookRun run) look refl };
   ends = (omega (arith, so.number, few), so.all);
   journal_is = so.journal_is;
@@ -214,6 +232,7 @@ ends_spent mode c camera Old New o n journal journal_now count turns s t so all 
   entries = so.entries;
   middle = t;
   on = so.on;
+  own = so.own;
   last = refl;
   ends = (so.number ∙ all, so.all);
   journal_is = so.journal_is;

@@ -11,3 +11,8 @@ pub mod OneTurn
 pub mod TurnLists
 pub mod AllTurns
 pub mod Filled
+pub mod Pacing
+pub mod Joined
+pub mod OfKind
+pub mod Whole
+pub mod Strict

@@ -61,22 +61,24 @@ sends_all ends.Fault asks done rest send is whole = (rest, append-nil asks ∙ (
 sends_all (ends.NoAnswer req) asks done rest send is whole = ap (λ l. l ++ []) (done_whole asks done rest is (whole (λ bad. let no : ⊥ = cc in absurd no)))
 sends_all (ends.Refused status) asks done rest send is whole = ap (λ l. l ++ []) (done_whole asks done rest is (whole (λ bad. let no : ⊥ = cc in absurd no)))
 
-pub takes_one : (mode : Mode) (c : AcqConfig) (camera : Address) (Old Mid New : List Input → Type 0) (r m h k l : Option (List Answer)) (w v x : Option (List (Address × List ℕ)))
-    (d b : Option (List ℕ)) (s u : Client) (answer : Answer) (e : Turn) (requests : List (List ℕ)) (was now : Bool) (end : TurnEnd) (p q : Token)
-    → Tells r m answer → Tells d b e.moment → (answer ≡ failed → was ≡ true) → e.datagram ≡ is_some (bytes_in answer)
-    → ServesTurn mode c Old Mid (bytes_in answer) e.moment (heard_of e) requests p q → ((i : List Input) → Mid i → New i)
+pub takes_one : (mode : Mode) (c : AcqConfig) (camera : Address) (Old Mid New : List Input → Type 0) (Says : ℕ → ℕ → Type 0) (r m h k l : Option (List Answer)) (w v x : Option (List (Address × List ℕ)))
+    (d b : Option (List ℕ)) (s u : Client) (answer : Answer) (e : Turn) (said : ℕ) (requests : List (List ℕ)) (was now : Bool) (end : TurnEnd) (p q : Token)
+    → Tells r m answer → Tells d b e.moment → Says e.moment said → (answer ≡ failed → was ≡ true) → e.datagram ≡ is_some (bytes_in answer)
+    → ServesTurn mode c Old Mid (bytes_in answer) said (heard_of e) requests p q → ((i : List Input) → Mid i → New i)
     → SendsOn camera requests was now w v → k ≡ h → ClientTurn camera s e.moment now end u k l v x
-    → TakesOne mode c camera Old New (record { received = r; heard = h; sent = w; told = d; client = s }) (record { received = m; heard = l; sent = x; told = b; client = u }) e end p q
-takes_one mode c camera Old Mid New r m h k l w v x d b s u answer e requests was now end p q received told lost datagram serves keeps sends same turn = record {
+    → TakesOne mode c camera Old New Says (record { received = r; heard = h; sent = w; told = d; client = s }) (record { received = m; heard = l; sent = x; told = b; client = u }) e end p q
+takes_one mode c camera Old Mid New Says r m h k l w v x d b s u answer e said requests was now end p q received told says lost datagram serves keeps sends same turn = record {
   turned = record {
     answer = answer;
     moment = e.moment;
+    told = said;
     given = serves.given;
     heard = turn.heard;
     sent = sends.done ++ sent_by end (control_of s turn.heard e.moment).send;
     end = end;
   };
   ended = refl;
+  says = says;
   takes = record {
     serves = record {
       events = serves.serves.events;

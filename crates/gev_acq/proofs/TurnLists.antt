@@ -14,7 +14,7 @@ use Rattle.gev_control.specs.declared.turn_end.TurnEnd.TheVariants as ends
 use Rattle.gev_acq.specs.Serving.{Serves}
 use Rattle.gev_control.specs.Controlled.{listed, control_of}
 use Rattle.gev_acq.specs.Turns.{Turned, inputs_of, Notes, IsControlled}
-use Rattle.gev_acq.specs.Acquired.{inputs_in, answers_in, moments_in, heards_in, sends_in, ServesTurns, NoteEach, ControlEach, AllGoOn}
+use Rattle.gev_acq.specs.Acquired.{inputs_in, answers_in, moments_in, heards_in, sends_in, ServesTurns, NoteEach, ControlEach, TellsOwn, AllGoOn}
 
 pub inputs-push : (ts : List Turned) (t : Turned) → inputs_in (ts ++ t ∷ []) ≡ inputs_in ts ++ inputs_of t
 inputs-push [] t = append-nil (inputs_of t)
@@ -35,6 +35,10 @@ heards-push (x ∷ ts) t = ap (λ l. listed x.heard ++ l) (heards-push ts t) ∙
 pub sends-push : (ts : List Turned) (t : Turned) → sends_in (ts ++ t ∷ []) ≡ sends_in ts ++ t.sent
 sends-push [] t = append-nil t.sent
 sends-push (x ∷ ts) t = ap (λ l. x.sent ++ l) (sends-push ts t) ∙ sym (append_assoc x.sent (sends_in ts) t.sent)
+
+pub own-push : (ts : List Turned) (t : Turned) → TellsOwn ts → t.told ≡ t.moment → TellsOwn (ts ++ t ∷ [])
+own-push [] t own more = (more, tt)
+own-push (x ∷ ts) t own more = (own.0, own-push ts t own.1 more)
 
 pub go_on-push : (ts : List Turned) (t : Turned) → AllGoOn ts → t.end ≡ ends.GoesOn → AllGoOn (ts ++ t ∷ [])
 go_on-push [] t on more = (more, tt)

@@ -83,6 +83,11 @@ pub record TurnsOn (mode : Mode) (c : AcqConfig) (camera : Address) (Old New : L
   pub sent : Adds o.sent n.sent (addressed camera (sends_in made))
   pub told : TellsEach o.told n.told (moments_in made)
 
+-- in each of these turns the receiver was told the turn's moment
+abbrev pub TellsOwn : List Turned → Type 0
+TellsOwn [] = ⊤
+TellsOwn (t ∷ ts) = (t.told ≡ t.moment) × TellsOwn ts
+
 -- ---- how it ended
 
 -- each of these turns went on
@@ -120,12 +125,14 @@ LooksLast how.Fault s u = u ≡ s
 LooksLast (how.NoAnswer req) s u = u ≡ s
 LooksLast (how.Refused status) s u = u ≡ s
 
--- The reader made turns, at most the asked number, and ended so. The journal has an entry more for each.
+-- The reader made turns, at most the asked number, and ended so; in each the receiver was told the turn's moment. The
+-- journal has an entry more for each.
 pub record Acquires (mode : Mode) (c : AcqConfig) (camera : Address) (Old New : List Input → Type 0) (o n : Outside) (journal journal_after : List Turn) (turns : ℕ) (end : AcqEnd) (s u : Token) : Type 0 where
   pub made : List Turned
   pub entries : List Turn
   pub middle : Token
   pub on : TurnsOn mode c camera Old New o n made entries s middle
+  pub own : TellsOwn made
   pub last : LooksLast end middle u
   pub ends : EndsBy end turns made
   pub journal_is : journal_after ≡ journal ++ entries

@@ -9,4 +9,8 @@ pub mod Turning
 pub mod Turns
 pub mod Reading
 pub mod Acquired
+pub mod Moments
 pub mod Laws
+pub mod Kinds
+pub mod Reads
+pub mod History

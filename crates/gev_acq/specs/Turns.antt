@@ -22,6 +22,8 @@ pub record Turned : Type 0 where
   -- what the receive on the stream gave
   pub answer : Answer
   pub moment : ℕ
+  -- the moment that the receiver was told
+  pub told : ℕ
   -- the outcome of the claim, where one was made
   pub given : Option (Option Given)
   -- what the receive on the control link gave; None where a link had failed before it
@@ -36,17 +38,17 @@ bytes_in nothing = None
 bytes_in failed = None
 bytes_in (came bytes peer) = Some bytes
 
--- the inputs of the turn before its moment
+-- the inputs of the turn before the moment
 abbrev pub inputs_before : Turned → List Input
 inputs_before t = inputs_if (bytes_in t.answer) t.given
 
--- the inputs of a turn: the datagram, a claim's outcome and the datagram again where one was made, the moment
+-- the inputs of a turn: the datagram, a claim's outcome and the datagram again where one was made, the moment told
 abbrev pub inputs_of : Turned → List Input
-inputs_of t = inputs_before t ++ tick t.moment ∷ []
+inputs_of t = inputs_before t ++ tick t.told ∷ []
 
--- the requests that the turn's moment brings
+-- the requests that the moment told brings
 abbrev pub asks_of : AcqConfig → List Input → Turned → List (List ℕ)
-asks_of c q t = map request_bytes (turn c (q ++ inputs_before t) (tick t.moment)).requests
+asks_of c q t = map request_bytes (turn c (q ++ inputs_before t) (tick t.told)).requests
 
 abbrev pub heard_of : Turn → Heard
 heard_of e = record { kept = e.kept; opened = e.opened; claim = e.claim }
@@ -95,8 +97,9 @@ pub record TakesTurn (mode : Mode) (c : AcqConfig) (camera : Address) (Old New :
   pub heard : TellsEach o.heard n.heard (listed t.heard)
   pub sent : Adds o.sent n.sent (addressed camera t.sent)
 
--- the same of some turn that ended so
-pub record TakesOne (mode : Mode) (c : AcqConfig) (camera : Address) (Old New : List Input → Type 0) (o n : Outside) (e : Turn) (end : TurnEnd) (s u : Token) : Type 0 where
+-- The same of some turn that ended so. Says is which moment the receiver may be told in a turn, by the turn's own.
+pub record TakesOne (mode : Mode) (c : AcqConfig) (camera : Address) (Old New : List Input → Type 0) (Says : ℕ → ℕ → Type 0) (o n : Outside) (e : Turn) (end : TurnEnd) (s u : Token) : Type 0 where
   pub turned : Turned
   pub ended : turned.end ≡ end
+  pub says : Says turned.moment turned.told
   pub takes : TakesTurn mode c camera Old New o n turned e s u

@@ -9,8 +9,9 @@ ghost use Rattle.gev_acq.specs.Buffers.{Backs, HoldsAlone};
 ghost use Rattle.gev_acq.specs.Reading.{FaultsOf};
 ghost use Rattle.gev_acq.specs.Acquired.{Acquires};
 
+use crate::moments::HostMoments;
+use crate::reader_turn::turn_once;
 use crate::turn::Turn;
-use crate::turn_once::turn_once;
 use acq_core::Acq;
 use buffer_words::{Board, Pass};
 use control_client::Client;
@@ -64,13 +65,26 @@ pub fn acquire<R: Wait, L: Link, M: Link, C: Clock, G: Gate>(
     ensures alone { HoldsAlone pass.old (buffers acq.old) → HoldsAlone pass.new (buffers acq.new) }
 {
     let mut out = [0; RECEIVE_ROOM];
+    let mut moments = HostMoments;
     for _turn in 0..turns {
         let run = board.look_run(pass);
         if run != 1 {
             return AcqEnd::Stopped;
         }
         let (turn, end) = turn_once(
-            rt, board, pass, acq, client, stream, control, clock, gate, camera, &mut out, mode,
+            rt,
+            board,
+            pass,
+            acq,
+            client,
+            stream,
+            control,
+            clock,
+            gate,
+            camera,
+            &mut out,
+            &mut moments,
+            mode,
         );
         journal.push_reserved(turn);
         match end {

@@ -48,16 +48,19 @@ pub fn apply<R: Wait, C: Clock, G: Gate>(
                     taken += 1;
                     rest.found();
                 }
-                LookEnd::Idle => {
-                    let micros = rest.micros();
-                    if micros > 0 {
-                        gate.rest(rt, rings, micros);
-                    }
-                }
+                LookEnd::Idle => rest_at(rt, gate, &mut rest, rings),
                 LookEnd::Over => return Ok(taken),
             },
             Err(error) => return Err(error),
         }
     }
     unreachable!()
+}
+
+/// Rests at the gate where it's time to, until it's rung for another time than these.
+fn rest_at<R: Wait, G: Gate>(rt: &R, gate: &G, rest: &mut Rest, rings: u64) {
+    let micros = rest.micros();
+    if micros > 0 {
+        gate.rest(rt, rings, micros);
+    }
 }

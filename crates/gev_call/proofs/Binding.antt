@@ -2,7 +2,7 @@
 use Rattle.std.proofs.Common.{◌≡◌, List, [], ◌∷◌, Option, Some, None, sym, subst}
 use Rattle.std.specs.Prelude.{IfSome}
 use Rattle.gev_links.specs.Links.{Address}
-use Rattle.gev_binding.specs.Bound.{AllToldOfThree}
+use Rattle.gev_call.specs.Bound.{AllToldOfThree}
 use Rattle.gev_call.specs.Runs.{IsBound}
 
 -- Of what was kept, with links and clocks that stood still meanwhile.

@@ -1,3 +1,4 @@
+pub mod Backs
 pub mod Counted
 pub mod Errands
 pub mod Answered

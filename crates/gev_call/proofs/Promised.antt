@@ -4,11 +4,11 @@ use Rattle.board_machine.specs.declared.events.Entry.{Entry}
 use Rattle.board_machine.specs.Histories.{Run}
 use Rattle.gev_links.specs.Links.{Address, Answer}
 use Rattle.gev_status.specs.declared.status.Status.{Status}
-use Rattle.gev_binding.specs.Bound.{AllToldOfThree}
+use Rattle.gev_call.specs.Bound.{AllToldOfThree}
 use Rattle.gev_top.specs.declared.live_numbers.LiveNumbers.{LiveNumbers}
 use Rattle.gev_live.specs.Told.{Told}
 use Rattle.live_promises.proofs.Keeping.{live_runs_keep}
-use Rattle.lanes_promises.proofs.Keeping.{lane_runs_keep}
+use Rattle.live_promises.proofs.LanesKeeping.{lane_runs_keep}
 use Rattle.gev_call.specs.Runs.{IsUntold, told_by, numbers_of, RunsSo, KeepsSo, RunsOver}
 
 -- three members that came back to an empty list are the list

@@ -6,7 +6,7 @@ use Rattle.gev_status.specs.declared.status.Status.{Status}
 use Rattle.gev_status.specs.declared.status.Status.TheVariants.{Done, Usage, BadScript, ReadFault, WriteFault, LinkFault, NoMemory, NoAnswer, Refused, TurnsSpent, BadCapture, NoPicture, Silent, Controlled, NoDescription, ControlLost, NoDatagram, RefusedAt}
 use Rattle.mode_calls.specs.declared.mode.Mode.{Mode}
 use Rattle.mode_calls.specs.declared.mode.Mode.TheVariants.{OldestFirst}
-use Rattle.gev_binding.specs.Bound.{AllToldOfThree}
+use Rattle.gev_call.specs.Bound.{AllToldOfThree}
 use Rattle.gev_top.specs.declared.live_numbers.LiveNumbers.{LiveNumbers}
 use Rattle.gev_top.specs.Completeness.{NoneRose, EndsLive}
 use Rattle.gev_live.specs.Told.{Told}

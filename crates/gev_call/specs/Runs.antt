@@ -4,7 +4,7 @@ use mathlib.Core.Logic.{inl, inr}
 use Rattle.board_machine.specs.declared.events.Entry.{Entry}
 use Rattle.gev_links.specs.Links.{Address, Answer, IsBlank}
 use Rattle.gev_links.specs.PortsState.{IsNew}
-use Rattle.gev_binding.specs.Bound.{AllToldOfThree, GivesBack, more_binds}
+use Rattle.gev_call.specs.Bound.{AllToldOfThree, GivesBack, more_binds}
 use Rattle.gev_serve.specs.Wires.{Wire, wire}
 use Rattle.gev_status.specs.declared.status.Status.{Status}
 use Rattle.gev_status.specs.declared.status.Status.TheVariants.{LinkFault, NoMemory}
@@ -13,7 +13,7 @@ use Rattle.gev_live.specs.Told.{Told}
 use Rattle.gev_live.specs.LiveRun.{Numbers, RunsLive}
 use Rattle.live_promises.specs.Promises.{KeepsLivePromises}
 use Rattle.live_lanes.specs.LanesRun.{RunsLanes}
-use Rattle.lanes_promises.specs.Promises.{KeepsLanesPromises}
+use Rattle.live_promises.specs.LanesPromises.{KeepsLanesPromises}
 use Rattle.live_recording.specs.Recorded.{RecordsLive}
 
 -- what these three links and three clocks tell

@@ -1,7 +1,7 @@
 ghost use Rattle.std.specs.Prelude.{◌≡◌, ◌≤◌, IfOk, OnErr};
 ghost use Rattle.gev_links.specs.Faults.{Rose};
 ghost use Rattle.gev_links.specs.Given.{one_more, ToldOfThree};
-ghost use Rattle.gev_links.specs.Links.{IsBlank};
+ghost use Rattle.gev_links.specs.Links.{Address, IsBlank};
 
 use gev_links::{Failed, Ports};
 use gev_types::Peer;
@@ -9,6 +9,10 @@ use gev_types::Peer;
 /// Ports whose links reach the network. A call binds one link, as `bind` does, and counts as one of its calls; the
 /// link's receives wait a little where nothing came.
 pub trait FarPorts: Ports {
+    /// Whether a link that was asked for at the first address may have the second: just the first one, where the
+    /// ports reach the network; ports in memory give links with addresses of their own.
+    ghost stands_at: { Address → Address → Type 0 };
+
     /// A new link, at that address of this machine from which datagrams go to this peer, with a port of its own.
     fn bind_towards(&mut self, peer: Peer) -> Result<(Self::L, Peer), Failed>
         ensures unheard { IfOk result (λ bound. IsBlank (Self.L.received bound.0)) }
@@ -24,8 +28,9 @@ pub trait FarPorts: Ports {
         ensures failed { OnErr result (Rose (Self.faults self.old) (Self.faults self.new)) }
         ensures never_falls { Self.faults self.old ≤ Self.faults self.new };
 
-    /// A new link at this address of this machine and this port.
+    /// A new link at this address of this machine and this port, which isn't 0.
     fn bind_at(&mut self, own: Peer) -> Result<(Self::L, Peer), Failed>
+        ensures at { IfOk result (λ bound. stands_at own bound.1) }
         ensures unheard { IfOk result (λ bound. IsBlank (Self.L.received bound.0)) }
         ensures unsent { IfOk result (λ bound. IsBlank (Self.L.sent bound.0)) }
         ensures no_fault_of_it { IfOk result (λ bound. Self.L.faults bound.0 ≡ 0) }

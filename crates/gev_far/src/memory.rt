@@ -1,5 +1,7 @@
 //! The forms in memory: links show the next member of their list, and ports give their links in order.
 
+ghost use Rattle.std.specs.Prelude.{⊤};
+
 use crate::far_ports::FarPorts;
 use crate::peek_link::PeekLink;
 use gev_links::{CountsFaults, Failed, MemoryLink, MemoryPorts, Ports};
@@ -15,6 +17,8 @@ impl<'a> PeekLink for MemoryLink<'a> {
 }
 
 impl<'a, L: CountsFaults + Send + Drop> FarPorts for MemoryPorts<'a, L> {
+    ghost stands_at = { λ asked bound. ⊤ };
+
     fn bind_towards(&mut self, _peer: Peer) -> Result<(L, Peer), Failed> {
         self.bind()
     }

@@ -1,7 +1,7 @@
 -- What is done at one lane's ends, and that the ends stay that lane's.
 use Rattle.std.proofs.Common.{◌≡◌, ℕ, zero, suc, ◌<◌, Bool, true, false, List, [], ◌∷◌, length, get_or, Option, Some, None, refl, ap, sym, ◌∙◌, subst, inl, inr, arith}
 use Rattle.std.specs.Prelude.{slice_get, slice_set, nat_lt, MatchBool, IsSome}
-use Rattle.lane_queues.specs.Ends.{GiverEnd, TakerEnd, gave, took}
+use Rattle.gev_lanes.specs.LineEnds.{GiverEnd, TakerEnd, gave, took}
 use Rattle.gev_lanes.specs.declared.cell.Cell.{Cell}
 use Rattle.gev_lanes.specs.declared.parts.LaneQueues.{LaneQueues}
 use Rattle.gev_lanes.specs.declared.parts.ReaderLane.{ReaderLane}

@@ -1,6 +1,6 @@
 -- What the reader and a lane do at their ends of the queues, each as what it makes of the ends.
 use Rattle.std.specs.Prelude.{◌≡◌, ◌⊎◌, ℕ, Bool, true, false, nat_lt, MatchBool, List, [], ◌∷◌, slice_get, slice_set, Option, Some, None}
-use Rattle.lane_queues.specs.Ends.{GiverEnd, TakerEnd, gave, refused, took, missed, WasEmpty, WasFull}
+use Rattle.gev_lanes.specs.LineEnds.{GiverEnd, TakerEnd, gave, refused, took, missed, WasEmpty, WasFull}
 use Rattle.gev_lanes.specs.declared.cell.Cell.{Cell}
 use Rattle.gev_lanes.specs.declared.parts.ReaderLane.{ReaderLane}
 use Rattle.gev_lanes.specs.Messages.{Message, heard, told, ended, message_of}

@@ -1,3 +1,5 @@
+pub mod LineRule
+pub mod LineEnds
 pub mod Sides
 pub mod Messages
 pub mod Acts

@@ -1,6 +1,6 @@
 -- The ends of the lanes' queues: whose they are, how they are when they are new, and what is known where they meet.
 use Rattle.std.specs.Prelude.{◌≡◌, ⊤, ℕ, suc, List, [], ◌∷◌, length, slice_get, Some, IsSome}
-use Rattle.lane_queues.specs.Ends.{BeginsWith}
+use Rattle.gev_lanes.specs.LineEnds.{BeginsWith}
 use Rattle.gev_lanes.specs.declared.parts.LaneQueues.{LaneQueues}
 use Rattle.gev_lanes.specs.declared.parts.ReaderLane.{ReaderLane}
 use Rattle.gev_lanes.specs.declared.parts.LaneHands.{LaneHands}

@@ -5,8 +5,9 @@ ghost use Rattle.gev_lanes.specs.Acts.{Puts};
 
 use crate::cell::Cell;
 use crate::ends::{LaneEnds, Lanes};
+use crate::line::Line;
+use crate::line_ends::Giver;
 use crate::parts::LaneQueues;
-use lane_queues::{Giver, Line};
 use std::sync::Wait;
 
 // The queues of the lane with this number.

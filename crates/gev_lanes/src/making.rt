@@ -5,9 +5,10 @@ ghost use Rattle.gev_lanes.specs.Sides.{CELLS as MANY, IsNew};
 
 use crate::cell::{Cell, CellKind};
 use crate::ends::LaneEnds;
+use crate::line::Line;
+use crate::line_ends::Start;
 use crate::parts::{LaneHands, LaneQueues, ReaderLane};
 use gev_types::{Bytes, NoMemory};
-use lane_queues::{Line, Start};
 use std::alloc::{AllocError, Global};
 
 // How many cells a lane has for datagrams and moments, and how many requests may wait.

@@ -1,5 +1,6 @@
 use crate::cell::Cell;
-use lane_queues::{Giver, Line, Taker};
+use crate::line::Line;
+use crate::line_ends::{Giver, Taker};
 
 /// The three queues of a lane: the free cells, the cells on their way to the lane, and the lane's requests.
 #[derive(Drop)]

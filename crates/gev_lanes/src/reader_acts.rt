@@ -1,7 +1,7 @@
 //! What the reader does at one lane's queues.
 
 ghost use Rattle.std.specs.Prelude.{◌≡◌, ◌≤◌, [], ◌∷◌, length, true, nat_lt, Some, IsSome, IfSome, IfNone};
-ghost use Rattle.lane_queues.specs.Ends.{gave, took};
+ghost use Rattle.gev_lanes.specs.LineEnds.{gave, took};
 ghost use Rattle.gev_lanes.specs.Sides.{IsReaderOf};
 ghost use Rattle.gev_lanes.specs.Messages.{heard, told};
 ghost use Rattle.gev_lanes.specs.Acts.{Brings, Tries, Hears, Ticks, Ends as BringsEnd, Asked};

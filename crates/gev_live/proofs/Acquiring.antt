@@ -17,7 +17,7 @@ use Rattle.buffer_words.specs.Workers.{AreEvents, OnlyBy}
 use Rattle.mode_calls.specs.declared.mode.Mode.{Mode}
 use Rattle.mode_calls.specs.declared.mode.Mode.TheVariants.{OldestFirst, OldestFirstOverwrite, NewestOnly}
 use Rattle.mode_calls.specs.Dropped.{handed_out_items, others}
-use Rattle.gev_crew.specs.Prepared.{Prepares}
+use Rattle.live_crew.specs.Prepared.{Prepares}
 use Rattle.gev_live.specs.Kinds.{is_filling, is_taking}
 use Rattle.gev_live.specs.Acquirers.{is_claim, acquires, handed_out, takers, DropsNothing}
 use Rattle.gev_live.proofs.Quiet.{is_beginning, beginning_are, begins_untaken, taken_takes, takes_by}

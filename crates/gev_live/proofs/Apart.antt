@@ -6,8 +6,8 @@ use Rattle.board_machine.specs.declared.events.Event.TheVariants.{LookOut, LookR
 use Rattle.buffer_words.specs.Workers.{AreApart, AreOf, OnlyBy, IsChildless}
 use Rattle.mode_calls.specs.declared.mode.Mode.{Mode}
 use Rattle.mode_calls.specs.declared.mode.Mode.TheVariants.{OldestFirst}
-use Rattle.gev_crew.specs.Kinds.{is_cameras, is_applications, is_hosts}
-use Rattle.gev_reader.specs.Kinds.{is_readers, is_strict_readers}
+use Rattle.live_crew.specs.Kinds.{is_cameras, is_applications, is_hosts}
+use Rattle.gev_acq.specs.Kinds.{is_readers, is_strict_readers}
 use Rattle.gev_live.specs.Kinds.{is_live, is_filling, is_taking, is_handing}
 
 -- what isn't of a live run

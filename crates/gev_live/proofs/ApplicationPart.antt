@@ -9,7 +9,7 @@ use Rattle.mode_calls.specs.declared.mode.Mode.{Mode}
 use Rattle.buffer_words.specs.Passes.{Token, own}
 use Rattle.gev_apply.specs.History.{StopsAfter}
 use Rattle.gev_apply.proofs.Whole.{part_stays}
-use Rattle.gev_crew.specs.Work.{StopsIf, AppliesAndStops}
+use Rattle.live_crew.specs.Work.{StopsIf, AppliesAndStops}
 use Rattle.gev_live.specs.Acquirers.{handed_out, DropsNothing}
 use Rattle.gev_live.specs.Parts.{LiveApplication}
 

@@ -18,7 +18,7 @@ use Rattle.gev_serve.specs.Wires.{Wire, SendEnd, send_failed, gave_up, EndsSendi
 use Rattle.gev_serve.specs.Turns.{Served, answer_with, framed_turn, sent_in, after_turns, sent_over, answers_in, moments_in, looks_in}
 use Rattle.gev_serve.specs.Serving.{TurnsOn, MakesPart, EndsMissing, EndsCut, ServesTo}
 use Rattle.gev_apply.proofs.Whole.{Later, later}
-use Rattle.gev_crew.specs.Work.{most_turns, has_failed, StopsIf}
+use Rattle.live_crew.specs.Work.{most_turns, has_failed, StopsIf}
 use Rattle.gev_live.specs.Parts.{LiveCamera, EndsLooks, LiveServes}
 use Rattle.gev_live.proofs.ApplicationPart.{stops_after}
 

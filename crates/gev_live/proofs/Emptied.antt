@@ -22,12 +22,12 @@ use Rattle.mode_calls.specs.declared.mode.Mode.{Mode}
 use Rattle.gev_control.specs.declared.acq_end.AcqEnd.{AcqEnd}
 use Rattle.gev_acq.specs.Turns.{Turned}
 use Rattle.gev_acq.specs.Acquired.{inputs_in}
-use Rattle.gev_reader.specs.History.{LiveReading}
+use Rattle.gev_acq.specs.History.{LiveReading}
 use Rattle.gev_apply.specs.Looks.{Looked}
 use Rattle.gev_apply.specs.Applied.{EndsStopped}
 use Rattle.gev_apply.specs.History.{LiveTakes}
 use Rattle.gev_apply.proofs.OfKind.{turns_are}
-use Rattle.gev_crew.specs.Prepared.{Prepares}
+use Rattle.live_crew.specs.Prepared.{Prepares}
 use Rattle.gev_live.specs.Kinds.{is_filling}
 use Rattle.gev_live.specs.History.{Crew, workers_of, live_size, LiveHistory}
 use Rattle.gev_live.proofs.Quiet.{is_beginning, beginning_are, never_closed}

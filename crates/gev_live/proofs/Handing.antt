@@ -24,10 +24,10 @@ use Rattle.gev_control.specs.declared.acq_end.AcqEnd.{AcqEnd}
 use Rattle.gev_control.specs.declared.acq_end.AcqEnd.TheVariants as reads
 use Rattle.gev_acq.specs.Turns.{Turned}
 use Rattle.gev_apply.specs.Applied.{IsEnough}
-use Rattle.gev_reader.specs.History.{LiveReading}
-use Rattle.gev_crew.specs.Prepared.{Prepares, SawOnly}
-use Rattle.gev_crew.specs.Kinds.{is_hosts}
-use Rattle.gev_crew.specs.Work.{StopsIf, has_failed, most_turns, ServesAndStops}
+use Rattle.gev_acq.specs.History.{LiveReading}
+use Rattle.live_crew.specs.Prepared.{Prepares, SawOnly}
+use Rattle.live_crew.specs.Kinds.{is_hosts}
+use Rattle.live_crew.specs.Work.{StopsIf, has_failed, most_turns, ServesAndStops}
 use Rattle.gev_live.specs.History.{Crew, LiveHistory}
 use Rattle.gev_live.specs.Endings.{taken_of, camera_status, status_by, is_told, FailsLast}
 use Rattle.gev_live.specs.Parts.{LiveApplication}

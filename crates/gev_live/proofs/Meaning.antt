@@ -18,7 +18,7 @@ use Rattle.gev_control.proofs.OrderEnds.{ends_as_client}
 use Rattle.client_machine.specs.Machine.{Client}
 use Rattle.gev_acq.specs.Reading.{FaultsOf}
 use Rattle.gev_acq.specs.Turns.{Turned}
-use Rattle.gev_reader.specs.Reads.{EndsAfter, IsSetUp}
+use Rattle.gev_acq.specs.Reads.{EndsAfter, IsSetUp}
 use Rattle.gev_apply.specs.Looks.{Looked}
 use Rattle.camera_machine.specs.Camera.{Camera}
 use Rattle.gev_live.specs.Told.{Told}

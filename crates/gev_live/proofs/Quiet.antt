@@ -15,7 +15,7 @@ use Rattle.board_machine.specs.Adding.{entries_of}
 use Rattle.board_calls.specs.Rounds.{refused_from}
 use Rattle.board_calls.specs.Calls.{OpensWith}
 use Rattle.buffer_words.specs.Workers.{AreOf, AreEvents, OnlyBy}
-use Rattle.gev_crew.specs.Prepared.{PreparesOne, PreparesEach, Prepares}
+use Rattle.live_crew.specs.Prepared.{PreparesOne, PreparesEach, Prepares}
 use Rattle.gev_live.specs.Kinds.{is_live, is_taking}
 
 -- ---- the beginning

@@ -15,11 +15,11 @@ use Rattle.board_machine.proofs.Quiet.{open_takes_fills}
 use Rattle.buffer_words.specs.Passes.{Token, own, Enters}
 use Rattle.buffer_words.specs.Workers.{AreOf, OnlyBy, Works, HostedAll}
 use Rattle.buffer_words.proofs.Working.{works_own, own_for_good}
-use Rattle.gev_crew.specs.Prepared.{Prepares, SawOnly}
-use Rattle.gev_crew.specs.Kinds.{is_cameras, is_applications, is_hosts}
-use Rattle.gev_crew.specs.Homes.{CameHome, CrewHome}
-use Rattle.gev_crew.proofs.Crews.{home_worker, crew_hosted, crew_apart}
-use Rattle.gev_reader.specs.Kinds.{is_readers, is_strict_readers}
+use Rattle.live_crew.specs.Prepared.{Prepares, SawOnly}
+use Rattle.live_crew.specs.Kinds.{is_cameras, is_applications, is_hosts}
+use Rattle.live_crew.specs.Homes.{CameHome, CrewHome}
+use Rattle.live_crew.proofs.Crews.{home_worker, crew_hosted, crew_apart}
+use Rattle.gev_acq.specs.Kinds.{is_readers, is_strict_readers}
 use Rattle.mode_calls.specs.declared.mode.Mode.{Mode}
 use Rattle.mode_calls.specs.declared.mode.Mode.TheVariants.{OldestFirst, OldestFirstOverwrite, NewestOnly}
 use Rattle.gev_live.specs.Kinds.{is_live, is_filling, is_taking, is_handing}

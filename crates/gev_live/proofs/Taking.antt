@@ -12,8 +12,8 @@ use Rattle.gev_serve.specs.declared.ends.ServeEnd.{ServeEnd}
 use Rattle.gev_serve.specs.Wires.{Wire}
 use Rattle.gev_control.specs.declared.acq_end.AcqEnd.{AcqEnd}
 use Rattle.gev_acq.specs.declared.turn.Turn.{Turn}
-use Rattle.gev_reader.specs.Reads.{Reads}
-use Rattle.gev_crew.specs.Work.{ServesAndStops, AppliesAndStops}
+use Rattle.gev_acq.specs.Reads.{Reads}
+use Rattle.live_crew.specs.Work.{ServesAndStops, AppliesAndStops}
 
 abbrev outside : Option (List Answer) → Option (List Answer) → Option (List (Address × List ℕ)) → Option (List ℕ) → Client → Outside
 outside received heard sent told client = record { received = received; heard = heard; sent = sent; told = told; client = client }

@@ -21,12 +21,12 @@ use Rattle.gev_serve.specs.declared.ends.ServeEnd.{ServeEnd}
 use Rattle.gev_control.specs.declared.acq_end.AcqEnd.{AcqEnd}
 use Rattle.gev_status.specs.declared.status.Status.{Status}
 use Rattle.gev_status.specs.declared.status.Status.TheVariants.{NoMemory}
-use Rattle.gev_crew.specs.Prepared.{Prepares, SawOnly}
+use Rattle.live_crew.specs.Prepared.{Prepares, SawOnly}
 use Rattle.mode_calls.specs.declared.mode.Mode.{Mode}
-use Rattle.gev_reader.specs.Kinds.{is_readers, is_strict_readers}
-use Rattle.gev_reader.specs.History.{LiveReading}
-use Rattle.gev_reader.proofs.Whole.{part_stays, part_fills, part_sized}
-use Rattle.gev_reader.proofs.Strict.{part_lays_nothing}
+use Rattle.gev_acq.specs.Kinds.{is_readers, is_strict_readers}
+use Rattle.gev_acq.specs.History.{LiveReading}
+use Rattle.gev_acq.proofs.Whole.{part_stays, part_fills, part_sized}
+use Rattle.gev_acq.proofs.Strict.{part_lays_nothing}
 use Rattle.gev_live.specs.Told.{Told, reader_side, live_config, live_camera}
 use Rattle.gev_live.specs.History.{live_size, LiveHistory}
 use Rattle.gev_live.specs.Acquirers.{acquires}
@@ -43,8 +43,8 @@ use Rattle.gev_live.proofs.ApplicationPart.{application_part}
 use Rattle.gev_live.specs.Parts.{LiveCamera, LiveApplication}
 use Rattle.gev_live.proofs.Meaning.{links_stay, link_failed, answer_means, spent_all, never_spent}
 use Rattle.buffer_words.proofs.Working.{works_own}
-use Rattle.gev_crew.specs.Kinds.{is_cameras, is_applications, is_hosts}
-use Rattle.gev_crew.proofs.Crews.{home_worker, crew_hosts}
+use Rattle.live_crew.specs.Kinds.{is_cameras, is_applications, is_hosts}
+use Rattle.live_crew.proofs.Crews.{home_worker, crew_hosts}
 use Rattle.gev_live.proofs.Handing.{camera_stops_nothing, host_stops_nothing, all_or_empty}
 use Rattle.gev_live.proofs.Stories.{seen_more, prefix_then, home_own, home_prefix, Story, crew_of, live_history}
 

@@ -20,7 +20,7 @@ use Rattle.gev_acq.specs.Filling.{laid_unless, FillsOne, FillsRetiredFor}
 use Rattle.gev_acq.specs.Turns.{Turned, inputs_of}
 use Rattle.gev_acq.specs.Acquired.{ServesTurns}
 use Rattle.gev_apply.specs.Kinds.{is_turns}
-use Rattle.gev_reader.specs.Reads.{LastLook}
+use Rattle.gev_acq.specs.Reads.{LastLook}
 
 -- no event is a stop
 abbrev pub Unstopped : List Event → Type 0

@@ -26,8 +26,8 @@ use Rattle.gev_acq.specs.Serving.{ClaimsOf, Serves}
 use Rattle.gev_acq.specs.Filling.{FillsRetiredFor}
 use Rattle.gev_acq.specs.Turns.{Turned, inputs_of}
 use Rattle.gev_acq.specs.Acquired.{inputs_in, ServesTurns}
-use Rattle.gev_reader.specs.Reads.{LastLook}
-use Rattle.gev_reader.specs.History.{LiveReading}
+use Rattle.gev_acq.specs.Reads.{LastLook}
+use Rattle.gev_acq.specs.History.{LiveReading}
 use Rattle.gev_live.specs.Acquirers.{is_claim, acquires}
 
 -- ---- events without a claim

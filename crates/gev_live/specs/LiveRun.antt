@@ -13,7 +13,7 @@ use Rattle.gev_control.specs.declared.acq_end.AcqEnd.{AcqEnd}
 use Rattle.gev_control.specs.declared.acq_end.AcqEnd.TheVariants as reads
 use Rattle.gev_status.specs.declared.status.Status.{Status}
 use Rattle.gev_status.specs.declared.status.Status.TheVariants as status
-use Rattle.gev_crew.specs.Prepared.{FallsShort}
+use Rattle.live_crew.specs.Prepared.{FallsShort}
 use Rattle.board_machine.specs.Adding.{entries_of}
 use Rattle.board_machine.specs.declared.events.Event.{Event}
 use Rattle.gev_live.specs.Told.{Told, live_config, live_camera}

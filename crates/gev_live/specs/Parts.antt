@@ -21,8 +21,8 @@ use Rattle.gev_acq.specs.Reading.{FaultsOf}
 use Rattle.gev_acq.specs.Claims.{claims_in}
 use Rattle.gev_acq.specs.Turns.{Turned}
 use Rattle.gev_acq.specs.Acquired.{inputs_in}
-use Rattle.gev_reader.specs.Reads.{ReadsOn}
-use Rattle.gev_reader.specs.History.{LiveReading, AreSized}
+use Rattle.gev_acq.specs.Reads.{ReadsOn}
+use Rattle.gev_acq.specs.History.{LiveReading, AreSized}
 use Rattle.board_machine.specs.Handout.{taken_items}
 use Rattle.mode_calls.specs.declared.mode.Mode.{Mode}
 use Rattle.gev_live.specs.Acquirers.{handed_out, DropsNothing}
@@ -36,7 +36,7 @@ use Rattle.gev_apply.specs.Looks.{Looked, lent_in, lines_of}
 use Rattle.gev_apply.specs.Looks as application
 use Rattle.gev_apply.specs.Applied.{IsEnough}
 use Rattle.gev_apply.specs.History.{IsStopAfter, LiveTakes}
-use Rattle.gev_crew.specs.Work.{most_turns, has_failed, has_enough}
+use Rattle.live_crew.specs.Work.{most_turns, has_failed, has_enough}
 use Rattle.gev_live.specs.Told.{Told, reader_side}
 use Rattle.gev_live.specs.History.{live_size}
 

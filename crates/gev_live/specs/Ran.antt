@@ -17,11 +17,11 @@ use Rattle.gev_control.specs.declared.acq_end.AcqEnd.{AcqEnd}
 use Rattle.gev_control.specs.Ends.{is_fault_end}
 use Rattle.gev_acq.specs.declared.turn.Turn.{Turn}
 use Rattle.gev_acq.specs.Reading.{FaultsOf}
-use Rattle.gev_reader.specs.Kinds.{is_readers}
-use Rattle.gev_reader.specs.Reads.{Reads}
-use Rattle.gev_crew.specs.Kinds.{is_cameras, is_applications}
-use Rattle.gev_crew.specs.Homes.{CrewHome}
-use Rattle.gev_crew.specs.Work.{ServesAndStops, AppliesAndStops}
+use Rattle.gev_acq.specs.Kinds.{is_readers}
+use Rattle.gev_acq.specs.Reads.{Reads}
+use Rattle.live_crew.specs.Kinds.{is_cameras, is_applications}
+use Rattle.live_crew.specs.Homes.{CrewHome}
+use Rattle.live_crew.specs.Work.{ServesAndStops, AppliesAndStops}
 use Rattle.gev_live.specs.Told.{Told, reader_side}
 
 -- The workers' passes a, b and d were split off from the token s on and joined up to the token u, and each worker

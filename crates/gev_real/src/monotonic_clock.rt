@@ -5,6 +5,11 @@ use std::time::{Clock as Time, Instant};
 
 /// The system's monotonic clock, in milliseconds since the first moment that it told. It tells nothing of
 /// its moments. Where the system gives no moment it repeats the last one.
+///
+/// ```
+/// let mut clock = MonotonicClock::new(&rt);
+/// acq.tick(clock.now());
+/// ```
 #[derive(Drop)]
 pub struct MonotonicClock<'a, T: Time> {
     time: &'a T,
@@ -14,7 +19,7 @@ pub struct MonotonicClock<'a, T: Time> {
 
 impl<'a, T: Time> MonotonicClock<'a, T> {
     /// A clock that has told no moment yet.
-    pub(crate) fn new(time: &'a T) -> MonotonicClock<'a, T> {
+    pub fn new(time: &'a T) -> MonotonicClock<'a, T> {
         MonotonicClock {
             time,
             start: None,

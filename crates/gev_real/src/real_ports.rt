@@ -1,4 +1,4 @@
-ghost use Rattle.std.specs.Prelude.{◌≡◌, ◌≤◌, None, IfOk, OnErr};
+ghost use Rattle.std.specs.Prelude.{◌≡◌, ◌≤◌, None, Ok, IfOk, OnErr};
 ghost use Rattle.gev_links.specs.Faults.{Rose};
 ghost use Rattle.gev_links.specs.Given.{one_more};
 
@@ -18,6 +18,12 @@ const WAITING_LINKS: u64 = 2;
 ///
 /// `bind` gives a socket on 127.0.0.1. The third link and each later one of them doesn't wait in its receives: it's
 /// that of the reader's commands, on which the reader looks once for each datagram of the stream.
+///
+/// ```
+/// let mut ports = RealPorts::new(&rt);
+/// let (mut link, own) = ports.bind_towards(camera)?;
+/// let mut clock = ports.clock();
+/// ```
 #[derive(Drop)]
 pub struct RealPorts<'a, R: Net + Time + Sync> {
     rt: &'a R,
@@ -47,6 +53,7 @@ fn count_bind(
 ) -> Result<(UdpLink, Peer), Failed>
     requires { IfOk opened (λ link. link.faults ≡ 0) }
     ensures no_fault_of_it { IfOk result (λ bound. bound.0.faults ≡ 0) }
+    ensures link { IfOk result (λ bound. opened ≡ Ok bound.0) }
     ensures address { IfOk result (λ bound. bound.0.peer ≡ bound.1) }
     ensures binds { binds.new ≡ one_more binds.old }
     ensures no_fault { IfOk result (λ _. faults.new ≡ faults.old) }
@@ -63,6 +70,19 @@ fn count_bind(
             *faults = faults.saturating_add(1);
             Err(Failed)
         }
+    }
+}
+
+/// A new link at just this address.
+fn open_at<N: Net>(net: &N, own: Peer) -> io::Result<UdpLink>
+    ensures no_fault_of_it { IfOk result (λ link. link.faults ≡ 0) }
+    ensures at { IfOk result (λ link. link.peer ≡ own) }
+{
+    let link = UdpLink::open(net, own, true)?;
+    if link.peer() == own {
+        Ok(link)
+    } else {
+        Err(io::Error::from(io::ErrorKind::AddrNotAvailable))
     }
 }
 
@@ -109,13 +129,15 @@ impl<'a, R: Net + Time + Sync> Ports for RealPorts<'a, R> {
 }
 
 impl<'a, R: Net + Time + Sync> FarPorts for RealPorts<'a, R> {
+    ghost stands_at = { λ asked bound. bound ≡ asked };
+
     fn bind_towards(&mut self, peer: Peer) -> Result<(UdpLink, Peer), Failed> {
         let opened = open_towards(self.rt, peer);
         count_bind(&mut self.binds, &mut self.faults, opened)
     }
 
     fn bind_at(&mut self, own: Peer) -> Result<(UdpLink, Peer), Failed> {
-        let opened = UdpLink::open(self.rt, own, true);
+        let opened = open_at(self.rt, own);
         count_bind(&mut self.binds, &mut self.faults, opened)
     }
 

@@ -15,6 +15,12 @@ const PIECES: u32 = 16;
 const TRIES: u32 = 16;
 
 /// Standard input as a source. It tells nothing of its bytes.
+///
+/// ```
+/// let mut source = StandardInput::new(rt.reader());
+/// let mut sink = StandardOutput::new(io::writer(&rt));
+/// let status = plain_top(rt.alloc(), words, &mut source, &mut sink);
+/// ```
 #[derive(Drop)]
 pub struct StandardInput<R: Read + Drop> {
     reader: R,

@@ -7,7 +7,7 @@ use std::io::Write;
 /// How often a write is made whose cause of failure the system's call doesn't tell.
 const TRIES: u32 = 16;
 
-/// Standard output as a sink. It tells nothing of its bytes.
+/// Standard output as a sink. It tells nothing of its bytes. `StandardInput` has an example.
 #[derive(Drop)]
 pub struct StandardOutput<W: Write + Drop> {
     writer: W,

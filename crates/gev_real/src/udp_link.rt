@@ -12,11 +12,24 @@ use std::os::fd::AsRawFd;
 /// How long a receive waits where nothing came, in milliseconds.
 const RECEIVE_LIMIT: i32 = 1;
 
-/// The room that is asked for datagrams that came and weren't received, in bytes. The system gives as
-/// much of it as it allows.
-const ROOM: i32 = 0x0200_0000;
+/// The room that each socket asks for, in bytes, for datagrams that came and weren't received.
+const ROOM: u32 = 0x0200_0000;
+
+/// The most that the system's call can be asked for, in bytes.
+const MOST_ROOM: u32 = 0x7fff_ffff;
 
 /// A UDP socket of IPv4, which is connected to nobody. It tells nothing of what it sends and receives.
+///
+/// ```
+/// // the stream of a camera, at port 50000 of each address of this machine
+/// let own = Peer { address: 0, port: 50000 };
+/// let mut link = UdpLink::open(&rt, own, true)?;
+/// link.ask_room(0x0800_0000);
+/// let mut out = [0; 9000];
+/// if let Ok(Some((count, sender))) = link.recv(&mut out) {
+///     println!(rt; "{count} bytes from {:08x}", sender.address)?;
+/// }
+/// ```
 #[derive(Drop)]
 pub struct UdpLink {
     socket: UdpSocket,
@@ -66,10 +79,10 @@ pub(crate) fn own_towards<N: Net>(net: &N, peer: Peer) -> io::Result<Peer> {
     })
 }
 
-/// Asks the system for more room for datagrams that wait: by default it holds fewer than half of a frame's
-/// packets. A link works with less of it, so a refusal is none of the link's faults.
-fn ask_room(socket: &UdpSocket) {
-    let [a, b, c, d] = ROOM.to_ne_bytes();
+/// Asks the system for so much room for datagrams that wait. A link works with less of it, so a refusal is none
+/// of the link's faults.
+fn ask_room_of(socket: &UdpSocket, room: u32) {
+    let [a, b, c, d] = room.min(MOST_ROOM).to_ne_bytes();
     let value = [a, b, c, d, 0, 0, 0, 0, 0, 0, 0, 0, 0, 0, 0, 0];
     let _ = unsafe {
         libc::net::setsockopt(
@@ -144,15 +157,16 @@ fn is_none(looked: &Result<Option<(usize, Peer)>, Failed>) -> bool {
 }
 
 impl UdpLink {
-    /// A new socket at this address and port of this machine; port 0 is one that the system gives. A receive of
-    /// it that finds nothing waits for at most a millisecond and looks once more, where `waits` says so; else it
-    /// looks once.
-    pub(crate) fn open<N: Net>(net: &N, own: Peer, waits: bool) -> io::Result<UdpLink>
+    /// A new socket at this address and port of this machine. Address 0 stands for each of its addresses, and port 0
+    /// for one that the system gives. A receive that finds nothing waits for at most a millisecond and looks once
+    /// more, where `waits` says so; else it looks once. The socket has asked for room as `ask_room` does, of 32 MiB:
+    /// by default the system holds fewer than half of a frame's packets.
+    pub fn open<N: Net>(net: &N, own: Peer, waits: bool) -> io::Result<UdpLink>
         ensures { IfOk result (λ link. link.faults ≡ 0) }
     {
         let socket = UdpSocket::bind(net, address_of(own))?;
         socket.set_nonblocking(true)?;
-        ask_room(&socket);
+        ask_room_of(&socket, ROOM);
         let peer = peer_at(socket.local_addr()?);
         Ok(UdpLink {
             socket,
@@ -169,6 +183,12 @@ impl UdpLink {
         let link = UdpLink::open(net, ANYWHERE, true)?;
         link.socket.set_broadcast(true)?;
         Ok(link)
+    }
+
+    /// Asks the system for so many bytes of room for datagrams that came and weren't received yet. It gives as
+    /// much as it allows, mostly by `net.core.rmem_max`, and doesn't tell when that is less.
+    pub fn ask_room(&self, bytes: u32) {
+        ask_room_of(&self.socket, bytes);
     }
 
     /// Receives into a slice of any length, or looks; where nothing is there, waits and does so once more.

@@ -10,8 +10,8 @@ use Rattle.gev_links.specs.Moments.{Tells}
 use Rattle.gev_serve.specs.declared.ends.ServeTurn.{ServeTurn}
 use Rattle.gev_serve.specs.declared.ends.ServeTurn.TheVariants.{GoesOn, Fault, NoMemory}
 use Rattle.gev_serve.specs.Wires.{Wire, SendEnd, all_sent, send_failed, gave_up, Sends}
-use Rattle.gev_serve.specs.Turns.{Datagram, Served, arrived, answer_with, heard_camera, heard_ack, hears, heard_turn, framed_turn, packets_to, ack_to, sent_in}
-use Rattle.gev_serve.specs.Serving.{sends_end, IfGoesOn, MakesPart, MakesTurn}
+use Rattle.gev_serve.specs.Turns.{Datagram, Served, arrived, answer_with, heard_camera, heard_ack, hears, heard_turn, framed_turn, block_in, packets_to, ack_to, sent_in}
+use Rattle.gev_serve.specs.Serving.{sends_end, IfGoesOn, IsBlock, MakesPart, MakesTurn}
 use Rattle.gev_serve.proofs.Partial.{sends_then, sends_cut}
 
 -- what a camera with these packets waiting sends
@@ -78,8 +78,9 @@ pub made_turn : (r : ServeTurn) (s new : Camera) (v h w : Wire) (told now_told :
     → Tells v.received h.received (answer_of (Ok o) out) → h.sent ≡ v.sent → h.faults ≡ v.faults → Tells told now_told moment
     → Sends (sent_in s (record { arrived = arrived o out; moment = moment })) (sends_end r) h w
     → IfGoesOn r (new ≡ (framed_turn s (record { arrived = arrived o out; moment = moment })).camera)
+    → IsBlock r (block_in s (record { arrived = arrived o out; moment = moment }))
     → MakesTurn r s new v w told now_told
-made_turn r s new v h w told now_told o out moment received unsent unfailed tells sends state = go r sends state
+made_turn r s new v h w told now_told o out moment received unsent unfailed tells sends state made = go r sends state made
   where
     part : (end : SendEnd) → Sends (sent_in s (record { arrived = arrived o out; moment = moment })) end h w → MakesPart end s v w told now_told
     part end sends = record {
@@ -93,7 +94,8 @@ made_turn r s new v h w told now_told o out moment received unsent unfailed tell
     }
 
     go : (r : ServeTurn) → Sends (sent_in s (record { arrived = arrived o out; moment = moment })) (sends_end r) h w
-        → IfGoesOn r (new ≡ (framed_turn s (record { arrived = arrived o out; moment = moment })).camera) → MakesTurn r s new v w told now_told
-    go GoesOn sends state = record { part = part all_sent sends; state = state }
-    go Fault sends state = inr (part send_failed sends)
-    go NoMemory sends state = part gave_up sends
+        → IfGoesOn r (new ≡ (framed_turn s (record { arrived = arrived o out; moment = moment })).camera)
+        → IsBlock r (block_in s (record { arrived = arrived o out; moment = moment })) → MakesTurn r s new v w told now_told
+    go (GoesOn block) sends state made = record { whole = record { part = part all_sent sends; state = state }; made = made }
+    go Fault sends state made = inr (part send_failed sends)
+    go NoMemory sends state made = part gave_up sends

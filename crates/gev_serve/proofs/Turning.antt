@@ -14,21 +14,21 @@ use Rattle.gev_serve.specs.Turns.{Served, answer_with, framed_turn, sent_in, aft
 use Rattle.gev_serve.specs.Serving.{MakesWhole, TurnsOn, ServesOn}
 use Rattle.gev_serve.proofs.Parting.{turn_counts}
 
-after-push : (s : Camera) (ts : List Served) (t : Served) → after_turns s (ts ++ t ∷ []) ≡ (framed_turn (after_turns s ts) t).camera
+pub after-push : (s : Camera) (ts : List Served) (t : Served) → after_turns s (ts ++ t ∷ []) ≡ (framed_turn (after_turns s ts) t).camera
 after-push s [] t = refl
 after-push s (x ∷ ts) t = after-push (framed_turn s x).camera ts t
 
-sent-push : (s : Camera) (ts : List Served) (t : Served) → sent_over s (ts ++ t ∷ []) ≡ sent_over s ts ++ sent_in (after_turns s ts) t
+pub sent-push : (s : Camera) (ts : List Served) (t : Served) → sent_over s (ts ++ t ∷ []) ≡ sent_over s ts ++ sent_in (after_turns s ts) t
 sent-push s [] t = append-nil (sent_in s t)
 sent-push s (x ∷ ts) t =
     ap (λ l. sent_in s x ++ l) (sent-push (framed_turn s x).camera ts t)
     ∙ sym (append_assoc (sent_in s x) (sent_over (framed_turn s x).camera ts) (sent_in (after_turns (framed_turn s x).camera ts) t))
 
-answers-push : (ts : List Served) (t : Served) → answers_in (ts ++ t ∷ []) ≡ answers_in ts ++ answer_with t.arrived ∷ []
+pub answers-push : (ts : List Served) (t : Served) → answers_in (ts ++ t ∷ []) ≡ answers_in ts ++ answer_with t.arrived ∷ []
 answers-push [] t = refl
 answers-push (x ∷ ts) t = ap (λ l. answer_with x.arrived ∷ l) (answers-push ts t)
 
-moments-push : (ts : List Served) (t : Served) → moments_in (ts ++ t ∷ []) ≡ moments_in ts ++ t.moment ∷ []
+pub moments-push : (ts : List Served) (t : Served) → moments_in (ts ++ t ∷ []) ≡ moments_in ts ++ t.moment ∷ []
 moments-push [] t = refl
 moments-push (x ∷ ts) t = ap (λ l. x.moment ∷ l) (moments-push ts t)
 
@@ -45,7 +45,7 @@ serves_first s w told p = record {
 }
 
 -- what a whole part sent
-all_was_sent : (s : Camera) (v w : Wire) (told now_told : Option (List ℕ)) (new : Camera) → (one : MakesWhole s new v w told now_told)
+pub all_was_sent : (s : Camera) (v w : Wire) (told now_told : Option (List ℕ)) (new : Camera) → (one : MakesWhole s new v w told now_told)
     → Adds v.sent w.sent (sent_in s one.part.turn)
 all_was_sent s v w told now_told new one =
     let sends = one.part.sends in

@@ -12,7 +12,7 @@ use Rattle.gev_serve.specs.declared.ends.ServeTurn.TheVariants as turns
 use Rattle.gev_serve.specs.declared.ends.ServeEnd.{ServeEnd}
 use Rattle.gev_serve.specs.declared.ends.ServeEnd.TheVariants.{Stopped, Fault, NoMemory, Spent}
 use Rattle.gev_serve.specs.Wires.{Wire, SendEnd, all_sent, send_failed, gave_up, Sends}
-use Rattle.gev_serve.specs.Turns.{Served, framed_turn, sent_in, answer_with, after_turns, sent_over, answers_in, moments_in, looks_in}
+use Rattle.gev_serve.specs.Turns.{Served, framed_turn, block_in, sent_in, answer_with, after_turns, sent_over, answers_in, moments_in, looks_in}
 
 -- the pass has of each place what it had
 abbrev pub KeepsHands : Token → Token → Type 0
@@ -22,15 +22,21 @@ KeepsHands s t = (i : ℕ) → slot_at t i ≡ slot_at s i
 
 -- how the sends of a turn ended
 abbrev pub sends_end : ServeTurn → SendEnd
-sends_end turns.GoesOn = all_sent
+sends_end (turns.GoesOn block) = all_sent
 sends_end turns.Fault = send_failed
 sends_end turns.NoMemory = gave_up
 
 -- a fact of a turn that went on
 abbrev pub IfGoesOn : ServeTurn → Type 0 → Type 0
-IfGoesOn turns.GoesOn P = P
+IfGoesOn (turns.GoesOn block) P = P
 IfGoesOn turns.Fault P = Unit {0}
 IfGoesOn turns.NoMemory P = Unit {0}
+
+-- a turn that went on made this frame
+abbrev pub IsBlock : ServeTurn → Option ℕ → Type 0
+IsBlock (turns.GoesOn made) block = made ≡ block
+IsBlock turns.Fault block = Unit {0}
+IsBlock turns.NoMemory block = Unit {0}
 
 -- A turn received once and read the clock once, and sent what it had to send up to this end.
 pub record MakesPart (end : SendEnd) (s : Camera) (v w : Wire) (told now_told : Option (List ℕ)) : Type 0 where
@@ -47,6 +53,11 @@ pub record MakesWhole (s new : Camera) (v w : Wire) (told now_told : Option (Lis
   pub part : MakesPart all_sent s v w told now_told
   pub state : new ≡ (framed_turn s part.turn).camera
 
+-- The same, and it made this frame.
+pub record MakesFrame (block : Option ℕ) (s new : Camera) (v w : Wire) (told now_told : Option (List ℕ)) : Type 0 where
+  pub whole : MakesWhole s new v w told now_told
+  pub made : block ≡ block_in s whole.part.turn
+
 -- Its receive failed: the clock wasn't read, nothing was sent, and the camera stayed as it was.
 pub record MissesReceive (s new : Camera) (v w : Wire) (told now_told : Option (List ℕ)) : Type 0 where
   pub received : Tells v.received w.received failed
@@ -56,7 +67,7 @@ pub record MissesReceive (s new : Camera) (v w : Wire) (told now_told : Option (
   pub state : new ≡ s
 
 abbrev pub MakesTurn : ServeTurn → Camera → Camera → Wire → Wire → Option (List ℕ) → Option (List ℕ) → Type 0
-MakesTurn turns.GoesOn s new v w told now_told = MakesWhole s new v w told now_told
+MakesTurn (turns.GoesOn block) s new v w told now_told = MakesFrame block s new v w told now_told
 MakesTurn turns.Fault s new v w told now_told = MissesReceive s new v w told now_told ⊎ MakesPart send_failed s v w told now_told
 MakesTurn turns.NoMemory s new v w told now_told = MakesPart gave_up s v w told now_told
 

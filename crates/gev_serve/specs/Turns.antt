@@ -1,10 +1,10 @@
 -- The turns of a camera's worker: what came, and what is sent then.
-use Rattle.std.specs.Prelude.{ℕ, List, [], ◌∷◌, ◌++◌, map, take, Option, Some, None}
+use Rattle.std.specs.Prelude.{ℕ, ◌+◌, List, [], ◌∷◌, ◌++◌, map, take, Option, Some, None, if◌then◌else◌}
 use Rattle.board_machine.specs.declared.events.Event.{Event}
 use Rattle.board_machine.specs.declared.events.Event.TheVariants.{LookRun}
 use Rattle.stream_packets.specs.Packets.{StreamPacket}
 use Rattle.gvsp_wire.specs.Plain.{plain}
-use Rattle.camera_machine.specs.Camera.{Camera, stream_peer, looked}
+use Rattle.camera_machine.specs.Camera.{Camera, is_open, stream_peer, looked}
 use Rattle.camera_machine.specs.Commands.{commanded}
 use Rattle.camera_machine.specs.Events.{Turn, turn_of, frame_turn}
 use Rattle.gev_links.specs.Links.{Answer, nothing, came, Address}
@@ -50,6 +50,13 @@ heard_turn s t = hears s t.arrived t.moment
 -- then it makes its next frame, where the channel is open
 abbrev pub framed_turn : Camera → Served → Turn
 framed_turn s t = frame_turn (heard_turn s t).camera
+
+-- the block id of the frame that is made, where the channel is open
+abbrev pub frame_block : Camera → Option ℕ
+frame_block s = if is_open s then Some (s.shelf.count + 1) else None
+
+abbrev pub block_in : Camera → Served → Option ℕ
+block_in s t = frame_block (heard_turn s t).camera
 
 -- ---- what is sent
 

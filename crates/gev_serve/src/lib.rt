@@ -13,5 +13,5 @@ mod turns; // one turn
 
 pub use ends::{ServeEnd, ServeTurn};
 pub use rooms::Rooms;
-pub use serving::serve;
+pub use serving::{RECEIVE_ROOM, make_turn, serve};
 pub use turns::serve_once;

@@ -13,11 +13,11 @@ use camera_sim::Camera;
 use gev_links::{Clock, Link};
 use std::alloc::Global;
 
-// The room of a receive, in bytes.
-const RECEIVE_ROOM: usize = 9000;
+/// The room of a receive, in bytes.
+pub const RECEIVE_ROOM: usize = 9000;
 
-// Receives once, reads the clock once, and makes the camera's turn with what came.
-fn make_turn<L: Link, C: Clock>(
+/// Receives once, reads the clock once, and makes the camera's turn with what came.
+pub fn make_turn<L: Link, C: Clock>(
     alloc: Global,
     camera: &mut Camera,
     link: &mut L,
@@ -66,7 +66,7 @@ pub fn serve<L: Link, C: Clock>(
             return ServeEnd::Stopped;
         }
         match make_turn(alloc, camera, link, clock, &mut room, &mut rooms) {
-            ServeTurn::GoesOn => {}
+            ServeTurn::GoesOn(_block) => {}
             ServeTurn::Fault => return ServeEnd::Fault,
             ServeTurn::NoMemory => return ServeEnd::NoMemory,
         }

@@ -5,8 +5,8 @@ ghost use Rattle.camera_machine.specs.Camera.{stream_peer};
 ghost use Rattle.camera_machine.specs.Commands.{commanded};
 ghost use Rattle.camera_machine.specs.Events.{frame_turn};
 ghost use Rattle.gev_serve.specs.Wires.{wire, end_of_sends, Sends};
-ghost use Rattle.gev_serve.specs.Turns.{arrived, heard_camera, heard_ack, hears, framed_turn, packets_to, ack_to, sent_in};
-ghost use Rattle.gev_serve.specs.Serving.{sends_end, IfGoesOn};
+ghost use Rattle.gev_serve.specs.Turns.{arrived, heard_camera, heard_ack, hears, framed_turn, packets_to, ack_to, sent_in, frame_block, block_in};
+ghost use Rattle.gev_serve.specs.Serving.{sends_end, IfGoesOn, IsBlock};
 
 use crate::ends::ServeTurn;
 use crate::rooms::Rooms;
@@ -97,10 +97,11 @@ fn frame_and_send<L: Link>(
     ensures sends { Sends (packets_to (stream_peer (frame_turn camera.old).camera) (frame_turn camera.old).packets) (sends_end result)
         (wire (L.received link.old) (L.sent link.old) (L.faults link.old)) (wire (L.received link.new) (L.sent link.new) (L.faults link.new)) }
     ensures state { IfGoesOn result (camera.new ≡ (frame_turn camera.old).camera) }
+    ensures block { IsBlock result (frame_block camera.old) }
 {
     match camera.frame(alloc) {
-        Ok(_block) => match send_waiting(camera, link, room) {
-            Ok(()) => ServeTurn::GoesOn,
+        Ok(block) => match send_waiting(camera, link, room) {
+            Ok(()) => ServeTurn::GoesOn(block),
             Err(_failed) => ServeTurn::Fault,
         },
         Err(_no_memory) => ServeTurn::NoMemory,
@@ -124,6 +125,7 @@ pub fn serve_once<L: Link>(
     ensures sends { Sends (sent_in camera.old (record { arrived = arrived came bytes.now; moment = moment })) (sends_end result)
         (wire (L.received link.old) (L.sent link.old) (L.faults link.old)) (wire (L.received link.new) (L.sent link.new) (L.faults link.new)) }
     ensures state { IfGoesOn result (camera.new ≡ (framed_turn camera.old (record { arrived = arrived came bytes.now; moment = moment })).camera) }
+    ensures block { IsBlock result (block_in camera.old (record { arrived = arrived came bytes.now; moment = moment })) }
 {
     match hear_and_send(camera, link, came, bytes, moment, rooms) {
         Ok(()) => frame_and_send(alloc, camera, link, &mut rooms.packet),

@@ -17,9 +17,9 @@ use Rattle.gev_control.specs.SetupTurns.{set_up, SetupTurned}
 use Rattle.gev_control.specs.SetsUp.{SetupSide, SetsUp, setup_sent, setup_heards, setup_moments}
 use Rattle.gev_control.proofs.Fronts.{added_then}
 use Rattle.gev_acq.specs.Acquired.{LooksLast}
-use Rattle.gev_reader.specs.Reads.{IsSetUp, LastLook}
+use Rattle.gev_acq.specs.Reads.{IsSetUp, LastLook}
 use Rattle.gev_lanes.specs.declared.parts.ReaderLane.{ReaderLane}
-use Rattle.lane_turns.specs.Turns.{EndsEach}
+use Rattle.lane_reader.specs.LanesTurns.{EndsEach}
 use Rattle.lane_reader.specs.Reads.{looks_in, moments_in, heards_in, sends_in, ReadsLanes}
 use Rattle.lane_crew.specs.Reader.{EndsAfter, ReadsAll}
 

@@ -11,10 +11,10 @@ use Rattle.gev_lanes.specs.Sides.{IsNew, AreNew, Met, MetAt}
 use Rattle.gev_lanes.specs.Messages.{message_of, messages, GoOn}
 use Rattle.gev_lanes.specs.Acts.{Ends}
 use Rattle.mode_calls.specs.declared.mode.Mode.{Mode}
-use Rattle.lane_turns.specs.Turns.{ReaderTurn, Each}
-use Rattle.lane_laws.specs.Brought.{IsSublist, datagrams_in, parts_of, news_of, Brought}
-use Rattle.lane_laws.proofs.Bringing.{take_turns, turns_bring, take_all}
-use Rattle.lane_worker.specs.Lane.{messages_in, ServesCells}
+use Rattle.lane_reader.specs.LanesTurns.{ReaderTurn, Each}
+use Rattle.lane_reader.specs.Brought.{IsSublist, datagrams_in, parts_of, news_of, Brought}
+use Rattle.lane_reader.proofs.Bringing.{take_turns, turns_bring, take_all}
+use Rattle.lane_crew.specs.Lane.{messages_in, ServesCells}
 use Rattle.lane_crew.specs.declared.lane_tools.LaneTools.{LaneTools}
 use Rattle.lane_crew.specs.Tools.{IsReady, AreReady, IsServed, AreServed, ends_in, IsJoined, AreJoined, AreMet}
 use Rattle.lane_crew.specs.Reader.{BringsAll}

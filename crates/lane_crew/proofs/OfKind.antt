@@ -12,9 +12,9 @@ use Rattle.mode_calls.specs.declared.mode.Mode.{Mode}
 use Rattle.gev_acq.specs.Filling.{laid_unless}
 use Rattle.gev_acq.specs.Serving.{Serves}
 use Rattle.gev_acq.proofs.Parts.{Holds, served_hold}
-use Rattle.gev_reader.specs.Reads.{LastLook}
-use Rattle.gev_reader.proofs.OfKind.{drops_so}
-use Rattle.lane_turns.specs.Turns.{ReaderTurn}
+use Rattle.gev_acq.specs.Reads.{LastLook}
+use Rattle.gev_acq.proofs.OfKind.{drops_so}
+use Rattle.lane_reader.specs.LanesTurns.{ReaderTurn}
 use Rattle.lane_reader.specs.Reads.{looks_in}
 use Rattle.lane_crew.specs.declared.lane_tools.LaneTools.{LaneTools}
 use Rattle.lane_crew.specs.Kinds.{is_lanes, is_lane_readers}

@@ -15,9 +15,9 @@ use Rattle.buffer_words.specs.Several.{EntersEach}
 use Rattle.buffer_words.proofs.Working.{are_of_entries}
 use Rattle.mode_calls.specs.declared.mode.Mode.{Mode}
 use Rattle.gev_acq.specs.Claims.{claims_in, claims_by}
-use Rattle.gev_reader.proofs.Whole.{claims_whole}
-use Rattle.lane_worker.specs.Cells.{inputs_in}
-use Rattle.lane_worker.specs.Lane.{ServesCells}
+use Rattle.gev_acq.proofs.Whole.{claims_whole}
+use Rattle.lane_crew.specs.Cells.{inputs_in}
+use Rattle.lane_crew.specs.Lane.{ServesCells}
 use Rattle.lane_crew.specs.declared.lane_tools.LaneTools.{LaneTools}
 use Rattle.lane_crew.specs.Kinds.{is_lanes}
 use Rattle.lane_crew.specs.Tools.{IsJoined}

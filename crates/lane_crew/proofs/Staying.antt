@@ -14,8 +14,8 @@ use Rattle.gev_acq.specs.Claims.{met_by, claims_of, claims_by}
 use Rattle.gev_acq.proofs.Owning.{met_by-append, met_none}
 use Rattle.gev_lanes.specs.declared.parts.ReaderLane.{ReaderLane}
 use Rattle.mode_calls.specs.declared.mode.Mode.{Mode}
-use Rattle.lane_turns.specs.Turns.{ReaderTurn}
-use Rattle.lane_worker.specs.Cells.{CellServed}
+use Rattle.lane_reader.specs.LanesTurns.{ReaderTurn}
+use Rattle.lane_crew.specs.Cells.{CellServed}
 use Rattle.lane_crew.specs.declared.lane_tools.LaneTools.{LaneTools}
 use Rattle.lane_crew.specs.Did.{LanePart, LaneDid}
 use Rattle.lane_crew.specs.Laws.{LanesPartsStay}

@@ -10,7 +10,7 @@ use Rattle.gev_control.specs.declared.acq_end.AcqEnd.{AcqEnd}
 use Rattle.mode_calls.specs.declared.mode.Mode.{Mode}
 use Rattle.gev_acq.specs.Turns.{Outside}
 use Rattle.gev_lanes.specs.declared.parts.ReaderLane.{ReaderLane}
-use Rattle.lane_turns.specs.Turns.{ReaderTurn}
+use Rattle.lane_reader.specs.LanesTurns.{ReaderTurn}
 use Rattle.lane_reader.specs.Reads.{looks_in}
 use Rattle.lane_crew.specs.declared.lane_tools.LaneTools.{LaneTools}
 use Rattle.lane_crew.specs.Tools.{joins_of}

@@ -9,7 +9,7 @@ use Rattle.acquisition_machine.specs.Machine.{stop}
 use Rattle.acquisition_machine.specs.Runs.{first_state}
 use Rattle.acq_core.specs.Receiver.{config_of}
 use Rattle.buffer_words.specs.Workers.{IsHome}
-use Rattle.lane_queues.specs.Ends.{gave, took}
+use Rattle.gev_lanes.specs.LineEnds.{gave, took}
 use Rattle.mode_calls.specs.declared.mode.Mode.{Mode}
 use Rattle.gev_acq.specs.Serving.{Serves}
 use Rattle.gev_acq.specs.Claims.{claims_in, claims_by}
@@ -18,10 +18,10 @@ use Rattle.gev_lanes.specs.declared.parts.ReaderLane.{ReaderLane}
 use Rattle.gev_lanes.specs.declared.parts.LaneHands.{LaneHands}
 use Rattle.gev_lanes.specs.Sides.{LaneEnd, Met}
 use Rattle.gev_lanes.specs.Messages.{ended, message_of, messages, GoOn}
-use Rattle.lane_turns.specs.Turns.{ReaderTurn}
-use Rattle.lane_laws.specs.Brought.{IsSublist, datagrams_in, parts_of, news_of}
-use Rattle.lane_worker.specs.Cells.{CellServed, inputs_in}
-use Rattle.lane_worker.specs.Lane.{messages_in, ClaimEach, PutsEach}
+use Rattle.lane_reader.specs.LanesTurns.{ReaderTurn}
+use Rattle.lane_reader.specs.Brought.{IsSublist, datagrams_in, parts_of, news_of}
+use Rattle.lane_crew.specs.Cells.{CellServed, inputs_in}
+use Rattle.lane_crew.specs.Lane.{messages_in, ClaimEach, PutsEach}
 use Rattle.lane_crew.specs.declared.lane_tools.LaneTools.{LaneTools}
 use Rattle.lane_crew.specs.Kinds.{is_lanes}
 

@@ -1,3 +1,5 @@
+pub mod Cells
+pub mod Lane
 pub mod Kinds
 pub mod Tools
 pub mod Reader

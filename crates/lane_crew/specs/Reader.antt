@@ -12,9 +12,9 @@ use Rattle.gev_control.specs.Sends.{addressed}
 use Rattle.gev_control.specs.SetupTurns.{set_up, SetupTurned}
 use Rattle.gev_control.specs.SetsUp.{setup_sent, setup_heards, setup_moments}
 use Rattle.gev_acq.specs.Turns.{Outside}
-use Rattle.gev_reader.specs.Reads.{IsSetUp, LastLook}
+use Rattle.gev_acq.specs.Reads.{IsSetUp, LastLook}
 use Rattle.gev_lanes.specs.declared.parts.ReaderLane.{ReaderLane}
-use Rattle.lane_turns.specs.Turns.{ReaderTurn, TakesLanesTurns, EndsEach}
+use Rattle.lane_reader.specs.LanesTurns.{ReaderTurn, TakesLanesTurns, EndsEach}
 use Rattle.lane_reader.specs.Reads.{answers_in, moments_in, heards_in, sends_in, looks_in, ControlEach, EndsBy}
 
 -- The turns come where the camera was set up, and else there are none: how the reader ended, by the setup's end.

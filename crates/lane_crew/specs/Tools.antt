@@ -14,7 +14,7 @@ use Rattle.gev_lanes.specs.declared.parts.LaneQueues.{LaneQueues}
 use Rattle.gev_lanes.specs.declared.parts.ReaderLane.{ReaderLane}
 use Rattle.gev_lanes.specs.Sides.{LaneEnd, IsLaneAt, MetAt}
 use Rattle.mode_calls.specs.declared.mode.Mode.{Mode}
-use Rattle.lane_worker.specs.Lane.{ServesCells}
+use Rattle.lane_crew.specs.Lane.{ServesCells}
 use Rattle.lane_crew.specs.declared.lane_tools.LaneTools.{LaneTools}
 
 -- A lane before its run: a new pass of this board with empty hands, the ends of a lane of these queues, and a new

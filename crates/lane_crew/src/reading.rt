@@ -7,7 +7,7 @@ ghost use Rattle.buffer_words.specs.Passes.{SameHands};
 ghost use Rattle.gev_control.specs.Ends.{is_fault_end};
 ghost use Rattle.gev_acq.specs.Reading.{FaultsOf};
 ghost use Rattle.gev_lanes.specs.Sides.{AreReadersOf, AreKept};
-ghost use Rattle.lane_turns.specs.Turns.{EndsEach};
+ghost use Rattle.lane_reader.specs.LanesTurns.{EndsEach};
 ghost use Rattle.lane_crew.specs.Reader.{ReadsAll};
 
 use buffer_words::{Board, Pass};
@@ -16,8 +16,7 @@ use gev_control::{AcqEnd, setup};
 use gev_lanes::{Lanes, ReaderEnds};
 use gev_links::{Clock, Link};
 use gev_types::Peer;
-use lane_reader::read_lanes;
-use lane_turns::end_lanes;
+use lane_reader::{end_lanes, read_lanes};
 use std::sync::Wait;
 
 // The lanes are told of the end, where the setup came to this one.

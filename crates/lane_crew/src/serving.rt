@@ -4,11 +4,11 @@ ghost use Rattle.std.specs.Prelude.{◌≡◌, vec_len, vec_capacity};
 ghost use Rattle.buffer_words.specs.Boards.{board_id};
 ghost use Rattle.lane_crew.specs.Tools.{IsReady, AreReady, IsServed, AreServed};
 
+use crate::lane_running::lane;
 use crate::lane_tools::LaneTools;
 use buffer_words::Board;
 use gev_lanes::Lanes;
 use gev_links::Gate;
-use lane_worker::lane;
 use mode_calls::Mode;
 use std::sync::Wait;
 use std::thread;

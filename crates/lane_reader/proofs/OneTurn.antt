@@ -14,7 +14,7 @@ use Rattle.gev_acq.specs.Reading.{is_lost}
 use Rattle.gev_acq.specs.Turns.{SendsAll}
 use Rattle.gev_lanes.specs.declared.parts.ReaderLane.{ReaderLane}
 use Rattle.gev_lanes.specs.Acts.{Hears, Ticks}
-use Rattle.lane_turns.specs.Turns.{part_of, Each, joined, AsksAndSends}
+use Rattle.lane_reader.specs.LanesTurns.{part_of, Each, joined, AsksAndSends}
 use Rattle.lane_reader.specs.Turned.{TakesOne}
 
 pub failed_is_lost : (r : Result (Option (ℕ × Address)) Failed) (out : List ℕ) → answer_of r out ≡ failed → is_lost r ≡ true

@@ -18,7 +18,7 @@ use Rattle.gev_control.proofs.Fronts.{added_then}
 use Rattle.gev_acq.specs.Reading.{FaultsOf}
 use Rattle.gev_acq.specs.Turns.{Outside}
 use Rattle.gev_lanes.specs.declared.parts.ReaderLane.{ReaderLane}
-use Rattle.lane_turns.specs.Turns.{ReaderTurn, TakesLanesTurn, TakesLanesTurns}
+use Rattle.lane_reader.specs.LanesTurns.{ReaderTurn, TakesLanesTurn, TakesLanesTurns}
 use Rattle.lane_reader.specs.Turned.{IsControlled, TakesTurn, TakesOne}
 use Rattle.lane_reader.specs.Reads.{answers_in, moments_in, heards_in, sends_in, looks_in, ControlEach, TurnsOn, AllGoOn, EndsIn, ReadsTurns}
 

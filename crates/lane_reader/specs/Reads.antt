@@ -16,7 +16,7 @@ use Rattle.gev_control.specs.Controlled.{listed, control_of}
 use Rattle.gev_acq.specs.Turns.{Outside}
 use Rattle.gev_acq.specs.Acquired.{LooksLast}
 use Rattle.gev_lanes.specs.declared.parts.ReaderLane.{ReaderLane}
-use Rattle.lane_turns.specs.Turns.{ReaderTurn, TakesLanesTurns, EndsEach}
+use Rattle.lane_reader.specs.LanesTurns.{ReaderTurn, TakesLanesTurns, EndsEach}
 use Rattle.lane_reader.specs.Turned.{IsControlled}
 
 -- what the turns' receives on the stream gave

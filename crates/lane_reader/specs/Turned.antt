@@ -8,7 +8,7 @@ use Rattle.gev_control.specs.Sends.{addressed}
 use Rattle.gev_control.specs.Controlled.{EndsAs, listed, sent_by, control_of}
 use Rattle.gev_acq.specs.Turns.{SendsAll, Outside}
 use Rattle.gev_lanes.specs.declared.parts.ReaderLane.{ReaderLane}
-use Rattle.lane_turns.specs.Turns.{ReaderTurn, joined, TakesLanesTurn}
+use Rattle.lane_reader.specs.LanesTurns.{ReaderTurn, joined, TakesLanesTurn}
 
 -- What the turn sent, and how it ended, by the lanes' requests and the client.
 pub record IsControlled (s : Client) (t : ReaderTurn) : Type 0 where

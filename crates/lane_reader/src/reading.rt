@@ -8,6 +8,7 @@ ghost use Rattle.gev_acq.specs.Reading.{FaultsOf};
 ghost use Rattle.gev_lanes.specs.Sides.{AreReadersOf, AreKept};
 ghost use Rattle.lane_reader.specs.Reads.{ReadsTurns, ReadsLanes};
 
+use crate::ending::end_lanes;
 use crate::turning::read_turn;
 use buffer_words::{Board, Pass};
 use control_client::Client;
@@ -15,7 +16,6 @@ use gev_control::{AcqEnd, TurnEnd};
 use gev_lanes::{Lanes, ReaderEnds};
 use gev_links::{Clock, Link};
 use gev_types::Peer;
-use lane_turns::end_lanes;
 use std::sync::Wait;
 
 // The room of a receive, in bytes, which is that of a cell.

@@ -7,12 +7,14 @@ ghost use Rattle.gev_acq.specs.Reading.{is_lost, FaultsOf};
 ghost use Rattle.gev_lanes.specs.Sides.{AreReadersOf};
 ghost use Rattle.lane_reader.specs.Turned.{TakesOne};
 
+use crate::asking::ask_lanes;
+use crate::hearing::bring_received;
+use crate::ticking::tick_lanes;
 use control_client::Client;
 use gev_control::{TurnEnd, client_turn};
 use gev_lanes::{Lanes, ReaderEnds};
 use gev_links::{Clock, Failed, Link};
 use gev_types::Peer;
-use lane_turns::{ask_lanes, bring_received, tick_lanes};
 use std::sync::Wait;
 
 // Whether the receive failed.

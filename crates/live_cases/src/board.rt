@@ -8,7 +8,7 @@ use crate::links::print_bytes;
 use anyhow::Result;
 use board_calls::TakeEnd;
 use buffer_words::{Board, Pass};
-use gev_crew::prepare;
+use live_crew::prepare;
 use output_queue::take;
 use std::alloc::Global;
 use std::sync::Wait;

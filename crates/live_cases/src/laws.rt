@@ -2,7 +2,8 @@
 
 use anyhow::Result;
 use gev_acq::{
-    client_goes_through_turns, readers_fill_the_retired, served_fills_are_retired,
+    client_goes_through_turns, readers_claim_one_size, readers_fill_the_retired,
+    readers_fills_are_retired, readers_lay_nothing, readers_part_stays, served_fills_are_retired,
     turns_fill_the_retired,
 };
 use gev_apply::{the_applications_part_stays, turns_are_of_their_kind};
@@ -11,9 +12,6 @@ use gev_control::{
     lists_end_as_their_client, orders_are_submitted_in_order, orders_that_go_through_are_in_order,
     the_last_read_is_told, the_setup_ends_as_its_client, the_setup_stops_when_acknowledged,
     turns_are_steps_of_the_client, turns_of_a_list_are_steps_of_the_client,
-};
-use gev_reader::{
-    readers_claim_one_size, readers_fills_are_retired, readers_lay_nothing, readers_part_stays,
 };
 
 /// Calls all laws.

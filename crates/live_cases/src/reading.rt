@@ -11,9 +11,8 @@ use crate::links::{CAMERA, HOST, STREAM, control_link, print_sent, stream_link};
 use anyhow::Result;
 use buffer_words::{Board, Pass};
 use control_client::Client;
-use gev_acq::AcqEnd;
+use gev_acq::{AcqEnd, ReadDone, read};
 use gev_links::{MemoryClock, MemoryLink, OpenGate};
-use gev_reader::{ReadDone, read};
 use mode_calls::Mode;
 use std::sync::Wait;
 

@@ -11,8 +11,8 @@ use Rattle.acquisition_machine.proofs.Window.{blocks_are_in_order}
 use Rattle.mode_calls.specs.declared.mode.Mode.{Mode}
 use Rattle.gev_lanes.specs.declared.parts.ReaderLane.{ReaderLane}
 use Rattle.gev_lanes.specs.Sides.{LaneEnd}
-use Rattle.lane_turns.specs.Turns.{ReaderTurn}
-use Rattle.lane_worker.specs.Cells.{inputs_in}
+use Rattle.lane_reader.specs.LanesTurns.{ReaderTurn}
+use Rattle.lane_crew.specs.Cells.{inputs_in}
 use Rattle.gev_live.specs.Told.{live_config}
 use Rattle.gev_live.specs.Acquirers.{is_claim, acquires}
 use Rattle.gev_live.proofs.Splitting.{member_or}

@@ -14,13 +14,13 @@ use Rattle.buffer_words.specs.Workers.{AreApart, IsChildless, Worker, numbers, I
 use Rattle.buffer_words.proofs.Working.{are_of_entries}
 use Rattle.mode_calls.specs.declared.mode.Mode.{Mode}
 use Rattle.gev_lanes.specs.declared.parts.ReaderLane.{ReaderLane}
-use Rattle.lane_turns.specs.Turns.{ReaderTurn}
+use Rattle.lane_reader.specs.LanesTurns.{ReaderTurn}
 use Rattle.gev_live.proofs.Quiet.{own_none}
 use Rattle.gev_live.proofs.Splitting.{member_or}
 use Rattle.lane_crew.specs.declared.lane_tools.LaneTools.{LaneTools}
 use Rattle.lane_crew.specs.Kinds.{is_lanes}
 use Rattle.lane_crew.specs.Did.{LaneDid, LanesDid}
-use Rattle.lane_homes.proofs.Bringing.{bring_home}
+use Rattle.live_crew.proofs.Bringing.{bring_home}
 use Rattle.live_lanes.specs.Kinds.{is_strict_lanes}
 use Rattle.live_lanes.specs.Made.{numbers_in}
 use Rattle.live_lanes.proofs.Apart.{lanes_no_stop}

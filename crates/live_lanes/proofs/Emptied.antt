@@ -21,7 +21,7 @@ use Rattle.gev_apply.specs.Looks.{Looked}
 use Rattle.gev_apply.specs.Applied.{EndsStopped}
 use Rattle.gev_apply.specs.History.{LiveTakes}
 use Rattle.gev_apply.proofs.OfKind.{turns_are}
-use Rattle.gev_crew.specs.Prepared.{Prepares}
+use Rattle.live_crew.specs.Prepared.{Prepares}
 use Rattle.gev_live.specs.Kinds.{is_filling}
 use Rattle.gev_live.specs.History.{live_size}
 use Rattle.gev_live.proofs.Quiet.{is_beginning, beginning_are, never_closed}

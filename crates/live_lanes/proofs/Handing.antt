@@ -16,11 +16,11 @@ use Rattle.gev_serve.specs.declared.ends.ServeEnd.{ServeEnd}
 use Rattle.gev_serve.specs.declared.ends.ServeEnd.TheVariants as serves
 use Rattle.gev_control.specs.declared.acq_end.AcqEnd.{AcqEnd}
 use Rattle.gev_control.specs.declared.acq_end.AcqEnd.TheVariants as reads
-use Rattle.lane_turns.specs.Turns.{ReaderTurn}
+use Rattle.lane_reader.specs.LanesTurns.{ReaderTurn}
 use Rattle.lane_reader.specs.Reads.{looks_in}
 use Rattle.lane_crew.specs.Reader.{EndsAfter}
 use Rattle.gev_apply.specs.Applied.{IsEnough}
-use Rattle.gev_crew.specs.Work.{has_failed}
+use Rattle.live_crew.specs.Work.{has_failed}
 use Rattle.gev_live.specs.Endings.{taken_of, camera_status, status_by, is_told, FailsLast}
 use Rattle.gev_live.specs.Parts.{LiveApplication}
 use Rattle.gev_live.specs.Told.{Told}

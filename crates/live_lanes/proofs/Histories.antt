@@ -17,12 +17,12 @@ use Rattle.board_machine.proofs.Quiet.{open_takes_fills}
 use Rattle.buffer_words.specs.Passes.{Token}
 use Rattle.buffer_words.specs.Workers.{AreApart, OnlyBy, Works, Worker, Hosts, OthersAreApart, HostedAll}
 use Rattle.buffer_words.proofs.Working.{are_of_entries}
-use Rattle.gev_crew.specs.Prepared.{Prepares, SawOnly}
-use Rattle.gev_crew.specs.Kinds.{is_cameras, is_applications, is_hosts}
+use Rattle.live_crew.specs.Prepared.{Prepares, SawOnly}
+use Rattle.live_crew.specs.Kinds.{is_cameras, is_applications, is_hosts}
 use Rattle.mode_calls.specs.declared.mode.Mode.{Mode}
 use Rattle.mode_calls.specs.declared.mode.Mode.TheVariants.{OldestFirst, OldestFirstOverwrite, NewestOnly}
 use Rattle.gev_lanes.specs.declared.parts.ReaderLane.{ReaderLane}
-use Rattle.lane_turns.specs.Turns.{ReaderTurn}
+use Rattle.lane_reader.specs.LanesTurns.{ReaderTurn}
 use Rattle.gev_live.specs.Kinds.{is_filling, is_taking, is_handing}
 use Rattle.gev_live.specs.Acquirers.{takers}
 use Rattle.gev_live.specs.History.{live_size}

@@ -8,10 +8,10 @@ use Rattle.buffer_words.specs.Passes.{Token}
 use Rattle.buffer_words.specs.Workers.{Works, Worker, numbers, Hosts, AreChildless, HostedAll}
 use Rattle.buffer_words.specs.WorkLaws.{worker_of}
 use Rattle.buffer_words.proofs.Working.{hosts_first, hosts_splits, hosts_joins_worker, hosted_all}
-use Rattle.gev_crew.specs.Kinds.{is_cameras, is_applications, is_hosts}
+use Rattle.live_crew.specs.Kinds.{is_cameras, is_applications, is_hosts}
 use Rattle.lane_crew.specs.Kinds.{is_lane_readers}
-use Rattle.lane_homes.specs.Homes.{SplitsEach}
-use Rattle.lane_homes.proofs.Rising.{numbers_apart}
+use Rattle.live_crew.specs.HomeLaws.{SplitsEach}
+use Rattle.live_crew.proofs.Rising.{numbers_apart}
 use Rattle.live_lanes.specs.Homes.{LanesHome}
 use Rattle.live_lanes.proofs.Splits.{hosts_split_each}
 

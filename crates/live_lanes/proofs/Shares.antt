@@ -12,11 +12,11 @@ use Rattle.block_fills.specs.Fills.{tried}
 use Rattle.mode_calls.specs.declared.mode.Mode.{Mode}
 use Rattle.gev_acq.specs.Claims.{met_by}
 use Rattle.gev_acq.proofs.Filled.{served_fills}
-use Rattle.gev_reader.specs.History.{AreSized}
-use Rattle.gev_reader.proofs.Whole.{claims_sized, met_sized}
+use Rattle.gev_acq.specs.History.{AreSized}
+use Rattle.gev_acq.proofs.Whole.{claims_sized, met_sized}
 use Rattle.gev_lanes.specs.declared.parts.ReaderLane.{ReaderLane}
-use Rattle.lane_turns.specs.Turns.{ReaderTurn}
-use Rattle.lane_worker.specs.Cells.{inputs_in}
+use Rattle.lane_reader.specs.LanesTurns.{ReaderTurn}
+use Rattle.lane_crew.specs.Cells.{inputs_in}
 use Rattle.gev_live.specs.Told.{live_config}
 use Rattle.gev_live.specs.History.{live_size}
 use Rattle.lane_crew.specs.declared.lane_tools.LaneTools.{LaneTools}

@@ -14,7 +14,7 @@ use Rattle.gev_lanes.specs.declared.parts.ReaderLane.{ReaderLane}
 use Rattle.gev_lanes.specs.Sides.{LaneEnd, IsLaneAt, AreNew}
 use Rattle.lane_crew.specs.declared.lane_tools.LaneTools.{LaneTools}
 use Rattle.lane_crew.specs.Tools.{IsReady, AreReady, ends_in}
-use Rattle.lane_homes.specs.Homes.{SplitsEach}
+use Rattle.live_crew.specs.HomeLaws.{SplitsEach}
 use Rattle.live_lanes.specs.declared.lane_parts.LaneParts.{LaneParts}
 use Rattle.live_lanes.specs.Made.{IsNewReceiver, IsNewPart, AreNewParts, ends_of, IsSplit, AreSplit, numbers_in, AreLiveTools}
 

@@ -14,7 +14,7 @@ use Rattle.mode_calls.specs.declared.mode.Mode.{Mode}
 use Rattle.gev_acq.specs.Filling.{laid_unless}
 use Rattle.gev_acq.specs.Serving.{Serves}
 use Rattle.gev_acq.proofs.Parts.{Holds, served_hold}
-use Rattle.gev_reader.proofs.OfKind.{drops_so}
+use Rattle.gev_acq.proofs.OfKind.{drops_so}
 use Rattle.live_lanes.specs.Kinds.{is_strict_lanes}
 
 abbrev Are : Mode → List Event → Type 0

@@ -24,7 +24,7 @@ use Rattle.gev_serve.specs.declared.ends.ServeEnd.{ServeEnd}
 use Rattle.gev_control.specs.declared.acq_end.AcqEnd.{AcqEnd}
 use Rattle.gev_status.specs.declared.status.Status.{Status}
 use Rattle.gev_status.specs.declared.status.Status.TheVariants.{NoMemory}
-use Rattle.gev_crew.specs.Prepared.{Prepares, SawOnly}
+use Rattle.live_crew.specs.Prepared.{Prepares, SawOnly}
 use Rattle.lane_reader.specs.Reads.{looks_in}
 use Rattle.lane_crew.specs.declared.lane_tools.LaneTools.{LaneTools}
 use Rattle.lane_crew.specs.Tools.{joins_of, ends_in}

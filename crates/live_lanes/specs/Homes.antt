@@ -4,8 +4,8 @@ use Rattle.board_machine.specs.Machine.{IsActor}
 use Rattle.board_machine.specs.Histories.{Run, After}
 use Rattle.board_machine.specs.Actors.{born}
 use Rattle.buffer_words.specs.Passes.{Token, own}
-use Rattle.gev_crew.specs.Homes.{CameHome}
-use Rattle.lane_homes.specs.Homes.{SplitsEach}
+use Rattle.live_crew.specs.Homes.{CameHome}
+use Rattle.live_crew.specs.HomeLaws.{SplitsEach}
 
 -- The first actor's pass, which had split nobody off, split three passes off from the token s on, and one for each lane
 -- up to the token four, and joined the three again up to the token u, in the same order.

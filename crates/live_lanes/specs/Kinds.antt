@@ -3,7 +3,7 @@ use Rattle.std.specs.Prelude.{Bool, true, false}
 use Rattle.board_machine.specs.declared.events.Event.{Event}
 use Rattle.board_machine.specs.declared.events.Event.TheVariants.{Claim, Take, Pool, Fill}
 use Rattle.mode_calls.specs.declared.mode.Mode.{Mode}
-use Rattle.gev_reader.specs.Kinds.{may_drop}
+use Rattle.gev_acq.specs.Kinds.{may_drop}
 
 -- A claim, or a fill: no lay. In a mode that drops buffers also their takes and poolings.
 abbrev pub is_strict_lanes : Mode → Event → Bool

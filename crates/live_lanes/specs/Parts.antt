@@ -17,13 +17,13 @@ use Rattle.gev_control.specs.Ends.{is_fault_end}
 use Rattle.mode_calls.specs.declared.mode.Mode.{Mode}
 use Rattle.gev_acq.specs.Reading.{FaultsOf}
 use Rattle.gev_acq.specs.Claims.{claims_in}
-use Rattle.gev_reader.specs.History.{AreSized}
+use Rattle.gev_acq.specs.History.{AreSized}
 use Rattle.gev_lanes.specs.declared.parts.LaneQueues.{LaneQueues}
 use Rattle.gev_lanes.specs.declared.parts.ReaderLane.{ReaderLane}
 use Rattle.gev_lanes.specs.Sides.{LaneEnd, AreNew}
-use Rattle.lane_turns.specs.Turns.{ReaderTurn}
+use Rattle.lane_reader.specs.LanesTurns.{ReaderTurn}
 use Rattle.lane_reader.specs.Reads.{looks_in}
-use Rattle.lane_worker.specs.Cells.{CellServed, inputs_in}
+use Rattle.lane_crew.specs.Cells.{CellServed, inputs_in}
 use Rattle.lane_crew.specs.Reader.{ReadsOn, BringsAll}
 use Rattle.lane_crew.specs.Did.{IsHeard, IsQueued, LanePart}
 use Rattle.gev_live.specs.History.{live_size}

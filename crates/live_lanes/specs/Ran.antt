@@ -15,8 +15,8 @@ use Rattle.gev_serve.specs.declared.ends.ServeEnd.{ServeEnd}
 use Rattle.gev_control.specs.declared.acq_end.AcqEnd.{AcqEnd}
 use Rattle.gev_control.specs.Ends.{is_fault_end}
 use Rattle.gev_acq.specs.Reading.{FaultsOf}
-use Rattle.gev_crew.specs.Kinds.{is_cameras, is_applications}
-use Rattle.gev_crew.specs.Work.{ServesAndStops, AppliesAndStops}
+use Rattle.live_crew.specs.Kinds.{is_cameras, is_applications}
+use Rattle.live_crew.specs.Work.{ServesAndStops, AppliesAndStops}
 use Rattle.gev_lanes.specs.declared.parts.LaneQueues.{LaneQueues}
 use Rattle.gev_lanes.specs.declared.parts.ReaderLane.{ReaderLane}
 use Rattle.gev_lanes.specs.Sides.{AreNew}

@@ -14,7 +14,7 @@ use Rattle.buffer_words.specs.Workers.{AreEvents, OnlyBy}
 use Rattle.mode_calls.specs.declared.mode.Mode.{Mode}
 use Rattle.mode_calls.specs.declared.mode.Mode.TheVariants.{OldestFirst, OldestFirstOverwrite, NewestOnly}
 use Rattle.mode_calls.specs.Dropped.{others, handed_out_items}
-use Rattle.gev_crew.specs.Prepared.{Prepares}
+use Rattle.live_crew.specs.Prepared.{Prepares}
 use Rattle.gev_live.specs.Kinds.{is_taking}
 use Rattle.gev_live.specs.Acquirers.{handed_out, takers}
 use Rattle.gev_live.specs.History.{Crew, live_size, LiveHistory}

@@ -12,11 +12,11 @@ use Rattle.gev_control.specs.SetsUp.{setup_sent, setup_heards}
 use Rattle.gev_acq.specs.declared.turn.Turn.{Turn}
 use Rattle.gev_acq.specs.Turns.{Turned, Outside}
 use Rattle.gev_acq.specs.Acquired.{heards_in, sends_in}
-use Rattle.gev_reader.specs.Reads.{ReadsOn}
-use Rattle.gev_causes.specs.Moves.{datagrams, later_moves}
-use Rattle.gev_causes.specs.Causes.{IsUnanswered, GivesUpUnanswered, run_moves}
-use Rattle.gev_causes.proofs.Unanswered.{no_answer}
-use Rattle.gev_causes.proofs.Refusals.{refused_read}
+use Rattle.gev_acq.specs.Reads.{ReadsOn}
+use Rattle.live_promises.specs.Moves.{datagrams, later_moves}
+use Rattle.live_promises.specs.ClientCauses.{IsUnanswered, GivesUpUnanswered, run_moves}
+use Rattle.live_promises.proofs.Unanswered.{no_answer}
+use Rattle.live_promises.proofs.Refusals.{refused_read}
 use Rattle.live_promises.specs.Causes.{HadNoAnswer, HasCauses}
 
 given_up : (mode : Mode) (c : AcqConfig) (camera stream : Address) (o n : Outside) (journal journal_after : List Turn) (turns : ℕ) (end : AcqEnd) (made : List Turned) (turned last : List Event)

@@ -14,7 +14,7 @@ use Rattle.board_machine.proofs.Places.{same_is}
 use Rattle.acquisition_machine.proofs.Order.{all_append, all_front, all_back}
 use Rattle.block_fills.specs.Fills.{tried_by, tried}
 use Rattle.buffer_words.specs.Workers.{AreEvents, OnlyBy}
-use Rattle.gev_crew.specs.Prepared.{PreparesEach, LooksLast, FallsShort}
+use Rattle.live_crew.specs.Prepared.{PreparesEach, LooksLast, FallsShort}
 use Rattle.mode_calls.specs.declared.mode.Mode.{Mode}
 use Rattle.gev_live.specs.Kinds.{is_filling}
 use Rattle.gev_live.specs.History.{Crew, live_size, LiveHistory}

@@ -1,5 +1,16 @@
+pub mod ClientKeeping
+pub mod Turns
+pub mod Links
+pub mod Unanswered
+pub mod Refusals
 pub mod Sending
 pub mod Filling
 pub mod Accounts
 pub mod Causing
 pub mod Keeping
+pub mod LanesSending
+pub mod LanesFilling
+pub mod LanesAccounts
+pub mod LanesKeeping
+pub mod LanesCausing
+pub mod Refusing

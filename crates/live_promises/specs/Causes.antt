@@ -11,9 +11,9 @@ use Rattle.gev_control.specs.SetsUp.{setup_sent, setup_heards}
 use Rattle.gev_acq.specs.declared.turn.Turn.{Turn}
 use Rattle.gev_acq.specs.Turns.{Turned, Outside}
 use Rattle.gev_acq.specs.Acquired.{heards_in, sends_in}
-use Rattle.gev_reader.specs.Reads.{ReadsOn}
-use Rattle.gev_causes.specs.Moves.{Move, moves_sent, moves_heard, datagrams, later_moves}
-use Rattle.gev_causes.specs.Causes.{IsUnanswered, run_moves, setup_refusals, reader_refusals, refusal_of}
+use Rattle.gev_acq.specs.Reads.{ReadsOn}
+use Rattle.live_promises.specs.Moves.{Move, moves_sent, moves_heard, datagrams, later_moves}
+use Rattle.live_promises.specs.ClientCauses.{IsUnanswered, run_moves, setup_refusals, reader_refusals, refusal_of}
 
 -- These moves are what was sent and heard over the control link, in order. Among them a command with this number was
 -- sent three times, and no matching acknowledge came after the first of these.

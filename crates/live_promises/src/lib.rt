@@ -1,14 +1,17 @@
-//! What every live run promises: the headline, in the words of a replay, and the causes of its reader's end.
+//! What every live run promises, with one lane and with more: the headline, in the words of a replay, and the causes
+//! of its reader's end. The functions only carry their statements.
 //!
-//! `specs/Promises.antt` has the promises, over what each worker did (`gev_live`), and `specs/Causes.antt` why the
-//! reader gave up or was refused. The function only carries its statement.
+//! `specs/Promises.antt` has the promises of one lane, over what each worker did (`gev_live`), and
+//! `specs/LanesPromises.antt` those of more, over what each worker and each lane did (`live_lanes`), with one
+//! acquisition machine a lane. `specs/Moves.antt` has what is sent and heard over the control link, turn by turn,
+//! `specs/ClientCauses.antt` why a reader ended as its client did, and `specs/Causes.antt` and
+//! `specs/LanesCauses.antt` why the reader of a live run gave up or was refused.
 #![tactic(auto)]
 
-ghost use Rattle.live_promises.specs.Laws.{LiveRunsKeepPromises};
+mod client_causes; // why a reader ended as its client did
+mod lanes_laws; // runs with lanes
+mod laws; // runs with one lane
 
-/// Each live run keeps the headline, and what it handed out by that headline the application took; each buffer that it
-/// handed out holds a block, and its frame where its datagrams were sent from one map of frames; and its reader ended
-/// for a cause.
-pub fn live_runs_keep_promises()
-    ensures { LiveRunsKeepPromises }
-{}
+pub use client_causes::{no_answer_is_unanswered, refused_is_read};
+pub use lanes_laws::{lane_runs_keep_promises, lanes_packets_are_sent};
+pub use laws::live_runs_keep_promises;

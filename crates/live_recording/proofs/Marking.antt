@@ -20,7 +20,7 @@ use Rattle.gev_acq.specs.Claims.{claims_in}
 use Rattle.gev_acq.specs.Turning.{inputs_if, IsHeardIf}
 use Rattle.gev_acq.specs.Turns.{Turned, bytes_in, inputs_before, inputs_of, heard_of}
 use Rattle.gev_acq.specs.Acquired.{inputs_in, answers_in, NoteEach}
-use Rattle.gev_reader.specs.History.{AreSized}
+use Rattle.gev_acq.specs.History.{AreSized}
 use Rattle.gev_live.specs.History.{live_size}
 use Rattle.live_recording.specs.Marks.{has_got, marks_in}
 use Rattle.live_recording.proofs.Noting.{datagrams_same}

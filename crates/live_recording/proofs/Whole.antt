@@ -17,8 +17,8 @@ use Rattle.gev_status.specs.declared.status.Status.TheVariants as status
 use Rattle.recorded_runs.specs.Script.{script_of}
 use Rattle.recorded_runs.specs.Marks.{IsReceived, HasWidths, IsMarkedRun}
 use Rattle.recorded_runs.specs.TakeLines.{take_lines, AreTakesOf}
-use Rattle.recorded_reports.specs.Reports.{ReportsRun}
-use Rattle.recorded_reports.proofs.Reporting.{recorded_scripts_report}
+use Rattle.recorded_runs.specs.Reports.{ReportsRun}
+use Rattle.recorded_runs.proofs.Reporting.{recorded_scripts_report}
 use Rattle.gev_record.specs.Taped.{datagram_of, KeepsFront}
 use Rattle.gev_record.specs.Writing.{noted}
 use Rattle.gev_control.specs.declared.acq_end.AcqEnd.{AcqEnd}
@@ -27,8 +27,8 @@ use Rattle.gev_acq.specs.declared.turn.Turn.{Turn}
 use Rattle.gev_acq.specs.Claims.{claims_in}
 use Rattle.gev_acq.specs.Turns.{Turned}
 use Rattle.gev_acq.specs.Acquired.{inputs_in, answers_in, NoteEach, EndsBy}
-use Rattle.gev_reader.specs.History.{AreSized}
-use Rattle.gev_reader.specs.Reads.{EndsAfter}
+use Rattle.gev_acq.specs.History.{AreSized}
+use Rattle.gev_acq.specs.Reads.{EndsAfter}
 use Rattle.gev_live.specs.Told.{Told, live_config}
 use Rattle.gev_live.specs.History.{live_size}
 use Rattle.gev_live.specs.Endings.{is_told}

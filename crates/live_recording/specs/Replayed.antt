@@ -6,7 +6,7 @@ use Rattle.board_machine.specs.Places.{IsPrefix}
 use Rattle.board_machine.specs.Machine.{Item}
 use Rattle.board_machine.specs.Handout.{filled, taken_items}
 use Rattle.recorded_runs.specs.TakeLines.{take_lines, AreTakesOf}
-use Rattle.recorded_reports.specs.Reports.{Reports}
+use Rattle.recorded_runs.specs.Reports.{Reports}
 
 -- what buffers hold, wherever they lie: bytes and record
 abbrev pub contents : List Item → List Filling

@@ -6,7 +6,7 @@ use Rattle.gev_lanes.specs.declared.parts.ReaderLane.{ReaderLane}
 use Rattle.gev_lanes.specs.Sides.{AreKept, KeptAt}
 use Rattle.gev_lanes.specs.Messages.{Message, told}
 use Rattle.gev_lanes.specs.Acts.{Tries, TriesTo, Hears, Ticks, DoesAt}
-use Rattle.lane_turns.specs.Turns.{part_of, Each, Asks, AsksEach}
+use Rattle.lane_reader.specs.LanesTurns.{part_of, Each, Asks, AsksEach}
 
 -- ---- one lane
 

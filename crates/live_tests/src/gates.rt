@@ -1,7 +1,6 @@
 //! Workers that meet at a gate, on two threads, and one that waits in vain.
 
-use gev_links::MeetingGate;
-use gev_links::Gate;
+use gev_links::{Gate, MeetingGate};
 use std::thread;
 use std::thread::Threads;
 

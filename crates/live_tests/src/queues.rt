@@ -2,7 +2,7 @@
 
 ghost use Rattle.std.specs.Prelude.{◌≡◌};
 
-use lane_queues::{Giver, Line, Taker, ends_cross, line_is_shared};
+use gev_lanes::{Giver, Line, Taker, ends_cross, line_is_shared};
 use std::sync::Wait;
 use std::test::Fail;
 use std::thread;

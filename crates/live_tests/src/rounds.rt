@@ -6,7 +6,7 @@ ghost use Rattle.gev_lanes.specs.Sides.{AreReadersOf, AreKept, AreLanesOf, IsLan
 use gev_lanes::{CellKind, LaneEnds, Lanes, ReaderEnds, lane_ends_cross, lanes_are_shared};
 use gev_links::MemoryLink;
 use gev_types::Peer;
-use lane_turns::{ask_lanes, bring_received, bring_to_lane, end_lanes, tick_lanes};
+use lane_reader::{ask_lanes, bring_received, bring_to_lane, end_lanes, tick_lanes};
 use std::sync::Wait;
 use std::test::Fail;
 

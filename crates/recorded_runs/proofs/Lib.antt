@@ -12,3 +12,7 @@ pub mod Ends
 pub mod Marking
 pub mod LinesFit
 pub mod Replaying
+pub mod Counts
+pub mod SpellingsFit
+pub mod Following
+pub mod Reporting

@@ -2,3 +2,4 @@ pub mod Script
 pub mod Marks
 pub mod Laws
 pub mod TakeLines
+pub mod Reports

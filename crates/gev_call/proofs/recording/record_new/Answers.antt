@@ -1,6 +1,6 @@
 -- Without memory for the tape links and clocks go back as they came.
 use Rattle.std.proofs.Common.{[], ◌∷◌, subst}
-use Rattle.gev_binding.specs.Bound.{AllToldOfThree}
+use Rattle.gev_call.specs.Bound.{AllToldOfThree}
 use Rattle.gev_call.proofs.recording.record_new.Goals as goal
 
 pub returns-in-Err-clause-back : goal.returns-in-Err-clause-back

@@ -1,6 +1,6 @@
 -- A free cell with the message was given.
 use Rattle.std.proofs.Common.{◌≡◌, [], ◌∷◌, subst}
-use Rattle.lane_queues.specs.Ends.{took}
+use Rattle.gev_lanes.specs.LineEnds.{took}
 use Rattle.gev_lanes.specs.Messages.{heard}
 use Rattle.gev_lanes.proofs.Acting.{brought}
 use Rattle.gev_lanes.proofs.reader_acts.bring_one.Goals as goal

@@ -9,5 +9,5 @@ returns-in-Ok g c = record {
       (wire (g.L.Link.received c.recv.new.self) (g.L.Link.sent c.recv.new.self) (g.L.Link.faults c.recv.new.self))
       (wire (g.L.Link.received c.serve_once.new.link) (g.L.Link.sent c.serve_once.new.link) (g.L.Link.faults c.serve_once.new.link))
       (g.C.Clock.told c.args.clock.now) (g.C.Clock.told c.now-moment.new.self) c.in-Ok.came c.recv.new.out c.now-moment.result
-      c.in-Ok.ensures.received c.in-Ok.ensures.sent c.in-Ok.ensures.no_fault c.now-moment.ensures.told c.serve_once.ensures.sends c.serve_once.ensures.state;
+      c.in-Ok.ensures.received c.in-Ok.ensures.sent c.in-Ok.ensures.no_fault c.now-moment.ensures.told c.serve_once.ensures.sends c.serve_once.ensures.state c.serve_once.ensures.block;
 }

@@ -16,7 +16,7 @@ loop-turn-preserved g c =
           (wire (g.L.Link.received c.make_turn.new.link) (g.L.Link.sent c.make_turn.new.link) (g.L.Link.faults c.make_turn.new.link))
           (g.C.Clock.told c.args.clock.now) (g.C.Clock.told c.loop-turn.clock) (g.C.Clock.told c.make_turn.new.clock)
           c.args.pass.now c.loop-turn.pass c.look_run-run.new.pass c.loop-turn._turn c.look_run-run.result
-          c.loop-turn.invariant.serves c.look_run-run.ensures.entry one c.in-GoesOn.ensures.makes;
+          c.loop-turn.invariant.serves c.look_run-run.ensures.entry one c.in-GoesOn.ensures.makes.whole;
       table = c.look_run-run.ensures.entry.table ∙ c.loop-turn.invariant.table;
       hands = λ i. (c.look_run-run.ensures.hands i).slot ∙ c.loop-turn.invariant.hands i;
     }

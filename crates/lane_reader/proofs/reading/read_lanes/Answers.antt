@@ -1,6 +1,6 @@
 -- The turns kept the cells for the end.
 use Rattle.std.proofs.Common.{length}
-use Rattle.lane_turns.proofs.Keeping.{turns_keep}
+use Rattle.lane_reader.proofs.Keeping.{turns_keep}
 use Rattle.lane_reader.proofs.reading.read_lanes.Goals as goal
 
 pub end_lanes-requires-clause-kept : goal.end_lanes-requires-clause-kept

@@ -1,5 +1,0 @@
-pub mod Vacancies
-pub mod Buffers
-pub mod Beginning
-pub mod Working
-pub mod Crews

@@ -1,4 +1,0 @@
-pub mod Prepared
-pub mod Kinds
-pub mod Work
-pub mod Homes

@@ -1,0 +1,5 @@
+use Rattle.gev_lanes.proofs.Keeps.{counts}
+use Rattle.gev_lanes.proofs.line.Line.take.Goals as goal
+
+pub another-requires-clause-rule : goal.another-requires-clause-rule
+another-requires-clause-rule g c = counts _ _ _ _

@@ -1,4 +1,0 @@
-pub mod Joined
-pub mod OfKind
-pub mod Whole
-pub mod Strict

@@ -1,3 +1,0 @@
-pub mod Kinds
-pub mod Reads
-pub mod History

@@ -1,5 +1,0 @@
-use Rattle.lane_laws.proofs.Bringing.{take_turns}
-use Rattle.lane_laws.proofs.laws.lanes_take_turns.Goals as goal
-
-pub returns : goal.returns
-returns c = take_turns

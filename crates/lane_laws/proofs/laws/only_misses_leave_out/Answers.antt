@@ -1,5 +1,0 @@
-use Rattle.lane_laws.proofs.Bringing.{misses_leave_out}
-use Rattle.lane_laws.proofs.laws.only_misses_leave_out.Goals as goal
-
-pub returns : goal.returns
-returns c = misses_leave_out

@@ -1,5 +1,0 @@
-use Rattle.lane_laws.proofs.Bringing.{turns_bring}
-use Rattle.lane_laws.proofs.laws.turns_bring_what_came.Goals as goal
-
-pub returns : goal.returns
-returns c = turns_bring

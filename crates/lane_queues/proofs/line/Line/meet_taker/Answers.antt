@@ -1,9 +1,0 @@
-use Rattle.std.proofs.Common.{rules}
-use Rattle.lane_queues.proofs.Keeps.{with_taker, totals}
-use Rattle.lane_queues.proofs.line.Line.meet_taker.Goals as goal
-
-pub absorb-requires-clause-rule : goal.absorb-requires-clause-rule
-absorb-requires-clause-rule g c = with_taker _ _ _ _ c.giver.invariant.1 c.taker.invariant.1
-
-pub learn_as-requires-clause-rule : goal.learn_as-requires-clause-rule
-learn_as-requires-clause-rule g c = totals _ _ (search rules) (search rules)

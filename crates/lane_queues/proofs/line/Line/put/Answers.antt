@@ -1,5 +1,0 @@
-use Rattle.lane_queues.proofs.Keeps.{gives}
-use Rattle.lane_queues.proofs.line.Line.put.Goals as goal
-
-pub try_push_as-requires-clause-rule : goal.try_push_as-requires-clause-rule
-try_push_as-requires-clause-rule g c = gives _ _ _ _ c.start.invariant.1

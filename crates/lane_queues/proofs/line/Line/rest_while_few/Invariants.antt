@@ -1,5 +1,0 @@
-use Rattle.std.proofs.Common.{◌≡◌, ◌≤◌}
-use Rattle.lane_queues.proofs.line.Line.rest_while_few.Given as goal
-
-abbrev pub invariant-rests : goal.invariant-rests
-invariant-rests g l = record { taker : l.taker ≡ l.fn.taker; few : l.rests ≤ l.most }

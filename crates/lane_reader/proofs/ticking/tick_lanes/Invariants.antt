@@ -1,0 +1,7 @@
+use Rattle.gev_lanes.specs.Sides.{AreReadersOf}
+use Rattle.gev_lanes.specs.Acts.{Ticks}
+use Rattle.lane_reader.proofs.Looping.{EachTo}
+use Rattle.lane_reader.proofs.ticking.tick_lanes.Given as goal
+
+abbrev pub invariant-lanes : goal.invariant-lanes
+invariant-lanes g l = record { reader : AreReadersOf l.lanes l.reader; to : EachTo (λ k. Ticks l.moment) l.lane 0 l.fn.reader l.reader }

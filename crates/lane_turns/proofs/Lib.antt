@@ -1,3 +1,0 @@
-pub mod Looping
-pub mod Hearings
-pub mod Keeping

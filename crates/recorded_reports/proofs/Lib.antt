@@ -1,4 +1,0 @@
-pub mod Counts
-pub mod FitLines
-pub mod Following
-pub mod Reporting
