@@ -1,0 +1,125 @@
+//! All turns of the application.
+
+ghost use Rattle.std.specs.Prelude.{◌≡◌, cond};
+ghost use Rattle.buffer_words.specs.Boards.{board_id};
+ghost use Rattle.buffer_words.specs.Passes.{SameHands};
+ghost use Rattle.gev_links.specs.Told.{Drops};
+ghost use Rattle.frame_writing.specs.HandsOut.{HandsOut};
+
+use crate::handed_out::{HandedEnd, HandedOut};
+use crate::looking::look_once;
+use crate::outlet::Outlet;
+use crate::turn_end::TurnEnd;
+use buffer_words::{Board, Pass};
+use gev_links::{Clock, Gate, Sink, Source};
+use idle_rests::Rest;
+use std::alloc::Global;
+use std::sync::Wait;
+
+/// One for a buffer that is complete.
+fn one_if(complete: bool) -> u32
+    ensures { result ≡ cond complete 1 0 }
+{
+    if complete { 1 } else { 0 }
+}
+
+/// The application of a run over a camera's frames: takes buffers until it has taken `outlet.frames`, until none is left
+/// after the run word wasn't 1, or until the input that it watches has ended, and answers how many it took. Of each it
+/// writes what is wanted before it gives the buffer back and queues it; a write that fails ends it behind that.
+///
+/// A turn looks at the run word and then waits no time for a buffer, so the clock is read once in a turn that finds one
+/// and twice in another. It passes point 2 of the gate after each buffer that it took, and where turns found none it
+/// rests at the gate, so that a gate that each fill rings wakes it at once.
+pub fn hand_out_frames<
+    R: Wait,
+    C: Clock,
+    G: Gate,
+    K: Sink + Drop,
+    I: Source + Drop,
+    T: Clock + Drop,
+>(
+    rt: &R,
+    alloc: Global,
+    board: &Board,
+    pass: &mut Pass,
+    clock: &mut C,
+    gate: &G,
+    outlet: &mut Outlet<K, I, T>,
+) -> HandedOut
+    requires table { pass.old.table ≡ board_id board.now }
+    ensures hands_out { HandsOut outlet.old.frames outlet.old.output (C.told clock.old) (C.told clock.new) result pass.old pass.new (K.written outlet.old.sink) (K.written outlet.new.sink) (K.faults outlet.old.sink) (K.faults outlet.new.sink) outlet.old.watch.on (I.left outlet.new.watch.input) }
+    ensures dropped { Drops (I.left outlet.old.watch.input) (I.left outlet.new.watch.input) }
+    ensures input_faults { I.faults outlet.new.watch.input ≡ I.faults outlet.old.watch.input }
+    ensures hands { SameHands pass.old pass.new }
+    ensures frames { outlet.new.frames ≡ outlet.old.frames }
+    ensures output { outlet.new.output ≡ outlet.old.output }
+{
+    let mut taken = 0;
+    let mut complete = 0;
+    let mut rest = Rest::woken();
+    'turns: for _ in rt.forever() {
+        if taken == outlet.frames {
+            return HandedOut {
+                taken,
+                complete,
+                end: HandedEnd::Enough,
+            };
+        }
+        if outlet.watch.has_ended() {
+            return HandedOut {
+                taken,
+                complete,
+                end: HandedEnd::InputEnded,
+            };
+        }
+        let rings = gate.rings();
+        let output = outlet.output;
+        match look_once(
+            rt,
+            alloc,
+            board,
+            pass,
+            clock,
+            gate,
+            output,
+            &mut outlet.sink,
+        ) {
+            TurnEnd::Handed(whole) => {
+                taken += 1;
+                complete += one_if(whole);
+                rest.found();
+            }
+            TurnEnd::Idle => rest_at(rt, gate, &mut rest, rings),
+            TurnEnd::Over => {
+                return HandedOut {
+                    taken,
+                    complete,
+                    end: HandedEnd::Over,
+                };
+            }
+            TurnEnd::WriteFault(whole) => {
+                return HandedOut {
+                    taken: taken + 1,
+                    complete: complete + one_if(whole),
+                    end: HandedEnd::WriteFault,
+                };
+            }
+            TurnEnd::NoMemory(whole) => {
+                return HandedOut {
+                    taken: taken + 1,
+                    complete: complete + one_if(whole),
+                    end: HandedEnd::NoMemory,
+                };
+            }
+        }
+    }
+    unreachable!()
+}
+
+/// Rests at the gate where it's time to, until it's rung for another time than these.
+fn rest_at<R: Wait, G: Gate>(rt: &R, gate: &G, rest: &mut Rest, rings: u64) {
+    let micros = rest.micros();
+    if micros > 0 {
+        gate.rest(rt, rings, micros);
+    }
+}

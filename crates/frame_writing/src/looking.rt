@@ -1,0 +1,61 @@
+//! One turn of the application.
+
+ghost use Rattle.std.specs.Prelude.{◌≡◌};
+ghost use Rattle.buffer_words.specs.Boards.{board_id};
+ghost use Rattle.buffer_words.specs.Passes.{SameHands};
+ghost use Rattle.frame_writing.specs.Turns.{end_by, TurnsTo};
+
+use crate::handing::hand_out;
+use crate::turn_end::TurnEnd;
+use crate::write_stop::WriteStop;
+use buffer_words::{Board, Pass};
+use camera_words::Output;
+use gentl_events::event_get;
+use gev_links::{Clock, Gate, Sink};
+use std::alloc::Global;
+use std::sync::Wait;
+
+/// How a turn with a buffer that is complete or not ends, by how its text was written.
+fn end_by(complete: bool, wrote: Result<(), WriteStop>) -> TurnEnd
+    ensures { result ≡ end_by complete wrote }
+{
+    match wrote {
+        Ok(()) => TurnEnd::Handed(complete),
+        Err(WriteStop::WriteFault) => TurnEnd::WriteFault(complete),
+        Err(WriteStop::NoMemory) => TurnEnd::NoMemory(complete),
+    }
+}
+
+/// One turn: looks at the run word, waits no time for a buffer, and hands out the one that came.
+pub(crate) fn look_once<R: Wait, C: Clock, G: Gate, K: Sink>(
+    rt: &R,
+    alloc: Global,
+    board: &Board,
+    pass: &mut Pass,
+    clock: &mut C,
+    gate: &G,
+    output: Output,
+    sink: &mut K,
+) -> TurnEnd
+    requires table { pass.old.table ≡ board_id board.now }
+    ensures turn { TurnsTo result output (C.told clock.old) (C.told clock.new) (K.written sink.old) (K.written sink.new) (K.faults sink.old) (K.faults sink.new) pass.old pass.new }
+    ensures hands { SameHands pass.old pass.new }
+{
+    let run = board.look_run(pass);
+    let answer = event_get(rt, board, pass, clock, gate, 0);
+    pass.witness();
+    match answer {
+        Ok(loan) => {
+            let complete = loan.buf().rec().complete;
+            let wrote = hand_out(alloc, board, pass, loan, output, sink);
+            end_by(complete, wrote)
+        }
+        Err(_) => {
+            if run == 1 {
+                TurnEnd::Idle
+            } else {
+                TurnEnd::Over
+            }
+        }
+    }
+}
