@@ -8,3 +8,4 @@ pub mod Promised
 pub mod Recorded
 pub mod Completing
 pub mod Faced
+pub mod Simulated
