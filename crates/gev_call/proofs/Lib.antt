@@ -2,7 +2,7 @@ pub mod Backs
 pub mod Counted
 pub mod Errands
 pub mod Answered
-pub mod Binding
+pub mod Addresses
 pub mod Replaying
 pub mod Promised
 pub mod Recorded
