@@ -1,6 +1,6 @@
 -- The lines of a captured script tell its datagrams.
 use Rattle.std.proofs.Common.{◌≡◌, ℕ, zero, suc, ◌-◌, ◌/◌, ◌^◌, ◌==◌, ◌≤◌, List, [], ◌∷◌, ◌++◌, Bool, true, false, refl, ap, sym, ◌∙◌, arith, append_assoc}
-use Rattle.std.specs.Prelude.{max, min, nat_lt, replicate, if◌then◌else◌}
+use Rattle.std.specs.Prelude.{◌||◌, max, min, nat_lt, replicate, if◌then◌else◌}
 use Rattle.hex.specs.Hex.{encode_lower}
 use Rattle.gev_script.specs.Lines as line
 use Rattle.gev_script.specs.Lines.{ScriptLine}
@@ -10,9 +10,9 @@ use Rattle.gev_capture.specs.Contents.{Seen, other, fragment, cut, datagram, los
 use Rattle.gev_capture.specs.Sightings as capture
 use Rattle.gev_capture.specs.Sightings.{Sighting, no_moments, moment_in, moments_after, sighting_of}
 use Rattle.capture_script.specs.Playing.{heard, ticked, stopped}
-use Rattle.capture_script.specs.Script.{Scripted, Lines, new_script, taking, no_lines, both, goes_on, ticks, carries, is_for, seen, sighted, closing_lines, lines_from, script_behind}
-use Rattle.captured_scripts.specs.Datagrams.{Told, told_if, told_of, datagrams_to, told_from}
-use Rattle.captured_scripts.specs.Laws.{DatagramsAreTold}
+use Rattle.capture_script.specs.Script.{Scripted, Lines, new_script, taking, no_lines, both, goes_on, ticks, carries, is_for, stands_in, has_datagram, seen, sighted, script_lines, closing_lines, lines_from, script_behind}
+use Rattle.captured_scripts.specs.Datagrams.{Told, told_if, told_of, datagrams_to, has_told, told_from}
+use Rattle.captured_scripts.specs.Laws.{AreTold, DatagramsAreTold}
 
 -- ---- takes tell nothing
 
@@ -125,11 +125,34 @@ append-none : (ts : List Told) → ts ++ [] ≡ ts
 append-none [] = refl
 append-none (t ∷ ts) = ap (λ (us : List Told). t ∷ us) (append-none ts)
 
-pub datagrams_are_told : DatagramsAreTold
-datagrams_are_told port p size packets =
+all_told : (port p size : ℕ) (packets : List Packet) → told_from 0 (script_lines port p size (capture.sightings packets)) ≡ datagrams_to port (capture.sightings packets)
+all_told port p size packets =
     let xs = capture.sighted no_moments packets in
     let s : Scripted = new_script port p size in
     let last : Scripted = script_behind s xs in
     packets_tell no_moments packets s (closing_lines last) (omega arith) (omega arith)
     ∙ ap (λ (ts : List Told). datagrams_to port xs ++ ts) (taking_tells last.moment (stopped last.p last.played).filled (line.end_of_script ∷ []))
     ∙ append-none (datagrams_to port xs)
+
+-- ---- whether there is one
+
+some_told : (port moment : ℕ) (what : Seen) (ts : List Told) → (stands_in port what || has_told ts) ≡ has_told (told_of port moment what ++ ts)
+some_told port moment other ts = refl
+some_told port moment fragment ts = refl
+some_told port moment cut ts = refl
+some_told port moment (lost before now) ts = refl
+some_told port moment (datagram c) ts = if_told (is_for port c.receiver.port c.bytes) where
+  if_told : (b : Bool) → (b || has_told ts) ≡ has_told (told_if b moment c.bytes ++ ts)
+  if_told true = refl
+  if_told false = refl
+
+has_some : (port : ℕ) (xs : List Sighting) → has_datagram port xs ≡ has_told (datagrams_to port xs)
+has_some port [] = refl
+has_some port (x ∷ xs) =
+    ap (λ (b : Bool). stands_in port x.what || b) (has_some port xs) ∙ some_told port x.moment x.what (datagrams_to port xs)
+
+pub datagrams_are_told : DatagramsAreTold
+datagrams_are_told port p size packets = record {
+  told = all_told port p size packets;
+  some = has_some port (capture.sightings packets) ∙ ap has_told (sym (all_told port p size packets));
+}

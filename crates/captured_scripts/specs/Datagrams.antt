@@ -29,6 +29,11 @@ abbrev pub datagrams_to : ℕ → List Sighting → List Told
 datagrams_to port [] = []
 datagrams_to port (x ∷ xs) = told_of port x.moment x.what ++ datagrams_to port xs
 
+-- there is one
+abbrev pub has_told : List Told → Bool
+has_told [] = false
+has_told (told ∷ ts) = true
+
 -- the `d` lines, each with the greatest moment of the `t` lines before it, which was this so far
 abbrev pub told_from : ℕ → List ScriptLine → List Told
 told_from now [] = []

@@ -8,14 +8,18 @@ use Rattle.gev_capture.specs.Files.{Packet}
 use Rattle.gev_capture.specs.Captures.{Refusal, HasCaptured}
 use Rattle.gev_capture.specs.Laws.{AreBytes, HasBytes}
 use Rattle.gev_capture.specs.Sightings.{sightings}
-use Rattle.capture_script.specs.Script.{script_lines, capture_script}
-use Rattle.captured_scripts.specs.Datagrams.{datagrams_to, told_from}
+use Rattle.capture_script.specs.Script.{script_lines, capture_script, has_datagram}
+use Rattle.captured_scripts.specs.Datagrams.{datagrams_to, has_told, told_from}
 
 -- The script's `d` lines are the capture's datagrams to the port, in order; and of each the greatest moment of the
--- `t` lines before it, 0 where there is none, is its moment.
+-- `t` lines before it, 0 where there is none, is its moment. So there is a `d` line just where the capture has a datagram
+-- for the script.
+pub record AreTold (port p size : ℕ) (packets : List Packet) : Type 0 where
+  pub told : told_from 0 (script_lines port p size (sightings packets)) ≡ datagrams_to port (sightings packets)
+  pub some : has_datagram port (sightings packets) ≡ has_told (told_from 0 (script_lines port p size (sightings packets)))
+
 abbrev pub DatagramsAreTold : Type 0
-DatagramsAreTold =
-    (port p size : ℕ) (packets : List Packet) → told_from 0 (script_lines port p size (sightings packets)) ≡ datagrams_to port (sightings packets)
+DatagramsAreTold = (port p size : ℕ) (packets : List Packet) → AreTold port p size packets
 
 -- Each line of it is a line of the grammar; and where there are at most 4,294,967,295, it is a script for `replay`, none of
 -- whose lines is refused.

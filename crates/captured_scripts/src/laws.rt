@@ -3,7 +3,8 @@
 ghost use Rattle.captured_scripts.specs.Laws.{DatagramsAreTold, PacketsMakeScripts, CapturesMakeScripts};
 ghost use Rattle.captured_scripts.specs.Traces.{PacketsAreReplayed, CapturesAreReplayed};
 
-/// The datagrams of a captured script are those of the capture to the port, in order, each at its moment.
+/// The datagrams of a captured script are those of the capture to the port, in order, each at its moment; so it has one
+/// just where the capture has one for it.
 pub fn datagrams_are_told()
     ensures { DatagramsAreTold }
 {}

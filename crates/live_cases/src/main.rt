@@ -16,6 +16,7 @@ mod links;
 mod living;
 mod meeting;
 mod ordering;
+mod pacing;
 mod reading;
 mod recording;
 mod scripts;
@@ -119,6 +120,7 @@ fn call_worker<R: Wait>(
         "beat" => ordering::tell_heartbeat(rt, case)?,
         "sends" => controlling::send_some(rt, case)?,
         "acquire" => acquiring::acquire_some(rt, handles, case)?,
+        "paces" => pacing::pace_some(rt, handles, case)?,
         "served" => telling::serve_some(rt, handles, case)?,
         "told" => telling::tell_one(rt, handles, case)?,
         "serve" => serving::serve_some(rt, case)?,

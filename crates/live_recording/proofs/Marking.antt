@@ -3,7 +3,7 @@ use Rattle.std.proofs.Common.{◌≡◌, ℕ, ◌≤◌, Bool, true, false, List
 use Rattle.std.specs.Prelude.{is_some}
 use Rattle.acquisition_machine.specs.Blocks.{Given}
 use Rattle.acquisition_machine.specs.Machine.{Input, datagram, claimed, tick, stop, State, step}
-use Rattle.acquisition_machine.specs.Runs.{first_state, After}
+use Rattle.acquisition_machine.specs.Runs.{first_state, after_from, After}
 use Rattle.acquisition_machine.specs.TurnLaws.{asked_by}
 use Rattle.acquisition_machine.specs.Sound.{IsSound, MayOpen}
 use Rattle.acquisition_machine.proofs.Joining.{after_from-append}
@@ -19,7 +19,7 @@ use Rattle.gev_acq.specs.declared.heard.Heard.{Heard}
 use Rattle.gev_acq.specs.Claims.{claims_in}
 use Rattle.gev_acq.specs.Turning.{inputs_if, IsHeardIf}
 use Rattle.gev_acq.specs.Turns.{Turned, bytes_in, inputs_before, inputs_of, heard_of}
-use Rattle.gev_acq.specs.Acquired.{inputs_in, answers_in, NoteEach}
+use Rattle.gev_acq.specs.Acquired.{inputs_in, answers_in, NoteEach, TellsOwn}
 use Rattle.gev_acq.specs.History.{AreSized}
 use Rattle.gev_live.specs.History.{live_size}
 use Rattle.live_recording.specs.Marks.{has_got, marks_in}
@@ -82,24 +82,28 @@ sized_parts (Some bytes) None moment rest sized = record { here = tt; later = si
 sized_parts (Some bytes) (Some None) moment rest sized = record { here = tt; later = sized }
 sized_parts (Some bytes) (Some (Some g)) moment rest sized = record { here = (sized.0, tt); later = sized.1 }
 
-turns_marked : (q : List Input) (made : List Turned) (es : List Turn) → NoteEach live_config q made es → AreSized live_size (claims_in (inputs_in made))
+-- a turn's own moment ends its inputs
+own_ends : (t : Turned) (rest : List Input) → t.told ≡ t.moment → inputs_of t ++ rest ≡ (inputs_before t ++ tick t.moment ∷ []) ++ rest
+own_ends t rest own = ap (λ m. (inputs_before t ++ tick m ∷ []) ++ rest) own
+
+turns_marked : (q : List Input) (made : List Turned) (es : List Turn) → TellsOwn made → NoteEach live_config q made es → AreSized live_size (claims_in (inputs_in made))
     → IsMarkedRun (After live_config q) (noted (map bytes_in (answers_in made)) (marks_in q made)) (inputs_in made ++ stop ∷ [])
-turns_marked q [] [] notes sized = refl
-turns_marked q [] (e ∷ es) notes sized = absurd notes
-turns_marked q (t ∷ ts) [] notes sized = absurd notes
-turns_marked q (t ∷ ts) (e ∷ es) notes sized =
-    let parts : Sized (bytes_in t.answer) t.given (inputs_in ts) = sized_parts (bytes_in t.answer) t.given t.moment (inputs_in ts) sized in (
+turns_marked q [] [] own notes sized = refl
+turns_marked q [] (e ∷ es) own notes sized = absurd notes
+turns_marked q (t ∷ ts) [] own notes sized = absurd notes
+turns_marked q (t ∷ ts) (e ∷ es) own notes sized =
+    let parts : Sized (bytes_in t.answer) t.given (inputs_in ts) = sized_parts (bytes_in t.answer) t.given t.told (inputs_in ts) sized in (
       inputs_before t,
       inputs_in ts ++ stop ∷ [],
       heard_in_turn q (bytes_in t.answer) t.given (heard_of e) notes.0.heard parts.here,
-      append_assoc (inputs_of t) (inputs_in ts) (stop ∷ []),
+      append_assoc (inputs_of t) (inputs_in ts) (stop ∷ []) ∙ own_ends t (inputs_in ts ++ stop ∷ []) own.0,
       (refl, λ is. claims_nothing q (bytes_in t.answer) t.given (heard_of e) notes.0.heard is),
       subst (λ (s : State). IsMarkedRun s (noted (map bytes_in (answers_in ts)) (marks_in (q ++ inputs_of t) ts)) (inputs_in ts ++ stop ∷ []))
-          (after_from-append live_config first_state q (inputs_of t))
-          (turns_marked (q ++ inputs_of t) ts es notes.1 parts.later),
+          (after_from-append live_config first_state q (inputs_of t) ∙ ap (λ m. after_from live_config (After live_config q) (inputs_before t ++ tick m ∷ [])) own.0)
+          (turns_marked (q ++ inputs_of t) ts es own.1 notes.1 parts.later),
     )
 
-pub marked_run : (made : List Turned) (es : List Turn) → NoteEach live_config [] made es → AreSized live_size (claims_in (inputs_in made))
+pub marked_run : (made : List Turned) (es : List Turn) → TellsOwn made → NoteEach live_config [] made es → AreSized live_size (claims_in (inputs_in made))
     → IsMarkedRun first_state (noted (map datagram_of (answers_in made)) (marks_in [] made)) (inputs_in made ++ stop ∷ [])
-marked_run made es notes sized =
-    subst (λ ds. IsMarkedRun first_state (noted ds (marks_in [] made)) (inputs_in made ++ stop ∷ [])) (sym (datagrams_same (answers_in made))) (turns_marked [] made es notes sized)
+marked_run made es own notes sized =
+    subst (λ ds. IsMarkedRun first_state (noted ds (marks_in [] made)) (inputs_in made ++ stop ∷ [])) (sym (datagrams_same (answers_in made))) (turns_marked [] made es own notes sized)

@@ -26,7 +26,7 @@ use Rattle.gev_control.specs.declared.acq_end.AcqEnd.TheVariants as how
 use Rattle.gev_acq.specs.declared.turn.Turn.{Turn}
 use Rattle.gev_acq.specs.Claims.{claims_in}
 use Rattle.gev_acq.specs.Turns.{Turned}
-use Rattle.gev_acq.specs.Acquired.{inputs_in, answers_in, NoteEach, EndsBy}
+use Rattle.gev_acq.specs.Acquired.{inputs_in, answers_in, NoteEach, TellsOwn, EndsBy}
 use Rattle.gev_acq.specs.History.{AreSized}
 use Rattle.gev_acq.specs.Reads.{EndsAfter}
 use Rattle.gev_live.specs.Told.{Told, live_config}
@@ -101,12 +101,12 @@ inputs_all made = inputs_in made ++ stop ∷ []
 abbrev heard_by : List Turned → List (Option (List ℕ))
 heard_by made = map datagram_of (answers_in made)
 
-reports_run : (made : List Turned) (es : List Turn) (heard : List (Option (List ℕ))) → NoteEach live_config [] made es → AreSized live_size (claims_in (inputs_in made)) → length made ≤ 100000
+reports_run : (made : List Turned) (es : List Turn) (heard : List (Option (List ℕ))) → TellsOwn made → NoteEach live_config [] made es → AreSized live_size (claims_in (inputs_in made)) → length made ≤ 100000
     → AllByRecursion HasWidths (turns_noted heard made) → heard ≡ heard_by made → ReportsRun (turns_noted heard made) (inputs_all made)
-reports_run made es heard notes sized few wide is =
+reports_run made es heard own notes sized few wide is =
     let counted : length (turns_noted heard made) ≡ length made = noted_counted heard (marks_in [] made) ∙ marks_counted [] made in
     let marked : IsMarkedRun first_state (turns_noted heard made) (inputs_all made) =
-    subst (λ ds. IsMarkedRun first_state (turns_noted ds made) (inputs_all made)) (sym is) (marked_run made es notes sized) in
+    subst (λ ds. IsMarkedRun first_state (turns_noted ds made) (inputs_all made)) (sym is) (marked_run made es own notes sized) in
     recorded_scripts_report (turns_noted heard made) (inputs_all made) (omega (arith, counted, few)) wide marked
 
 replays_fills : (n : Numbers) (camera stream : Address) (lived : Status) (o e : Told) (h : List Entry) (run : LiveRun n camera stream lived o e None None 0 0 h) (heard : List (Option (List ℕ)))
@@ -114,7 +114,7 @@ replays_fills : (n : Numbers) (camera stream : Address) (lived : Status) (o e : 
     → n.mode ≡ OldestFirst → ReplaysFills (script_of (turns_noted heard run.reader_part.made)) run.crew.application h
 replays_fills n camera stream lived o e h run heard few wide is oldest =
     let reported : ReportsRun (turns_noted heard run.reader_part.made) (inputs_all run.reader_part.made) =
-    reports_run run.reader_part.made run.reader_part.on.entries heard run.reader_part.on.notes run.reader_part.sized few wide is in
+    reports_run run.reader_part.made run.reader_part.on.entries heard run.reader_part.on.own run.reader_part.on.notes run.reader_part.sized few wide is in
     let same : contents (filled h) ≡ images (fills live_config.p (retired_from live_config first_state (inputs_all run.reader_part.made))) =
     filled_images n.mode live_config n.buffers run.crew h (inputs_all run.reader_part.made) run.history run.reader_part.fills in
     record {

@@ -1,0 +1,139 @@
+//! A reader's turns one by one, with the host's moments or with those of the receiver's clock.
+
+ghost use Rattle.std.specs.Prelude.{◌≡◌, [], IfOk};
+ghost use Rattle.acq_core.specs.Receiver.{buffers};
+ghost use Rattle.acq_core.specs.Waiting.{waiting_fills, waiting_requests};
+ghost use Rattle.buffer_words.specs.Boards.{board_id};
+ghost use Rattle.gev_acq.specs.Buffers.{Backs};
+
+use crate::board::{new_board, print_all};
+use crate::case::Case;
+use crate::links::{CAMERA, HOST, control_link, stream_link};
+use acq_core::{Acq, AcqConfig};
+use anyhow::Result;
+use buffer_words::{Board, Pass};
+use control_client::Client;
+use gev_acq::{HostMoments, Moments, Paced, drain, turn_once};
+use gev_links::{MemoryClock, MemoryLink, OpenGate};
+use gev_types::NoMemory;
+use mode_calls::Mode;
+use std::alloc::Global;
+use std::sync::Wait;
+
+const MODE: Mode = Mode::OldestFirst;
+
+/// What a reader has beside its receiver.
+#[derive(Drop)]
+struct Reader<'x> {
+    client: Client,
+    stream: MemoryLink<'x>,
+    control: MemoryLink<'x>,
+    clock: MemoryClock<'x>,
+}
+
+/// A receiver that retires a block which got no new packet for 200 ms, and asks for none again.
+fn new_receiver(alloc: Global) -> Result<Acq, NoMemory>
+    ensures fills { IfOk result (λ acq. waiting_fills acq ≡ []) }
+    ensures requests { IfOk result (λ acq. waiting_requests acq ≡ []) }
+    ensures buffers { IfOk result (λ acq. buffers acq ≡ []) }
+{
+    Acq::new(
+        alloc,
+        AcqConfig {
+            p: 528,
+            window: 1,
+            timeout: 200,
+            age: 200,
+            rounds: 0,
+        },
+    )
+}
+
+/// A reader's turns: numbers are whether its receiver has a clock of its own, the moment at which that begins, and how
+/// many turns there are. The turns that heard something, the block that retired at a moment and why, and what waits.
+pub fn pace_some<R: Wait>(rt: &HostRuntime, handles: &R, case: &Case<'_>) -> Result<()> {
+    if case.number(0) == 1 {
+        return take_turns(rt, handles, case, &mut Paced::new(case.number(1)));
+    }
+    take_turns(rt, handles, case, &mut HostMoments)
+}
+
+/// The same, by these moments.
+fn take_turns<R: Wait, P: Moments>(
+    rt: &HostRuntime,
+    handles: &R,
+    case: &Case<'_>,
+    moments: &mut P,
+) -> Result<()> {
+    let (board, mut pass) = new_board(rt.alloc())?;
+    let mut acq = new_receiver(rt.alloc())?;
+    acq.tell_ends();
+    let mut reader = Reader {
+        client: Client::new(),
+        stream: stream_link(rt.alloc(), case)?,
+        control: control_link(rt.alloc(), case, HOST)?,
+        clock: MemoryClock::new(case.moments),
+    };
+    let turns = case.number(2);
+    print!(rt; "{turns} turns")?;
+    for _turn in 0..turns {
+        take_turn(
+            rt,
+            handles,
+            &board,
+            &mut pass,
+            &mut acq,
+            &mut reader,
+            moments,
+        )?;
+    }
+    drain(handles, &board, &mut pass, &mut acq, MODE);
+    print_all(rt, handles, &board, &mut pass)
+}
+
+/// A turn.
+fn take_turn<R: Wait, P: Moments>(
+    rt: &HostRuntime,
+    handles: &R,
+    board: &Board,
+    pass: &mut Pass,
+    acq: &mut Acq,
+    reader: &mut Reader<'_>,
+    moments: &mut P,
+) -> Result<()>
+    requires table { pass.old.table ≡ board_id board.now }
+    requires fills { waiting_fills acq.old ≡ [] }
+    requires requests { waiting_requests acq.old ≡ [] }
+    requires backs { Backs pass.old (buffers acq.old) }
+    ensures table { pass.new.table ≡ pass.old.table }
+    ensures fills { waiting_fills acq.new ≡ [] }
+    ensures requests { waiting_requests acq.new ≡ [] }
+    ensures backs { Backs pass.new (buffers acq.new) }
+{
+    let mut out = [0; 9000];
+    let (turn, end) = turn_once(
+        handles,
+        board,
+        pass,
+        acq,
+        &mut reader.client,
+        &mut reader.stream,
+        &mut reader.control,
+        &mut reader.clock,
+        &OpenGate,
+        CAMERA,
+        &mut out,
+        moments,
+        MODE,
+    );
+    if turn.datagram {
+        print!(rt; "\n  {turn:?} {end:?}")?;
+    }
+    if let Some(ended) = acq.next_ended() {
+        print!(rt;
+            "\n  block {} {:?} at {}",
+            ended.block, ended.cause, turn.moment
+        )?;
+    }
+    Ok(())
+}
