@@ -1,11 +1,15 @@
 #!/usr/bin/env python3
 """Runs PROGRAM's `discover` and `description` against cameras that this script plays, each at an address of
-127.0.0.0/8 and port 3956, and compares statuses, texts and bytes with what the formats say.
+127.0.0.0/8 and port 3956, and PROGRAM's `simulate` with clients that it plays; compares statuses, texts and bytes with
+what the formats say.
 
 It needs Linux, where each such address is this machine's. Prints a line for each thing that differs, and ends with 1
 where there is one."""
+import itertools
 import os
+import re
 import shutil
+import signal
 import socket
 import struct
 import subprocess
@@ -196,10 +200,119 @@ def check_description():
 
 def check_words():
     for words, place in ((["discover", "x"], 1), (["discover", "127.0.0.1", "127.0.0.1"], 2), (["discover", "1.2.3.256"], 1), (["discover", "01.2.3.4"], 1), (["discover", "1.2.3"], 1),
-                         (["discover", "1.2.3.4.5"], 1), (["discover", ""], 1), (["description"], 1), (["description", "1.2.3"], 1), (["description", "127.0.0.1", "1"], 2)):
+                         (["discover", "1.2.3.4.5"], 1), (["discover", ""], 1), (["description"], 1), (["description", "1.2.3"], 1), (["description", "127.0.0.1", "1"], 2),
+                         (["simulate"], 1), (["simulate", "127.0.0"], 1), (["simulate", "127.0.0.1", "1"], 2), (["simulate", "127.0.0.1", "seed=01"], 2), (["simulate", "127.0.0.1", "turns=1", "rate=3"], 3),
+                         (["simulate", "127.0.0.1", "rate=1001"], 2), (["simulate", "127.0.0.1", "turns=0"], 2), (["simulate", "127.0.0.1", "turns=4294967296"], 2), (["simulate", "127.0.0.1", "until=frames"], 2),
+                         (["simulate", "127.0.0.1", "seed=1", "until=turns", "turns=1", "seed=1"], 5), (["simulate", "127.0.0.1", "seed=1", "rate=4", "turns=1", "until=turns", "rate=4"], 6)):
         status, out, err = run([], *words)
         if (status, out, err.split("\n")[0]) != (2, b"", "gevacq: word %d isn't understood" % place):
             note(" ".join(words), "status %d, %r, %r" % (status, out, err))
+
+
+# ---- simulate
+
+CCP, SCP0, SCPS0, SCDA0 = 0x0A00, 0x0D00, 0x0D04, 0x0D18
+# the line that `discover` writes of each simulated camera
+SIMULATED = 'camera 127.0.0.1 mac=02:11:22:33:44:55 mask=255.0.0.0 manufacturer="GEVACQ" model="SIMCAM" version="1.0" serial="0001" name=""\n'
+
+
+def await_camera(address):
+    """Waits, a while at most, until a camera answers there."""
+    with socket.socket(socket.AF_INET, socket.SOCK_DGRAM) as client:
+        client.settimeout(0.1)
+        for _ in range(100):
+            client.sendto(bytes.fromhex("420100020000ffff"), (address, PORT))
+            try:
+                client.recv(1024)
+                return
+            except socket.timeout:
+                pass
+
+
+def simulated(case, words, at, said):
+    """Runs `at` beside a simulated camera until standard input ends. What it gives and the camera's line have to be as
+    `said` says."""
+    camera = subprocess.Popen([PROGRAM, "simulate", *words], stdin=subprocess.PIPE, stdout=subprocess.PIPE, stderr=subprocess.PIPE)
+    await_camera(words[0])
+    try:
+        want = at()
+    finally:
+        out, err = camera.communicate(timeout=60)
+    found = re.fullmatch(r"simulate frames=(\d+) turns=(\d+)\n", out.decode())
+    if (camera.returncode, err) != (0, b"") or not found or not said(want, int(found[1]), int(found[2])):
+        note(case, "status %d, %r, %r; %r" % (camera.returncode, out, err, want))
+
+
+def writes(client, camera, numbers, *pairs):
+    """Writes these registers one after the other, each once the one before it was acknowledged: the answer that isn't that."""
+    for register, value in pairs:
+        req = next(numbers)
+        client.sendto(struct.pack(">BBHHHII", 0x42, 1, WRITEREG, 8, req, register, value), (camera, PORT))
+        answer = client.recv(1024)
+        if answer[:4] + answer[6:8] != struct.pack(">HHH", 0, WRITEREG + 1, req):
+            return answer
+    return None
+
+
+def streams(camera, openings):
+    """Opens the camera's stream so often, and sums up the greatest block ids that came; a leader, at least, of the first."""
+    frames, numbers = 0, itertools.count(1)
+    with socket.socket(socket.AF_INET, socket.SOCK_DGRAM) as client, socket.socket(socket.AF_INET, socket.SOCK_DGRAM) as stream:
+        client.settimeout(5)
+        stream.settimeout(0.3)
+        stream.bind(("127.0.0.1", 0))
+        here = struct.unpack(">I", socket.inet_aton("127.0.0.1"))[0]
+        for _ in range(openings):
+            if writes(client, camera, numbers, (CCP, 2), (SCPS0, 8000), (SCDA0, here), (SCP0, stream.getsockname()[1])):
+                return None
+            ends, last, leader = time.monotonic() + 0.4, 0, False
+            closes = None
+            while True:
+                try:
+                    packet = stream.recv(9000)
+                except socket.timeout:
+                    break
+                block = struct.unpack(">Q", packet[8:16])[0]
+                last, leader = max(last, block), leader or (packet[4] == 0x81 and block == 1)
+                if closes is None and time.monotonic() >= ends:
+                    closes = writes(client, camera, numbers, (SCP0, 0), (CCP, 0)) or True
+            if closes is not True or not leader:
+                return None
+            frames += last
+    return frames
+
+
+def check_simulate():
+    a = "127.83.3.1"
+    each = lambda *words: subprocess.run([PROGRAM, *words], capture_output=True, timeout=60)
+    done = each("simulate", a, "rate=1000", "turns=3")
+    if (done.returncode, done.stdout, done.stderr) != (0, b"simulate frames=0 turns=3\n", b""):
+        note("three turns", "%r" % done)
+    got = []
+    simulated("a search beside it", [a, "rate=50", "turns=100"], lambda: got.append(each("discover", a)), lambda want, frames, turns: (frames, turns) == (0, 100))
+    if (got[0].returncode, got[0].stdout.decode(), got[0].stderr) != (0, SIMULATED + "end cameras=1\n", b""):
+        note("a search beside it", "%r" % got)
+    simulated("another one at its address", [a, "until=stdin"], lambda: each("simulate", a), lambda want, frames, turns:
+              (want.returncode, want.stdout, want.stderr) == (6, b"", b"gevacq: the network failed\n") and frames == 0)
+    simulated("no description", [a, "until=stdin", "rate=100"], lambda: each("description", a), lambda want, frames, turns:
+              (want.returncode, want.stdout) == (16, b"") and 2 <= turns <= 100)
+    simulated("images", [a, "rate=50", "until=stdin", "seed=7"], lambda: streams(a, 2), lambda want, frames, turns: want == frames and 2 <= frames <= turns)
+    done = each("simulate", "192.0.2.1")
+    if (done.returncode, done.stdout, done.stderr) != (6, b"", b"gevacq: the network failed\n"):
+        note("no address of this machine", "%r" % done)
+
+
+def check_interrupts():
+    """Control-C where the launcher runs it: the signal goes to all of its group."""
+    # (where there is no program it builds one first)
+    subprocess.run(["./gevacq", "--version"], capture_output=True)
+    for words in ([], ["until=stdin"]):
+        launcher = subprocess.Popen(["./gevacq", "simulate", "127.83.3.2", "rate=50", *words], stdin=subprocess.PIPE, stdout=subprocess.PIPE, stderr=subprocess.PIPE, start_new_session=True)
+        await_camera("127.83.3.2")
+        os.killpg(launcher.pid, signal.SIGINT)
+        out, err = launcher.communicate(timeout=60)
+        if launcher.returncode or err or not re.fullmatch(rb"simulate frames=0 turns=[1-9]\d*\n", out):
+            note("Control-C %s" % words, "status %d, %r, %r" % (launcher.returncode, out, err))
 
 
 # ---- somebody else's camera
@@ -245,13 +358,15 @@ def main():
     check_words()
     check_discover()
     check_description()
+    check_simulate()
+    check_interrupts()
     why = check_aravis()
     if why:
         print("checks/cameras: Aravis' fake camera is skipped, since " + why)
     for fault in faults:
         print(fault, file=sys.stderr)
     if not faults:
-        print("checks/cameras: discover and description answer as they have to")
+        print("checks/cameras: discover, description and simulate answer as they have to")
     return 1 if faults else 0
 
 

@@ -14,7 +14,8 @@ OF_REPLAY_SCRIPTS = ["replay", "explain", "image 1", "image 2", "image all"]
 OF_CAMERA_SCRIPTS = ["camera"]
 OF_CAPTURES = ["streams", "capture 49152 1464 4096"]
 # Those that read nothing. Their numbers are drawn anew, and now and then a word is changed.
-OF_NOTHING = ["make 1 3 50 50 50", "soak 1 3 50 50 50", "soak 1 3 50 0 0 short", "live 1 2 2 1 3", "record 1 2 2 3", "description 127.83.9.9"]
+OF_NOTHING = ["make 1 3 50 50 50", "soak 1 3 50 50 50", "soak 1 3 50 0 0 short", "live 1 2 2 1 3", "record 1 2 2 3", "description 127.83.9.9",
+              "simulate 127.83.9.9 until=stdin seed=1 rate=20 turns=3"]
 
 # How long one run may take, and all together, in seconds.
 RUN_SECONDS = 20
@@ -34,6 +35,7 @@ STATUSES = {
     "record": {0, 9, 10, 11},
     # no camera is there
     "description": {9},
+    "simulate": {0},
 }
 
 # What a live run tells of its losses, where it began, before that text.
@@ -528,6 +530,11 @@ def judge_pictures(script, status, text, error):
     wants(status == 7 or at == len(text), "another number of pixels")
 
 
+def judge_simulation(data, status, text, error):
+    """The line of few turns: its input ends at once."""
+    wants(re.fullmatch(r"simulate frames=0 turns=\d+\n", text), f"the text {text[:200]!r}")
+
+
 JUDGES = {
     "replay": judge_report,
     "explain": judge_report,
@@ -539,6 +546,7 @@ JUDGES = {
     "soak": judge_run,
     "live": judge_run,
     "record": judge_record,
+    "simulate": judge_simulation,
 }
 
 # ---------------------------------------------------------------------------------------------------------------
@@ -630,6 +638,9 @@ def any_words(draw):
         words[4] = b"%d" % draw.randrange(1, 5)
         if draw.random() < 0.7:
             words.append(b"%d" % draw.randrange(3))
+    if words[0] == b"simulate":
+        settings = [b"seed=%d" % draw.getrandbits(64), b"rate=%d" % draw.choice([3, 4, 20, 1000, 1001]), b"turns=%d" % draw.choice([0, 1, 3, 2**32 - 1, 2**32])]
+        words[3:] = draw.sample(settings, draw.randrange(1, 4))
     others = [b"", b"0", b"01", b"-1", b"+1", b"1 ", b"short", b"18446744073709551616", b"\xff\xfe", draw.randbytes(3).replace(b"\0", b"x")]
     kind = draw.randrange(6)
     if kind == 0:

@@ -12,13 +12,12 @@ use Rattle.gev_apply.proofs.Turns.{looks_none, looks_then, lent-append}
 use Rattle.camera_words.specs.declared.settings.Output.{Output}
 use Rattle.frame_writing.specs.declared.write_stop.WriteStop.{WriteStop}
 use Rattle.frame_writing.specs.declared.write_stop.WriteStop.TheVariants as stops
-use Rattle.frame_writing.specs.declared.handed_out.HandedEnd.{HandedEnd}
 use Rattle.frame_writing.specs.declared.handed_out.HandedEnd.TheVariants.{Enough, Over, InputEnded, WriteFault, NoMemory}
 use Rattle.frame_writing.specs.declared.handed_out.HandedOut.{HandedOut}
 use Rattle.frame_writing.specs.Texts.{text_of, texts_of, complete_in}
 use Rattle.frame_writing.specs.declared.turn_end.TurnEnd.TheVariants as turns
 use Rattle.frame_writing.specs.Turns.{HandsOne, TurnsTo}
-use Rattle.frame_writing.specs.HandsOut.{WritesAll, WritesButLast, HandsOut}
+use Rattle.frame_writing.specs.HandsOut.{WritesAll, WritesButLast, handed_out, HandsOut}
 use Rattle.frame_writing.proofs.Written.{wrote_none, wrote_then, wrote_same}
 
 -- ---- lists of buffers
@@ -145,49 +144,49 @@ idles_on frames output told mid now taken complete s t u written between after f
 
 -- ---- the ends
 
-abbrev pub answer_of : ℕ → ℕ → HandedEnd → HandedOut
-answer_of taken complete end = record { taken = taken; complete = complete; end = end }
-
-pub has_enough : (frames : ℕ) (output : Output) (told now : Option (List ℕ)) (taken complete : ℕ) (s t : Token) (written written_after : Option (List ℕ)) (faults faults_after : ℕ) (watched : Bool) (left : Option (List ℕ))
+pub has_enough : (frames : ℕ) (output : Output) (told now : Option (List ℕ)) (taken complete : ℕ) (s t : Token) (written written_after : Option (List ℕ)) (faults faults_after : ℕ) (watched : Bool) (left : Option (List ℕ)) (result : HandedOut)
     → GoesOn frames output told now taken complete s t written written_after faults faults_after → taken ≡ frames
-    → HandsOut frames output told now (answer_of taken complete Enough) s t written written_after faults faults_after watched left
-has_enough frames output told now taken complete s t written written_after faults faults_after watched left g all = record {
-  made = g.made;
-  looks = g.looks;
-  number = g.number;
-  few = g.few;
-  complete = g.whole;
-  ends = (all, g.on, g.wrote);
-}
+    → result ≡ handed_out taken complete Enough → HandsOut frames output told now result s t written written_after faults faults_after watched left
+has_enough frames output told now taken complete s t written written_after faults faults_after watched left result g all told_so =
+    subst (λ (r : HandedOut). HandsOut frames output told now r s t written written_after faults faults_after watched left) (sym told_so) (record {
+      made = g.made;
+      looks = g.looks;
+      number = g.number;
+      few = g.few;
+      complete = g.whole;
+      ends = (all, g.on, g.wrote);
+    })
 
-pub input_ended : (frames : ℕ) (output : Output) (told now : Option (List ℕ)) (taken complete : ℕ) (s t : Token) (written written_after : Option (List ℕ)) (faults faults_after : ℕ) (watched : Bool) (left : Option (List ℕ))
+pub input_ended : (frames : ℕ) (output : Output) (told now : Option (List ℕ)) (taken complete : ℕ) (s t : Token) (written written_after : Option (List ℕ)) (faults faults_after : ℕ) (watched : Bool) (left : Option (List ℕ)) (result : HandedOut)
     → GoesOn frames output told now taken complete s t written written_after faults faults_after → taken ≢ frames → watched ≡ true → IsSpent left
-    → HandsOut frames output told now (answer_of taken complete InputEnded) s t written written_after faults faults_after watched left
-input_ended frames output told now taken complete s t written written_after faults faults_after watched left g fewer is_on spent = record {
-  made = g.made;
-  looks = g.looks;
-  number = g.number;
-  few = g.few;
-  complete = g.whole;
-  ends = (omega (arith, g.few, fewer), is_on, spent, g.on, g.wrote);
-}
+    → result ≡ handed_out taken complete InputEnded → HandsOut frames output told now result s t written written_after faults faults_after watched left
+input_ended frames output told now taken complete s t written written_after faults faults_after watched left result g fewer is_on spent told_so =
+    subst (λ (r : HandedOut). HandsOut frames output told now r s t written written_after faults faults_after watched left) (sym told_so) (record {
+      made = g.made;
+      looks = g.looks;
+      number = g.number;
+      few = g.few;
+      complete = g.whole;
+      ends = (omega (arith, g.few, fewer), is_on, spent, g.on, g.wrote);
+    })
 
-pub is_over : (frames : ℕ) (output : Output) (told mid now : Option (List ℕ)) (taken complete : ℕ) (s t u : Token) (written between after : Option (List ℕ)) (faults faults_between faults_after : ℕ) (watched : Bool) (left : Option (List ℕ))
+pub is_over : (frames : ℕ) (output : Output) (told mid now : Option (List ℕ)) (taken complete : ℕ) (s t u : Token) (written between after : Option (List ℕ)) (faults faults_between faults_after : ℕ) (watched : Bool) (left : Option (List ℕ)) (result : HandedOut)
     → GoesOn frames output told mid taken complete s t written between faults faults_between
     → TurnsTo turns.Over output mid now between after faults_between faults_after t u → taken ≢ frames
-    → HandsOut frames output told now (answer_of taken complete Over) s u written after faults faults_after watched left
-is_over frames output told mid now taken complete s t u written between after faults faults_between faults_after watched left g over fewer = record {
-  made = g.made ++ over.0.turn ∷ [];
-  looks = looks_then told mid now g.made (over.0.turn ∷ []) s t u g.looks over.0.looks;
-  number = g.number ∙ ap length (sym (lent_same g.made over.0.turn over.0.nothing));
-  few = g.few;
-  complete = g.whole ∙ ap complete_in (sym (lent_same g.made over.0.turn over.0.nothing));
-  ends = (
-    omega (arith, g.few, fewer),
-    record { before = g.made; last = over.0.turn; is = refl; on = g.on; over = record { stopped = over.0.word; nothing = over.0.nothing } },
-    wrote_still output g.made over.0.turn written between after faults faults_between faults_after over.0.nothing g.wrote over.1 over.2,
-  );
-}
+    → result ≡ handed_out taken complete Over → HandsOut frames output told now result s u written after faults faults_after watched left
+is_over frames output told mid now taken complete s t u written between after faults faults_between faults_after watched left result g over fewer told_so =
+    subst (λ (r : HandedOut). HandsOut frames output told now r s u written after faults faults_after watched left) (sym told_so) (record {
+      made = g.made ++ over.0.turn ∷ [];
+      looks = looks_then told mid now g.made (over.0.turn ∷ []) s t u g.looks over.0.looks;
+      number = g.number ∙ ap length (sym (lent_same g.made over.0.turn over.0.nothing));
+      few = g.few;
+      complete = g.whole ∙ ap complete_in (sym (lent_same g.made over.0.turn over.0.nothing));
+      ends = (
+        omega (arith, g.few, fewer),
+        record { before = g.made; last = over.0.turn; is = refl; on = g.on; over = record { stopped = over.0.word; nothing = over.0.nothing } },
+        wrote_still output g.made over.0.turn written between after faults faults_between faults_after over.0.nothing g.wrote over.1 over.2,
+      );
+    })
 
 -- A buffer came last whose text was cut, and this is what was written of it.
 cut_last : (frames : ℕ) (output : Output) (told mid now : Option (List ℕ)) (taken complete : ℕ) (flag : Bool) (wrote : Result (Unit {0}) WriteStop) (s t u : Token) (written between after : Option (List ℕ)) (faults faults_between faults_after : ℕ)
@@ -207,40 +206,42 @@ cut_last frames output told mid now taken complete flag wrote s t u written betw
   appended = wrote_then written between after (texts_of output (lent_in g.made)) f.front g.wrote.0 f.appended;
 }
 
-pub write_failed : (frames : ℕ) (output : Output) (told mid now : Option (List ℕ)) (taken complete more whole : ℕ) (flag : Bool) (s t u : Token) (written between after : Option (List ℕ)) (faults faults_between faults_after : ℕ) (watched : Bool) (left : Option (List ℕ))
+pub write_failed : (frames : ℕ) (output : Output) (told mid now : Option (List ℕ)) (taken complete more whole : ℕ) (flag : Bool) (s t u : Token) (written between after : Option (List ℕ)) (faults faults_between faults_after : ℕ) (watched : Bool) (left : Option (List ℕ)) (result : HandedOut)
     → GoesOn frames output told mid taken complete s t written between faults faults_between
     → HandsOne output mid now flag (Err stops.WriteFault) between after faults_between faults_after t u
     → taken ≢ frames → more ≡ taken + 1 → whole ≡ complete + cond flag 1 0
-    → HandsOut frames output told now (answer_of more whole WriteFault) s u written after faults faults_after watched left
-write_failed frames output told mid now taken complete more whole flag s t u written between after faults faults_between faults_after watched left g h fewer number added = record {
-  made = g.made ++ h.one.turn ∷ [];
-  looks = looks_then told mid now g.made (h.one.turn ∷ []) s t u g.looks h.one.looks;
-  number = omega (arith, number, g.number, length_one g.made h.one.turn h.loan h.one.got);
-  few = omega (arith, number, g.few, fewer);
-  complete = omega (arith, added, g.whole, complete_one g.made h.one.turn h.loan h.one.got, ap {B = ℕ} (λ (b : Bool). cond b 1 0) h.flag);
-  ends = (
-    (h.wrote_it.0.front, cut_last frames output told mid now taken complete flag (Err stops.WriteFault) s t u written between after faults faults_between faults_after g h h.wrote_it.0),
-    subst (λ n. Rose n faults_after) g.wrote.1 h.wrote_it.1,
-  );
-}
+    → result ≡ handed_out more whole WriteFault → HandsOut frames output told now result s u written after faults faults_after watched left
+write_failed frames output told mid now taken complete more whole flag s t u written between after faults faults_between faults_after watched left result g h fewer number added told_so =
+    subst (λ (r : HandedOut). HandsOut frames output told now r s u written after faults faults_after watched left) (sym told_so) (record {
+      made = g.made ++ h.one.turn ∷ [];
+      looks = looks_then told mid now g.made (h.one.turn ∷ []) s t u g.looks h.one.looks;
+      number = omega (arith, number, g.number, length_one g.made h.one.turn h.loan h.one.got);
+      few = omega (arith, number, g.few, fewer);
+      complete = omega (arith, added, g.whole, complete_one g.made h.one.turn h.loan h.one.got, ap {B = ℕ} (λ (b : Bool). cond b 1 0) h.flag);
+      ends = (
+        (h.wrote_it.0.front, cut_last frames output told mid now taken complete flag (Err stops.WriteFault) s t u written between after faults faults_between faults_after g h h.wrote_it.0),
+        subst (λ n. Rose n faults_after) g.wrote.1 h.wrote_it.1,
+      );
+    })
 
 abbrev nothing_of : (between after : Option (List ℕ)) (text : List ℕ) → after ≡ between → WritesFront between after text
 nothing_of between after text same = record { front = []; rest = text; parts = refl; appended = subst (λ v. Appends between v []) (sym same) (wrote_none between) }
 
-pub memory_ended : (frames : ℕ) (output : Output) (told mid now : Option (List ℕ)) (taken complete more whole : ℕ) (flag : Bool) (s t u : Token) (written between after : Option (List ℕ)) (faults faults_between faults_after : ℕ) (watched : Bool) (left : Option (List ℕ))
+pub memory_ended : (frames : ℕ) (output : Output) (told mid now : Option (List ℕ)) (taken complete more whole : ℕ) (flag : Bool) (s t u : Token) (written between after : Option (List ℕ)) (faults faults_between faults_after : ℕ) (watched : Bool) (left : Option (List ℕ)) (result : HandedOut)
     → GoesOn frames output told mid taken complete s t written between faults faults_between
     → HandsOne output mid now flag (Err stops.NoMemory) between after faults_between faults_after t u
     → taken ≢ frames → more ≡ taken + 1 → whole ≡ complete + cond flag 1 0
-    → HandsOut frames output told now (answer_of more whole NoMemory) s u written after faults faults_after watched left
-memory_ended frames output told mid now taken complete more whole flag s t u written between after faults faults_between faults_after watched left g h fewer number added = record {
-  made = g.made ++ h.one.turn ∷ [];
-  looks = looks_then told mid now g.made (h.one.turn ∷ []) s t u g.looks h.one.looks;
-  number = omega (arith, number, g.number, length_one g.made h.one.turn h.loan h.one.got);
-  few = omega (arith, number, g.few, fewer);
-  complete = omega (arith, added, g.whole, complete_one g.made h.one.turn h.loan h.one.got, ap {B = ℕ} (λ (b : Bool). cond b 1 0) h.flag);
-  ends = (
-    cut_last frames output told mid now taken complete flag (Err stops.NoMemory) s t u written between after faults faults_between faults_after g h
-        (nothing_of between after (text_of output h.loan.id h.loan.filling) h.wrote_it.0),
-    h.wrote_it.1 ∙ g.wrote.1,
-  );
-}
+    → result ≡ handed_out more whole NoMemory → HandsOut frames output told now result s u written after faults faults_after watched left
+memory_ended frames output told mid now taken complete more whole flag s t u written between after faults faults_between faults_after watched left result g h fewer number added told_so =
+    subst (λ (r : HandedOut). HandsOut frames output told now r s u written after faults faults_after watched left) (sym told_so) (record {
+      made = g.made ++ h.one.turn ∷ [];
+      looks = looks_then told mid now g.made (h.one.turn ∷ []) s t u g.looks h.one.looks;
+      number = omega (arith, number, g.number, length_one g.made h.one.turn h.loan h.one.got);
+      few = omega (arith, number, g.few, fewer);
+      complete = omega (arith, added, g.whole, complete_one g.made h.one.turn h.loan h.one.got, ap {B = ℕ} (λ (b : Bool). cond b 1 0) h.flag);
+      ends = (
+        cut_last frames output told mid now taken complete flag (Err stops.NoMemory) s t u written between after faults faults_between faults_after g h
+            (nothing_of between after (text_of output h.loan.id h.loan.filling) h.wrote_it.0),
+        h.wrote_it.1 ∙ g.wrote.1,
+      );
+    })

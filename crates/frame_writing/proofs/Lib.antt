@@ -1,3 +1,4 @@
 pub mod Written
 pub mod OneTurn
 pub mod AllTurns
+pub mod Acts

@@ -44,6 +44,9 @@ EndsBy WriteFault frames output taken made written written_after faults faults_a
 EndsBy NoMemory frames output taken made written written_after faults faults_after on left =
     WritesButLast output made [] written written_after × (faults_after ≡ faults)
 
+abbrev pub handed_out : ℕ → ℕ → HandedEnd → HandedOut
+handed_out taken complete end = record { taken = taken; complete = complete; end = end }
+
 -- It made these turns, which took so many buffers and no more than are wanted, each given back and queued behind its
 -- text; so many of them were complete.
 pub record HandsOut (frames : ℕ) (output : Output) (told now : Option (List ℕ)) (result : HandedOut) (s t : Token) (written written_after : Option (List ℕ)) (faults faults_after : ℕ) (on : Bool) (left : Option (List ℕ)) : Type 0 where

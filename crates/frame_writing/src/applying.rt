@@ -4,7 +4,7 @@ ghost use Rattle.std.specs.Prelude.{◌≡◌, cond};
 ghost use Rattle.buffer_words.specs.Boards.{board_id};
 ghost use Rattle.buffer_words.specs.Passes.{SameHands};
 ghost use Rattle.gev_links.specs.Told.{Drops};
-ghost use Rattle.frame_writing.specs.HandsOut.{HandsOut};
+ghost use Rattle.frame_writing.specs.HandsOut.{handed_out, HandsOut};
 
 use crate::handed_out::{HandedEnd, HandedOut};
 use crate::looking::look_once;
@@ -21,6 +21,17 @@ fn one_if(complete: bool) -> u32
     ensures { result ≡ cond complete 1 0 }
 {
     if complete { 1 } else { 0 }
+}
+
+/// What the application did.
+fn ended(taken: u32, complete: u32, end: HandedEnd) -> HandedOut
+    ensures { result ≡ handed_out taken complete end }
+{
+    HandedOut {
+        taken,
+        complete,
+        end,
+    }
 }
 
 /// The application of a run over a camera's frames: takes buffers until it has taken `outlet.frames`, until none is left
@@ -59,18 +70,10 @@ pub fn hand_out_frames<
     let mut rest = Rest::woken();
     'turns: for _ in rt.forever() {
         if taken == outlet.frames {
-            return HandedOut {
-                taken,
-                complete,
-                end: HandedEnd::Enough,
-            };
+            return ended(taken, complete, HandedEnd::Enough);
         }
         if outlet.watch.has_ended() {
-            return HandedOut {
-                taken,
-                complete,
-                end: HandedEnd::InputEnded,
-            };
+            return ended(taken, complete, HandedEnd::InputEnded);
         }
         let rings = gate.rings();
         let output = outlet.output;
@@ -91,25 +94,13 @@ pub fn hand_out_frames<
             }
             TurnEnd::Idle => rest_at(rt, gate, &mut rest, rings),
             TurnEnd::Over => {
-                return HandedOut {
-                    taken,
-                    complete,
-                    end: HandedEnd::Over,
-                };
+                return ended(taken, complete, HandedEnd::Over);
             }
             TurnEnd::WriteFault(whole) => {
-                return HandedOut {
-                    taken: taken + 1,
-                    complete: complete + one_if(whole),
-                    end: HandedEnd::WriteFault,
-                };
+                return ended(taken + 1, complete + one_if(whole), HandedEnd::WriteFault);
             }
             TurnEnd::NoMemory(whole) => {
-                return HandedOut {
-                    taken: taken + 1,
-                    complete: complete + one_if(whole),
-                    end: HandedEnd::NoMemory,
-                };
+                return ended(taken + 1, complete + one_if(whole), HandedEnd::NoMemory);
             }
         }
     }

@@ -12,6 +12,7 @@ mod input_watch; // whether an input has ended
 mod looking; // one turn
 mod outlet; // what is wanted, and where it goes
 mod turn_end; // how a turn ended
+mod working; // the application's worker
 mod write_stop; // why a buffer's text wasn't written
 mod writing; // what is written of a buffer
 
@@ -19,3 +20,4 @@ pub use applying::hand_out_frames;
 pub use handed_out::{HandedEnd, HandedOut};
 pub use input_watch::InputWatch;
 pub use outlet::Outlet;
+pub use working::{FramesDone, work_frames};

@@ -2,7 +2,8 @@
 //!
 //! `specs/Runs.antt` says what a live run over ports did, and `specs/Bound.antt` what ports gave it and got back; what
 //! the other commands do is said by `gev_top`. `specs/Cameras.antt` says what the commands do that meet a camera on the
-//! network. `specs/Replayed.antt` and `specs/Explained.antt` say the headline of replays and of explanations.
+//! network, `specs/Simulation.antt` what the one does that simulates it. `specs/Replayed.antt` and `specs/Explained.antt`
+//! say the headline of replays and of explanations.
 #![tactic(auto)]
 
 mod binding; // three links from ports
@@ -10,6 +11,7 @@ mod meeting; // cameras on the network
 mod recording; // a recorded live run over ports
 mod returning; // links and clocks back to the ports
 mod running; // a live run over ports
+mod simulation; // a simulated camera on the network
 mod three_links; // the links of a live run
 mod top; // the call of the program
 

@@ -17,12 +17,15 @@ ghost use Rattle.gev_top.specs.LiveWords.{IsErrand, IfPorts, IfCameras, errand_o
 ghost use Rattle.gev_top.specs.Completeness.{NoneRose, CompletesErrand};
 ghost use Rattle.gev_call.specs.Runs.{IsBound, RunsOver, RecordsOver, RunsNothing};
 ghost use Rattle.gev_call.specs.Cameras.{DiscoversOver, DescribesOver};
+ghost use Rattle.gev_call.specs.Simulation.{SimulatesSo};
+ghost use Rattle.camera_words.specs.declared.simulate_words.SimulateWords.{SimulateWords};
 ghost use Rattle.gev_call.specs.Replayed.{ReplaysByHeadline};
 ghost use Rattle.gev_call.specs.Explained.{ExplainsByHeadline};
 
 use crate::meeting::{run_description, run_discover};
 use crate::recording::run_recorded;
 use crate::running::run_live;
+use crate::simulation::run_simulate;
 use buffer_words::{Board, Pass};
 use gev_far::FarPorts;
 use gev_links::{Gate, Sink, Source};
@@ -46,6 +49,9 @@ use std::thread::Threads;
 ///
 /// `discover` with an address or none looks for cameras over a link of the ports and writes a line for each,
 /// `description` with a camera's address writes the description that lies in it. Nothing is kept.
+///
+/// `simulate` with an address of this machine and settings simulates a camera there, over a link of the ports, and
+/// writes a line behind its turns. Nothing is kept.
 pub fn gevacq_top<R: Threads + Wait + Sync, S: Source, K: Sink, P: FarPorts, G: Gate + Sync>(
     rt: &R,
     alloc: Global,
@@ -115,6 +121,13 @@ pub fn gevacq_top<R: Threads + Wait + Sync, S: Source, K: Sink, P: FarPorts, G: 
         (P.clocks ports.old) (P.clocks ports.new) (K.written sink.old) (K.written sink.new) }
     ensures cameras { (errand : Errand) → errand_of (map (λ word. string_bytes word) words.now) ≡ Ok errand
         → IfCameras errand ((S.left source.new ≡ S.left source.old) × (S.faults source.new ≡ S.faults source.old) × (kept.new ≡ None)) }
+
+    // A simulated camera: what was sent over the link of the ports, which came back, are the answers and packets of the
+    // camera's machine for what was received there, and the line tells the turns that were made. Nothing is kept.
+    ensures simulates { (asked : SimulateWords) → errand_of (map (λ word. string_bytes word) words.now) ≡ Ok (errands.Simulate asked)
+        → SimulatesSo P.L.received P.L.sent P.L.faults P.C.told P.stands_at asked result (P.bound ports.old) (P.bound ports.new)
+        (P.links ports.old) (P.links ports.new) (P.clocks ports.old) (P.clocks ports.new) (S.left source.old) (S.left source.new)
+        (S.faults source.old) (S.faults source.new) (K.written sink.old) (K.written sink.new) × (kept.new ≡ None) }
 
     // Where no count of faults rose, each command comes to one of its own ends, or memory was wanting.
     ensures complete { (errand : Errand) → errand_of (map (λ word. string_bytes word) words.now) ≡ Ok errand
@@ -196,6 +209,10 @@ fn run_errand<R: Threads + Wait + Sync, S: Source, K: Sink, P: FarPorts, G: Gate
         (P.clocks ports.old) (P.clocks ports.new) (K.written sink.old) (K.written sink.new) }
     ensures cameras { (asked : Errand) → errand ≡ asked
         → IfCameras asked ((S.left source.new ≡ S.left source.old) × (S.faults source.new ≡ S.faults source.old) × (kept.new ≡ None)) }
+    ensures simulates { (asked : SimulateWords) → errand ≡ (errands.Simulate asked)
+        → SimulatesSo P.L.received P.L.sent P.L.faults P.C.told P.stands_at asked result (P.bound ports.old) (P.bound ports.new)
+        (P.links ports.old) (P.links ports.new) (P.clocks ports.old) (P.clocks ports.new) (S.left source.old) (S.left source.new)
+        (S.faults source.old) (S.faults source.new) (K.written sink.old) (K.written sink.new) × (kept.new ≡ None) }
 
     // Where no count of faults rose, each command comes to one of its own ends, or memory was wanting.
     ensures complete { (asked : Errand) → errand ≡ asked
@@ -216,5 +233,6 @@ fn run_errand<R: Threads + Wait + Sync, S: Source, K: Sink, P: FarPorts, G: Gate
         Errand::Record(numbers) => run_recorded(rt, alloc, numbers, ports, gate, sink, kept),
         Errand::Discover(address) => run_discover(rt, alloc, address, ports, sink),
         Errand::Description(camera) => run_description(rt, camera, ports, sink),
+        Errand::Simulate(asked) => run_simulate(rt, alloc, asked, source, ports, sink),
     }
 }

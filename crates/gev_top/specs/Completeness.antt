@@ -8,7 +8,7 @@ use Rattle.gev_top.specs.declared.command.Command.{Command}
 use Rattle.gev_top.specs.declared.command.Command.TheVariants.{Replay, Explain, Image, Streams, Capture, Camera, Make, Soak}
 use Rattle.gev_top.specs.Answers.{IsDecided}
 use Rattle.gev_top.specs.declared.errand.Errand.{Errand}
-use Rattle.gev_top.specs.declared.errand.Errand.TheVariants.{Plain, Live, Record, Discover, Description}
+use Rattle.gev_top.specs.declared.errand.Errand.TheVariants.{Plain, Live, Record, Discover, Description, Simulate}
 
 -- the count of faults didn't rise
 abbrev pub NoneRose : ℕ → ℕ → Type 0
@@ -83,6 +83,12 @@ EndsDescription (NoAnswer req) = ⊤
 EndsDescription (Refused status) = ⊤
 EndsDescription _ = ⊥
 
+-- a simulated camera made its turns, or standard input had ended
+abbrev pub EndsSimulation : Status → Type 0
+EndsSimulation Done = ⊤
+EndsSimulation NoMemory = ⊤
+EndsSimulation _ = ⊥
+
 -- ---- the commands, a row each
 
 abbrev pub IsComplete : Command → Status → Type 0
@@ -107,3 +113,4 @@ CompletesErrand (Live n) left status = EndsLive status
 CompletesErrand (Record n) left status = EndsLive status
 CompletesErrand (Discover address) left status = EndsSearch status
 CompletesErrand (Description camera) left status = EndsDescription status
+CompletesErrand (Simulate asked) left status = EndsSimulation status

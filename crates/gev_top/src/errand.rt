@@ -1,5 +1,6 @@
 use crate::command::Command;
 use crate::live_numbers::LiveNumbers;
+use camera_words::SimulateWords;
 
 /// What the words of any command line ask for.
 #[derive(Clone, Copy, Debug, PartialEq, Eq)]
@@ -14,4 +15,6 @@ pub enum Errand {
     Discover(u32),
     /// The description that lies in the camera at an IPv4 address.
     Description(u32),
+    /// A simulated camera at an IPv4 address of this machine.
+    Simulate(SimulateWords),
 }

@@ -64,6 +64,14 @@ gevacq description <camera>
     Writes the description of the camera's registers, as it lies in the camera at
     this address: mostly a zip file, else XML.
 
+gevacq simulate <address> [<word>..]
+    Simulates a camera at this address of the machine: it answers a command a
+    turn, sends an image a turn while its stream is open, and writes at last how
+    many images and turns there were. Its words, in any order: seed=<seed> of the
+    images, else 1; rate=<n>, 4 to 1000 turns a second, else 20; turns=<n>, 1 to
+    4294967295, else the most; until=stdin to end where standard input has ended,
+    else until=turns.
+
 gevacq --help, gevacq -h, gevacq help
     Prints this text; behind a command, as in `gevacq capture --help`, its part
     with an example.
@@ -103,10 +111,11 @@ usage: gevacq live <seed> <frames> <buffers> <lanes> <turns> [<mode>]
 usage: gevacq record <seed> <frames> <buffers> <turns>
 usage: gevacq discover [<address>]
 usage: gevacq description <camera>
+usage: gevacq simulate <address> [<word>..]
 ";
 
 /// An example of each command.
-const EXAMPLES: [(&str, &str); 12] = [
+const EXAMPLES: [(&str, &str); 13] = [
     ("replay", "./gevacq replay < examples/one_block.script"),
     (
         "explain",
@@ -131,6 +140,7 @@ const EXAMPLES: [(&str, &str); 12] = [
         "description",
         "./gevacq description 192.168.10.7 > camera.zip",
     ),
+    ("simulate", "./gevacq simulate 127.0.0.1"),
 ];
 
 /// An example of this command, if there is such a command.

@@ -10,7 +10,7 @@ use Rattle.gvsp_wire.specs.Reading.{packet_of}
 use Rattle.block_image.specs.OneBlock.{AreSent}
 use Rattle.acquisition_machine.specs.declared.config.AcqConfig.{AcqConfig}
 use Rattle.acquisition_machine.specs.Blocks.{Given}
-use Rattle.acquisition_machine.specs.Machine.{Input, State, step, datagram, claimed, tick, stop, restart}
+use Rattle.acquisition_machine.specs.Machine.{State, tick, stop}
 use Rattle.acquisition_machine.specs.Runs.{with_packet, packets_in}
 use Rattle.acquisition_machine.specs.Laws.{HasNoRestart}
 use Rattle.acquisition_machine.proofs.Joining.{packets_in-append}
@@ -26,28 +26,13 @@ use Rattle.lane_reader.specs.Reads.{answers_in}
 use Rattle.lane_crew.specs.Cells.{CellServed, came_in, inputs_of, inputs_in}
 use Rattle.lane_crew.specs.Lane.{messages_in}
 use Rattle.live_promises.specs.Promises.{packets_among}
+use Rattle.live_promises.proofs.Sending.{EachIs, before_others, later_came, none_restart, one_acquisition}
 
 -- ---- the packets of the inputs came on the link
-
-abbrev EachIs : (StreamPacket → Type 0) → List StreamPacket → Type 0
-EachIs P xs = AllByRecursion P xs
 
 -- what holds of the packet of this datagram, if it is one
 abbrev OfBytes : (StreamPacket → Type 0) → List ℕ → Type 0
 OfBytes P bytes = EachIs P (with_packet (packet_of bytes) [])
-
-behind : (P : StreamPacket → Type 0) (o : Option StreamPacket) (xs : List StreamPacket) → EachIs P (with_packet o xs) → EachIs P xs
-behind P None xs all = all
-behind P (Some x) xs all = all.1
-
-before_others : (P : StreamPacket → Type 0) (o : Option StreamPacket) (xs ys : List StreamPacket) → EachIs P (with_packet o xs) → EachIs P ys → EachIs P (with_packet o ys)
-before_others P None xs ys all others = others
-before_others P (Some x) xs ys all others = (all.0, others)
-
-later_came : (P : StreamPacket → Type 0) (answer : Answer) (rest : List Answer) → EachIs P (packets_among (answer ∷ rest)) → EachIs P (packets_among rest)
-later_came P nothing rest all = all
-later_came P failed rest all = all
-later_came P (came bytes peer) rest all = behind P (packet_of bytes) (packets_among rest) all
 
 -- what came for a lane
 part_came : (P : StreamPacket → Type 0) (n k : ℕ) (answer : Answer) (rest : List Answer) → EachIs P (packets_among (answer ∷ rest)) → AllByRecursion (OfBytes P) (listed (part_of n k answer))
@@ -106,14 +91,6 @@ lane_sent frames p n k made served some sent = record {
 
 -- ---- no acquisition begins among them
 
-none_restart : (q r : List Input) → HasNoRestart q → HasNoRestart r → HasNoRestart (q ++ r)
-none_restart [] r a b = b
-none_restart (datagram bytes ∷ q) r a b = none_restart q r a b
-none_restart (claimed given ∷ q) r a b = none_restart q r a b
-none_restart (tick moment ∷ q) r a b = none_restart q r a b
-none_restart (stop ∷ q) r a b = none_restart q r a b
-none_restart (restart ∷ q) r a b = absurd a
-
 cell_restarts_none : (came : Option (List ℕ)) (given : Option (Option Given)) (moment : ℕ) → HasNoRestart (inputs_if came given ++ tick moment ∷ [])
 cell_restarts_none None given moment = tt
 cell_restarts_none (Some bytes) None moment = tt
@@ -122,14 +99,6 @@ cell_restarts_none (Some bytes) (Some given) moment = tt
 cells_restart_none : (served : List CellServed) → HasNoRestart (inputs_in served)
 cells_restart_none [] = tt
 cells_restart_none (x ∷ xs) = none_restart (inputs_of x) (inputs_in xs) (cell_restarts_none (came_in x.message.says) x.given x.message.moment) (cells_restart_none xs)
-
-one_acquisition : (c : AcqConfig) (s : State) (q : List Input) → HasNoRestart q → StartsClean c s q
-one_acquisition c s [] none = tt
-one_acquisition c s (datagram bytes ∷ q) none = one_acquisition c (step c s (datagram bytes)).after q none
-one_acquisition c s (claimed given ∷ q) none = one_acquisition c (step c s (claimed given)).after q none
-one_acquisition c s (tick moment ∷ q) none = one_acquisition c (step c s (tick moment)).after q none
-one_acquisition c s (stop ∷ q) none = one_acquisition c (step c s stop).after q none
-one_acquisition c s (restart ∷ q) none = absurd none
 
 pub cells_clean : (c : AcqConfig) (s : State) (served : List CellServed) → StartsClean c s (inputs_in served ++ stop ∷ [])
 cells_clean c s served = one_acquisition c s (inputs_in served ++ stop ∷ []) (none_restart (inputs_in served) (stop ∷ []) (cells_restart_none served) tt)

@@ -87,20 +87,20 @@ abbrev pub NoneFails : List Turned → Type 0
 NoneFails [] = ⊤
 NoneFails (t ∷ ts) = (t.end ≢ ends.Fault) × NoneFails ts
 
-sent_whole : (end : TurnEnd) (every sent : List (List ℕ)) → end ≢ ends.Fault → SendsAll end every sent → sent ≡ every
+pub sent_whole : (end : TurnEnd) (every sent : List (List ℕ)) → end ≢ ends.Fault → SendsAll end every sent → sent ≡ every
 sent_whole ends.GoesOn every sent fine all = all
 sent_whole ends.Fault every sent fine all = absurd (fine refl)
 sent_whole (ends.NoAnswer req) every sent fine all = all
 sent_whole (ends.Refused status) every sent fine all = all
 
-turn_sent : (xs ys : List (List ℕ)) (heard : Option Answer) → moves_sent (sends_all xs ++ (hears_of heard ++ sends_all ys)) ≡ xs ++ ys
+pub turn_sent : (xs ys : List (List ℕ)) (heard : Option Answer) → moves_sent (sends_all xs ++ (hears_of heard ++ sends_all ys)) ≡ xs ++ ys
 turn_sent xs ys heard =
     sent-append (sends_all xs) (hears_of heard ++ sends_all ys)
     ∙ (ap (λ l. l ++ moves_sent (hears_of heard ++ sends_all ys)) (all_sent xs)
     ∙ ap (λ l. xs ++ l)
     (sent-append (hears_of heard) (sends_all ys) ∙ (ap (λ l. l ++ moves_sent (sends_all ys)) (none_sent heard) ∙ all_sent ys)))
 
-turn_heard : (xs ys : List (List ℕ)) (heard : Option Answer) → moves_heard (sends_all xs ++ (hears_of heard ++ sends_all ys)) ≡ datagrams (listed heard)
+pub turn_heard : (xs ys : List (List ℕ)) (heard : Option Answer) → moves_heard (sends_all xs ++ (hears_of heard ++ sends_all ys)) ≡ datagrams (listed heard)
 turn_heard xs ys heard =
     heard-append (sends_all xs) (hears_of heard ++ sends_all ys)
     ∙ (ap (λ l. l ++ moves_heard (hears_of heard ++ sends_all ys)) (none_heard xs)

@@ -67,14 +67,14 @@ setup_refused stream s (t ∷ ts) last on =
     ap (λ l. l ++ setup_refusals stream (setup_turn stream s t).state (ts ++ last ∷ [])) (setup_refusal stream s t ∙ ap refusal_if on.0)
     ∙ setup_refused stream (setup_turn stream s t).state ts last on.1
 
-set_refused : (stream : Address) (s u : Client) (made : List SetupTurned) (end : AcqEnd) → IsSetUp stream s made end u
+pub set_refused : (stream : Address) (s u : Client) (made : List SetupTurned) (end : AcqEnd) → IsSetUp stream s made end u
     → setup_refusals stream (set_up s 0) made ≡ refusal_of end
 set_refused stream s u made end set =
     ap (setup_refusals stream (set_up s 0)) set.is ∙ (setup_refused stream (set_up s 0) set.before set.last set.on ∙ ap refusal_if set.ended)
 
 -- ---- the reader
 
-abbrev turn_refusal : TurnEnd → List ℕ
+abbrev pub turn_refusal : TurnEnd → List ℕ
 turn_refusal ends.GoesOn = []
 turn_refusal ends.Fault = []
 turn_refusal (ends.NoAnswer req) = []
@@ -97,14 +97,14 @@ receive_refuses es k Acked moment = ticks_refuse es k moment
 receive_refuses es k (Refused status) moment = refl
 receive_refuses es k (NoAnswer req) moment = ticks_refuse es k moment
 
-control_refuses : (s : Client) (heard : Option Answer) (moment : ℕ) → refused_in (outcomes_of s moment heard) ≡ turn_refusal (control_of s heard moment).end
+pub control_refuses : (s : Client) (heard : Option Answer) (moment : ℕ) → refused_in (outcomes_of s moment heard) ≡ turn_refusal (control_of s heard moment).end
 control_refuses s None moment = refl
 control_refuses s (Some failed) moment = refl
 control_refuses s (Some nothing) moment = ticks_refuse [] s moment
 control_refuses s (Some (came bytes peer)) moment =
     receive_refuses (receives bytes moment ∷ []) (received s bytes moment).client (received s bytes moment).outcome moment
 
-end_refuses : (end k : TurnEnd) → EndsAs end k → turn_refusal k ≡ turn_refusal end
+pub end_refuses : (end k : TurnEnd) → EndsAs end k → turn_refusal k ≡ turn_refusal end
 end_refuses ends.GoesOn k is = ap turn_refusal is
 end_refuses ends.Fault k (inl is) = ap turn_refusal is
 end_refuses ends.Fault k (inr is) = ap turn_refusal is

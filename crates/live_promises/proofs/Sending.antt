@@ -23,14 +23,14 @@ use Rattle.live_promises.specs.Promises.{packets_among}
 
 -- ---- the packets of the inputs came on the link
 
-abbrev EachIs : (StreamPacket → Type 0) → List StreamPacket → Type 0
+abbrev pub EachIs : (StreamPacket → Type 0) → List StreamPacket → Type 0
 EachIs P xs = AllByRecursion P xs
 
 behind : (P : StreamPacket → Type 0) (o : Option StreamPacket) (xs : List StreamPacket) → EachIs P (with_packet o xs) → EachIs P xs
 behind P None xs all = all
 behind P (Some x) xs all = all.1
 
-before_others : (P : StreamPacket → Type 0) (o : Option StreamPacket) (xs ys : List StreamPacket) → EachIs P (with_packet o xs) → EachIs P ys → EachIs P (with_packet o ys)
+pub before_others : (P : StreamPacket → Type 0) (o : Option StreamPacket) (xs ys : List StreamPacket) → EachIs P (with_packet o xs) → EachIs P ys → EachIs P (with_packet o ys)
 before_others P None xs ys all others = others
 before_others P (Some x) xs ys all others = (all.0, others)
 
@@ -42,7 +42,7 @@ turn_came P (came bytes peer) None moment rest all = before_others P (packet_of 
 turn_came P (came bytes peer) (Some given) moment rest all =
     before_others P (packet_of bytes) (packets_among rest) (with_packet (packet_of bytes) []) all (before_others P (packet_of bytes) (packets_among rest) [] all tt)
 
-later_came : (P : StreamPacket → Type 0) (answer : Answer) (rest : List Answer) → EachIs P (packets_among (answer ∷ rest)) → EachIs P (packets_among rest)
+pub later_came : (P : StreamPacket → Type 0) (answer : Answer) (rest : List Answer) → EachIs P (packets_among (answer ∷ rest)) → EachIs P (packets_among rest)
 later_came P nothing rest all = all
 later_came P failed rest all = all
 later_came P (came bytes peer) rest all = behind P (packet_of bytes) (packets_among rest) all
@@ -67,7 +67,7 @@ inputs_sent frames p made sent = record {
 
 -- ---- no acquisition begins among them
 
-none_restart : (q r : List Input) → HasNoRestart q → HasNoRestart r → HasNoRestart (q ++ r)
+pub none_restart : (q r : List Input) → HasNoRestart q → HasNoRestart r → HasNoRestart (q ++ r)
 none_restart [] r a b = b
 none_restart (datagram bytes ∷ q) r a b = none_restart q r a b
 none_restart (claimed given ∷ q) r a b = none_restart q r a b
@@ -84,7 +84,7 @@ turns_restart_none : (made : List Turned) → HasNoRestart (inputs_in made)
 turns_restart_none [] = tt
 turns_restart_none (t ∷ ts) = none_restart (inputs_of t) (inputs_in ts) (turn_restarts_none (bytes_in t.answer) t.given t.told) (turns_restart_none ts)
 
-one_acquisition : (c : AcqConfig) (s : State) (q : List Input) → HasNoRestart q → StartsClean c s q
+pub one_acquisition : (c : AcqConfig) (s : State) (q : List Input) → HasNoRestart q → StartsClean c s q
 one_acquisition c s [] none = tt
 one_acquisition c s (datagram bytes ∷ q) none = one_acquisition c (step c s (datagram bytes)).after q none
 one_acquisition c s (claimed given ∷ q) none = one_acquisition c (step c s (claimed given)).after q none

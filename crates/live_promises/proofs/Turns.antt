@@ -60,7 +60,7 @@ receive_came es k Acked moment ms kept = ticks_came es k moment ms kept
 receive_came es k (Refused status) moment ms kept = tt
 receive_came es k (NoAnswer req) moment ms kept = ticks_came es k moment ms kept
 
-control_came : (s : Client) (heard : Option Answer) (moment : ℕ) (ms : List Move) → Kept s.asked ms
+pub control_came : (s : Client) (heard : Option Answer) (moment : ℕ) (ms : List Move) → Kept s.asked ms
     → CameTo (control_of s heard moment).end (control_of s heard moment).state (control_of s heard moment).send (later_moves ms (hears_of heard))
 control_came s None moment ms kept = tt
 control_came s (Some failed) moment ms kept = tt
@@ -84,7 +84,7 @@ asked_came : (c : AcqConfig) (q : List Input) (s : Client) (t : Turned) (ms : Li
 asked_came c q s t ms kept = control_came s t.heard t.moment (later_moves ms (sends_all (asks_of c q t))) (kept_sends s.asked (asks_of c q t) ms kept)
 
 -- a turn that goes on
-on_by : (k : ControlTurn) (end : TurnEnd) (ms : List Move) → end ≡ ends.GoesOn → EndsAs end k.end → CameTo k.end k.state k.send ms
+pub on_by : (k : ControlTurn) (end : TurnEnd) (ms : List Move) → end ≡ ends.GoesOn → EndsAs end k.end → CameTo k.end k.state k.send ms
     → Kept k.state.asked (later_moves ms (sends_all (sent_by end k.send)))
 on_by k end ms is ends_as came_to =
     let same : k.end ≡ ends.GoesOn = subst (λ x. EndsAs x k.end) is ends_as in
@@ -98,7 +98,7 @@ turn_goes_on c q s t ms is controlled kept =
     (asked_came c q s t ms kept))
 
 -- a turn whose command had no answer
-up_by : (k : ControlTurn) (end : TurnEnd) (req : ℕ) (ms : List Move) → end ≡ ends.NoAnswer req → EndsAs end k.end → CameTo k.end k.state k.send ms
+pub up_by : (k : ControlTurn) (end : TurnEnd) (req : ℕ) (ms : List Move) → end ≡ ends.NoAnswer req → EndsAs end k.end → CameTo k.end k.state k.send ms
     → IsUnanswered req (later_moves ms (sends_all (sent_by end k.send)))
 up_by k end req ms is ends_as came_to =
     let same : k.end ≡ ends.NoAnswer req = subst (λ x. EndsAs x k.end) is ends_as in

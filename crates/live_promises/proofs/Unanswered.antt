@@ -54,7 +54,7 @@ setup_kept stream s (t ∷ ts) ms on kept =
     (setup_goes_on stream s t ms (subst GoesOnOrStops (sym on.0) tt) kept))
 
 -- the client after a setup that stopped
-stopped_kept : (stream : Address) (s u : Client) (made : List SetupTurned) → KeptOf s [] → IsSetUp stream s made how.Stopped u
+pub stopped_kept : (stream : Address) (s u : Client) (made : List SetupTurned) → KeptOf s [] → IsSetUp stream s made how.Stopped u
     → Kept u.asked (later_moves [] (setup_moves stream (set_up s 0) made))
 stopped_kept stream s u made kept set =
     let there : SetUp = setup_after stream (set_up s 0) set.before in
@@ -71,7 +71,7 @@ stopped_kept stream s u made kept set =
     (sym (set.client ∙ ap (λ x. x.client) (ap (setup_after stream (set_up s 0)) set.is ∙ after_last stream (set_up s 0) set.before set.last))) whole.1
 
 -- a setup without an answer
-setup_unanswered : (stream : Address) (s u : Client) (made : List SetupTurned) (req : ℕ) → KeptOf s [] → IsSetUp stream s made (how.NoAnswer req) u
+pub setup_unanswered : (stream : Address) (s u : Client) (made : List SetupTurned) (req : ℕ) → KeptOf s [] → IsSetUp stream s made (how.NoAnswer req) u
     → IsUnanswered req (later_moves [] (setup_moves stream (set_up s 0) made))
 setup_unanswered stream s u made req kept set =
     subst (IsUnanswered req)

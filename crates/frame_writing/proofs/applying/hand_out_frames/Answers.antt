@@ -1,4 +1,4 @@
-use Rattle.std.proofs.Common.{refl, sym, ap, ◌∙◌, ◌+◌}
+use Rattle.std.proofs.Common.{rules, refl, sym, ap, ◌∙◌, ◌+◌}
 use Rattle.buffer_words.proofs.Retries.{hands_self, hands_then}
 use Rattle.frame_writing.specs.declared.turn_end.TurnEnd.TheVariants.{Handed, WriteFault, NoMemory, Idle, Over}
 use Rattle.frame_writing.proofs.Written.{drops_none, drops_then}
@@ -48,25 +48,25 @@ turns-preserved g c = record {
 
 pub returns-in-Over-clause-hands_out : goal.returns-in-Over-clause-hands_out
 returns-in-Over-clause-hands_out g c =
-    is_over _ _ _ _ _ _ _ _ _ _ _ _ _ _ _ _ _ _ c.turns.invariant.on (turn_of Over c.args.outlet.now.output c.turns.outlet.output _ _ _ _ _ _ _ _ c.turns.invariant.output c.in-Over.ensures.turn) (λ e. c.if-taken-outlet.false (e ∙ sym c.turns.invariant.frames))
+    is_over _ _ _ _ _ _ _ _ _ _ _ _ _ _ _ _ _ _ _ c.turns.invariant.on (turn_of Over c.args.outlet.now.output c.turns.outlet.output _ _ _ _ _ _ _ _ c.turns.invariant.output c.in-Over.ensures.turn) (λ e. c.if-taken-outlet.false (e ∙ sym c.turns.invariant.frames)) (search rules)
 
 pub returns-in-Over-clause-dropped : goal.returns-in-Over-clause-dropped
 returns-in-Over-clause-dropped g c = drops_then _ _ _ c.turns.invariant.dropped c.has_ended.ensures.dropped
 
 pub returns-in-WriteFault-clause-hands_out : goal.returns-in-WriteFault-clause-hands_out
 returns-in-WriteFault-clause-hands_out g c =
-    write_failed _ _ _ _ _ _ _ _ _ c.in-WriteFault.whole _ _ _ _ _ _ _ _ _ _ _ c.turns.invariant.on
+    write_failed _ _ _ _ _ _ _ _ _ c.in-WriteFault.whole _ _ _ _ _ _ _ _ _ _ _ _ c.turns.invariant.on
     (turn_of (WriteFault c.in-WriteFault.whole) c.args.outlet.now.output c.turns.outlet.output _ _ _ _ _ _ _ _ c.turns.invariant.output c.in-WriteFault.ensures.turn)
-    (λ e. c.if-taken-outlet.false (e ∙ sym c.turns.invariant.frames)) refl (ap (λ n. c.turns.complete + n) c.one_if.ensures)
+    (λ e. c.if-taken-outlet.false (e ∙ sym c.turns.invariant.frames)) refl (ap (λ n. c.turns.complete + n) c.one_if.ensures) (search rules)
 
 pub returns-in-WriteFault-clause-dropped : goal.returns-in-WriteFault-clause-dropped
 returns-in-WriteFault-clause-dropped g c = drops_then _ _ _ c.turns.invariant.dropped c.has_ended.ensures.dropped
 
 pub returns-in-NoMemory-clause-hands_out : goal.returns-in-NoMemory-clause-hands_out
 returns-in-NoMemory-clause-hands_out g c =
-    memory_ended _ _ _ _ _ _ _ _ _ c.in-NoMemory.whole _ _ _ _ _ _ _ _ _ _ _ c.turns.invariant.on
+    memory_ended _ _ _ _ _ _ _ _ _ c.in-NoMemory.whole _ _ _ _ _ _ _ _ _ _ _ _ c.turns.invariant.on
     (turn_of (NoMemory c.in-NoMemory.whole) c.args.outlet.now.output c.turns.outlet.output _ _ _ _ _ _ _ _ c.turns.invariant.output c.in-NoMemory.ensures.turn)
-    (λ e. c.if-taken-outlet.false (e ∙ sym c.turns.invariant.frames)) refl (ap (λ n. c.turns.complete + n) c.one_if-in-NoMemory.ensures)
+    (λ e. c.if-taken-outlet.false (e ∙ sym c.turns.invariant.frames)) refl (ap (λ n. c.turns.complete + n) c.one_if-in-NoMemory.ensures) (search rules)
 
 pub returns-in-NoMemory-clause-dropped : goal.returns-in-NoMemory-clause-dropped
 returns-in-NoMemory-clause-dropped g c = drops_then _ _ _ c.turns.invariant.dropped c.has_ended.ensures.dropped

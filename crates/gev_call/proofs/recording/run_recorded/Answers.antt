@@ -1,7 +1,7 @@
 -- The links were bound and the clocks taken.
 use Rattle.std.proofs.Common.{◌∙◌}
 use Rattle.gev_call.specs.Runs.{RecordsOver}
-use Rattle.gev_call.proofs.Binding.{bound_so}
+use Rattle.gev_call.proofs.Addresses.{bound_so}
 use Rattle.gev_call.proofs.recording.run_recorded.Goals as goal
 
 pub returns-in-Ok-clause-recorded : goal.returns-in-Ok-clause-recorded

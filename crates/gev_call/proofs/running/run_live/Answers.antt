@@ -2,7 +2,7 @@
 use Rattle.std.proofs.Common.{◌∙◌, subst}
 use Rattle.gev_links.specs.Faults.{Rose}
 use Rattle.gev_call.specs.Runs.{RunsOver}
-use Rattle.gev_call.proofs.Binding.{bound_so}
+use Rattle.gev_call.proofs.Addresses.{bound_so}
 use Rattle.gev_call.proofs.running.run_live.Goals as goal
 
 pub returns-in-Ok-clause-live : goal.returns-in-Ok-clause-live

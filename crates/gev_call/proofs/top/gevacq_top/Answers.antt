@@ -20,6 +20,9 @@ returns-in-Ok-clause-describes g c = λ camera is. c.run_errand.ensures.describe
 pub returns-in-Ok-clause-cameras : goal.returns-in-Ok-clause-cameras
 returns-in-Ok-clause-cameras g c = λ asked is. c.run_errand.ensures.cameras asked (said_is _ _ _ c.in-Ok.ensures.said is)
 
+pub returns-in-Ok-clause-simulates : goal.returns-in-Ok-clause-simulates
+returns-in-Ok-clause-simulates g c = λ asked is. c.run_errand.ensures.simulates asked (said_is _ _ _ c.in-Ok.ensures.said is)
+
 pub returns-in-Ok-clause-none : goal.returns-in-Ok-clause-none
 returns-in-Ok-clause-none g c = λ asked is. c.run_errand.ensures.none asked (said_is _ _ _ c.in-Ok.ensures.said is)
 

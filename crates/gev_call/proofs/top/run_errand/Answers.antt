@@ -1,8 +1,11 @@
 -- A command over source and sink alone.
 use Rattle.std.proofs.Common.{sym, ◌∙◌, subst}
+use Rattle.camera_words.specs.declared.simulate_words.SimulateWords.{SimulateWords}
 use Rattle.gev_top.specs.declared.command.Command.TheVariants as commands
 use Rattle.gev_call.specs.Cameras.{DiscoversOver, DescribesOver}
+use Rattle.gev_call.specs.Simulation.{SimulatesSo}
 use Rattle.gev_call.proofs.Errands.{command_is, discover_is, description_is, never_links}
+use Rattle.gev_call.proofs.Simulated.{simulate_is}
 use Rattle.gev_call.proofs.Replaying.{replay_headline, explain_headline}
 use Rattle.gev_call.proofs.Completing.{plain_completes}
 use Rattle.gev_call.proofs.top.run_errand.Goals as goal
@@ -44,3 +47,16 @@ returns-in-Description-clause-describes g c =
     (g.K.Sink.written c.args.sink.now) (g.K.Sink.written c.run_description.new.sink))
     (description_is c.in-Description.camera asked c.args.errand c.in-Description.is is)
     c.run_description.ensures.describes
+
+pub returns-in-Simulate-clause-simulates : goal.returns-in-Simulate-clause-simulates
+returns-in-Simulate-clause-simulates g c =
+    λ asked is. (
+      subst
+          (λ (words : SimulateWords). SimulatesSo g.P.L.Link.received g.P.L.Link.sent g.P.L.Link.faults g.P.C.Clock.told g.P.FarPorts.stands_at words c.run_simulate.result
+          (g.P.Ports.bound c.args.ports.now) (g.P.Ports.bound c.run_simulate.new.ports) (g.P.Ports.links c.args.ports.now) (g.P.Ports.links c.run_simulate.new.ports)
+          (g.P.Ports.clocks c.args.ports.now) (g.P.Ports.clocks c.run_simulate.new.ports) (g.S.Source.left c.args.source.now) (g.S.Source.left c.run_simulate.new.source)
+          (g.S.Source.faults c.args.source.now) (g.S.Source.faults c.run_simulate.new.source) (g.K.Sink.written c.args.sink.now) (g.K.Sink.written c.run_simulate.new.sink))
+          (simulate_is c.in-Simulate.asked asked c.args.errand c.in-Simulate.is is)
+          c.run_simulate.ensures.simulates,
+      c.requires.unkept,
+    )
