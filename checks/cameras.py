@@ -118,7 +118,8 @@ def discover(case, address, answers, lines):
         note(case, "ended after %.2f s" % took)
     if [bytes(c) for _, c in camera.commands] != [bytes.fromhex("421100020000ffff")] * 2:
         note(case, "sent %r" % camera.commands)
-    elif camera.commands[1][0] - camera.commands[0][0] < 0.49:
+    # a busy machine may have read the first one late
+    elif camera.commands[1][0] - camera.commands[0][0] < 0.3:
         note(case, "the second DISCOVERY came too soon")
 
 
