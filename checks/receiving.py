@@ -1,0 +1,356 @@
+#!/usr/bin/env python3
+"""receiving.py PROGRAM: runs PROGRAM's `receive` beside its own `simulate`, and against cameras that this script plays, each
+at an address of 127.0.0.0/8; compares statuses, texts, images and the commands that the cameras heard with what the formats
+say. And against Aravis' camera, where that is installed.
+
+Needs Linux. Prints a line for each thing that differs, and ends with 1 where there is one."""
+import hashlib
+import os
+import re
+import select
+import shutil
+import signal
+import socket
+import struct
+import subprocess
+import sys
+import tempfile
+import threading
+import time
+
+from cameras import CCP, PORT, PROGRAM, READREG, SCDA0, SCP0, SCPS0, WRITEREG, acknowledge, faults, note, simulated
+
+CAPABILITY, START = 0x0934, 0x0124
+WIDTH, HEIGHT, MONO8 = 64, 48, 0x01080001
+# the payload of a packet of 1500 bytes with standard identifiers
+PAYLOAD = 1500 - 36
+TAKE = r"take \d+\.\d+ block=(\d+) complete=([01]) larger=0 leader=1 len=(\d+) filled=\d+ sha256=([0-9a-f]{64}) width=(\d+) height=(\d+) pixel=0x01080001 time=\d+"
+END = (r"receive frames=%d taken=(\d+) complete=(\d+) p=(\d+) bytes=(\d+) ids=(standard|extended|none) underrun=\d+ requests=\d+ foreign=\d+ late=\d+"
+       r" repeat=\d+ misfit=\d+ starved=\d+ notice=\d+ strangers=(\d+)")
+# What a camera hears of a run with packet size 1500 and one register that starts and stops: ("read", register) or
+# ("write", register, value), where the stream's own address and port are `own`.
+SETUP = [("read", CCP), ("write", CCP, 2), ("read", CAPABILITY), ("write", SCPS0, 1500), ("read", SCPS0), ("write", SCDA0, "own"), ("write", SCP0, "own"), ("write", START, 1)]
+STOP = [("write", START, 0), ("write", SCP0, 0), ("write", CCP, 0)]
+WORDS = ["start:0x0124=1", "stop:0x0124=0"]
+
+
+def image(block):
+    """The bytes of this block's image."""
+    return hashlib.shake_128(b"%d" % block).digest(WIDTH * HEIGHT)
+
+
+def packets(block):
+    """Its packets, with standard identifiers."""
+    head = lambda form, number: struct.pack(">HHI", 0, block, form << 24 | number)
+    data = image(block)
+    parts = [data[at : at + PAYLOAD] for at in range(0, len(data), PAYLOAD)]
+    leader = head(1, 0) + struct.pack(">HHQIIIIIHH", 0, 1, 7 * block, MONO8, WIDTH, HEIGHT, 0, 0, 0, 0)
+    trailer = head(2, len(parts) + 1) + struct.pack(">HHI", 0, 1, HEIGHT)
+    return [leader, *(head(3, number) + part for number, part in enumerate(parts, 1)), trailer]
+
+
+class Sender:
+    """A camera that does what whoever has control says, and sends `rate` images a second while it's started.
+
+    `refused` are registers whose writes are refused with 0x8006. After `lost` answered heartbeats the next ones say that
+    nobody has control; after `dies` images it neither sends nor answers, and after `deaf` commands it doesn't answer. With `held` another application has control.
+    With `stranger` each image's packets are sent from that address too, with other bytes, before they are sent."""
+
+    def __init__(self, address, rate=50, refused=(), lost=None, dies=None, held=False, mute=False, stranger=None, deaf=None):
+        self.rate, self.refused, self.lost, self.dies, self.mute, self.deaf = rate, refused, lost, dies, mute, deaf
+        self.values = {CCP: 2 if held else 0, CAPABILITY: 7, SCPS0: 1500, SCDA0: 0, SCP0: 0, START: 0}
+        self.heard, self.answered, self.beats, self.block, self.running = [], {}, 0, 0, True
+        self.control = self.bound(address, PORT)
+        self.stream = self.bound(address, 0)
+        self.stranger = self.bound(stranger, 0) if stranger else None
+        self.thread = threading.Thread(target=self.serve)
+        self.thread.start()
+
+    @staticmethod
+    def bound(address, port):
+        made = socket.socket(socket.AF_INET, socket.SOCK_DGRAM)
+        made.bind((address, port))
+        return made
+
+    def is_dead(self):
+        return self.dies is not None and self.block >= self.dies
+
+    def serve(self):
+        due = time.monotonic()
+        while self.running:
+            if select.select([self.control], [], [], max(0, min(0.02, due - time.monotonic())))[0]:
+                command, sender = self.control.recvfrom(1024)
+                answer = None if self.is_dead() or len(self.heard) == self.deaf else self.answer(command)
+                if answer:
+                    self.control.sendto(answer, sender)
+            if time.monotonic() >= due:
+                due = time.monotonic() + 1 / self.rate
+                if self.values[SCP0] and self.values[START] and not self.mute and not self.is_dead():
+                    self.send()
+
+    def answer(self, command):
+        _, code, _, req = struct.unpack(">HHHH", command[:8])
+        if code not in (READREG, WRITEREG):
+            return None
+        # (a command that is sent again is answered again, and heard once)
+        if (req, command) not in self.answered:
+            self.answered[req, command] = self.obey(code, req, struct.unpack(">%dI" % (len(command[8:]) // 4), command[8:]))
+        return self.answered[req, command]
+
+    def obey(self, code, req, body):
+        register, write = body[0], code == WRITEREG
+        if not write:
+            beat = register == CCP and any(it[:2] == ("write", CCP) for it in self.heard)
+            self.beats += beat
+            if not beat:
+                self.heard.append(("read", register))
+            lost = beat and self.lost is not None and self.beats > self.lost
+            return acknowledge(code, req, struct.pack(">I", 0 if lost else self.values[register]))
+        value = body[1]
+        self.heard.append(("write", register, "own" if register in (SCDA0, SCP0) and value else value))
+        if register in self.refused:
+            return acknowledge(code, req, b"", 0x8006)
+        self.values[register] = value
+        return acknowledge(code, req, struct.pack(">HH", 0, 1))
+
+    def send(self):
+        self.block += 1
+        to = (socket.inet_ntoa(struct.pack(">I", self.values[SCDA0])), self.values[SCP0] & 0xFFFF)
+        for packet in packets(self.block):
+            if self.stranger:
+                self.stranger.sendto(packet[:8] + bytes(len(packet) - 8), to)
+            self.stream.sendto(packet, to)
+
+    def end(self):
+        self.running = False
+        self.thread.join()
+        for it in (self.control, self.stream, self.stranger):
+            if it:
+                it.close()
+
+
+def wants(case, what, found, wanted):
+    if found != wanted:
+        note(case, "%s: %.600r in place of %.600r" % (what, found, wanted))
+
+
+def judge_lines(case, out, frames, taken, ids="standard", strangers=None):
+    """Take lines of whole images, so many, each behind the one before, and the end line."""
+    lines = out.split("\n")
+    end = re.fullmatch(END % frames, lines[-2]) if len(lines) > 1 else None
+    if lines[-1] != "" or not end:
+        return note(case, "no end line: %.600r" % out[-600:])
+    size = (PAYLOAD, WIDTH * HEIGHT) if ids == "standard" else (0, 0)
+    wants(case, "end line", (int(end[1]), int(end[2]), int(end[3]), int(end[4]), end[5]), (taken, taken, *size, ids))
+    if strangers is not None and (int(end[6]) > 0) != strangers:
+        note(case, "strangers: " + lines[-2])
+    judge_images(case, lines[:-2], taken)
+    return None
+
+
+def judge_images(case, lines, taken):
+    before = 0
+    wants(case, "take lines", len(lines), taken)
+    for line in lines:
+        found = re.fullmatch(TAKE, line)
+        if not found or int(found[1]) <= before:
+            return note(case, "line %.300r" % line)
+        before = int(found[1])
+        looks = ("1", WIDTH * HEIGHT, hashlib.sha256(image(before)).hexdigest(), WIDTH, HEIGHT)
+        wants(case, "block %d" % before, (found[2], int(found[3]), found[4], int(found[5]), int(found[6])), looks)
+    return None
+
+
+def judge_some(case, out, most):
+    """So many take lines at most, and the end line of 1000 frames."""
+    taken = len(re.findall("^take ", out, re.M))
+    if not 0 < taken <= most:
+        note(case, "%d take lines" % taken)
+    judge_lines(case, out, 1000, taken)
+
+
+def receive(case, address, frames, words=(), status=0, text="", heard=None, judge=None, during=None, **camera):
+    """Runs `receive` against such a camera. `text` is a pattern of standard error, `heard` the commands, those of a whole run
+    where it's none."""
+    playing = Sender(address, **camera)
+    try:
+        run = subprocess.Popen([PROGRAM, "receive", address, str(frames), *WORDS, *words], stdin=subprocess.PIPE, stdout=subprocess.PIPE, stderr=subprocess.PIPE)
+        if during:
+            during(run)
+        out, err = run.communicate(timeout=60)
+    finally:
+        playing.end()
+    if not re.fullmatch(text, err.decode()):
+        note(case, "standard error %r" % err)
+    wants(case, "status", run.returncode, status)
+    wants(case, "commands", playing.heard, SETUP + STOP if heard is None else heard)
+    if judge:
+        judge(out)
+
+
+def check_ends():
+    a, lines = "127.83.4.1", lambda taken, frames=3, **more: lambda out: judge_lines("lines", out.decode(), frames, taken, **more)
+    none = lines(0, ids="none")
+    receive("three images", a, 3, judge=lines(3))
+    receive("a register that is refused", a, 3, status=10, text="gevacq: register 0x00000124 refused with status 0x8006\n", judge=none, refused=[START])
+    receive("a silent camera", a, 3, ["silence=300"], 14, "gevacq: the camera is silent, 0 frames\n", judge=none, mute=True)
+    receive("control of another application", a, 3, status=15, text="gevacq: another application controls the camera\n", heard=SETUP[:1], judge=none, held=True)
+    receive("control that is refused", a, 3, status=10, text="gevacq: register 0x00000a00 refused with status 0x8006\n", heard=SETUP[:2], judge=none, refused=[CCP])
+    some = lambda case, most: lambda out: judge_some(case, out.decode(), most)
+    receive("control that is given away", a, 1000, status=17, text=r"gevacq: the camera gave its control away, \d+ frames\n", heard=SETUP, judge=some("given away", 200), lost=1)
+    receive("a camera that dies", a, 1000, status=9, text="gevacq: no answer to request 9\n", heard=SETUP, judge=some("dies", 20), dies=20)
+    receive("a stranger", a, 3, judge=lines(3, strangers=True), stranger="127.83.4.9")
+    receive("counts alone", a, 3, ["as=counts"], judge=lambda out: wants("counts", "lines", [bool(re.fullmatch(END % 3, it)) for it in out.decode().split("\n")], [True, False]))
+
+
+def check_steps():
+    """A camera that answers no more from each of its commands on. The runs take their time side by side."""
+    runs = []
+    for deaf in range(len(SETUP + STOP)):
+        judge = lambda out, taken=0 if deaf < len(SETUP) else 3: judge_lines("deaf", out.decode(), 3, taken, ids="standard" if taken else "none")
+        how = dict(status=9, text="gevacq: no answer to request %d\n" % (deaf + 1), heard=(SETUP + STOP)[:deaf], judge=judge, deaf=deaf)
+        runs.append(threading.Thread(target=receive, args=("no answer behind %d commands" % deaf, "127.83.6.%d" % (deaf + 1), 3), kwargs=how))
+    for run in runs:
+        run.start()
+    for run in runs:
+        run.join()
+
+
+def check_pipes():
+    a = "127.83.4.2"
+    pictures = lambda blocks: b"".join(b"P5\n%d %d\n255\n" % (WIDTH, HEIGHT) + image(block) for block in blocks)
+
+    def judge(out):
+        first = next((it for it in range(1, 60) if out.startswith(pictures([it]))), 0)
+        wants("pictures", "bytes", out, pictures(range(first, first + 5)))
+
+    receive("pictures", a, 5, ["as=pictures", "mode=0"], judge=judge)
+
+    def close(run):
+        read = b""
+        while read.count(b"\n") < 2:
+            read += os.read(run.stdout.fileno(), 100)
+        run.stdout.close()
+        run.stdout = open(os.devnull, "rb")
+
+    receive("a pipe that closes", a, 1000, status=5, text="gevacq: writing failed\n", during=close)
+
+    def pause(run):
+        time.sleep(0.4)
+        run.send_signal(signal.SIGSTOP)
+        time.sleep(0.6)
+        run.send_signal(signal.SIGCONT)
+
+    receive("a pause of the program", a, 40, ["buffers=15"], during=pause, judge=lambda out: judge_lines("a pause of the program", out.decode(), 40, 40), rate=20)
+    receive("an input that ends", a, 1000, ["until=stdin"], during=lambda run: (time.sleep(0.5), run.stdin.close(), setattr(run, "stdin", None)),
+            judge=lambda out: wants("an input that ends", "end line", bool(re.fullmatch(END % 1000, out.decode().split("\n")[-2])), True))
+
+
+def check_two_processes():
+    """`simulate` and `receive`, each a process."""
+    a = "127.83.4.3"
+    with open("checks/frames_640x480_mono8.sha256") as it:
+        digests = dict(line.split() for line in it)
+    each = lambda *words: subprocess.run([PROGRAM, "receive", a, *words], capture_output=True, timeout=60)
+    got = []
+    simulated("two processes", [a, "rate=50", "turns=400", "until=stdin"], lambda: got.append(each("20")), lambda want, frames, turns: 20 <= frames <= turns)
+    found = re.findall("^" + TAKE + "$", got[0].stdout.decode(), re.M)
+    wants("two processes", "status", (got[0].returncode, got[0].stderr), (0, b""))
+    wants("two processes", "whole images", [it[1:] for it in found], [("1", "307200", digests.get(str(1 + int(it[0]))), "640", "480") for it in found])
+    wants("two processes", "lines", (len(found), got[0].stdout.count(b"\n")), (20, 21))
+    if " taken=20 complete=20 p=1452 bytes=307200 ids=extended " not in got[0].stdout.decode().split("\n")[-2]:
+        note("two processes", "end line %.300r" % got[0].stdout[-300:])
+
+
+def check_interrupts():
+    """Control-C where the launcher runs it: the camera is stopped, its stream closed, and control given away."""
+    # (where there is no program it builds one first)
+    subprocess.run(["./gevacq", "--version"], capture_output=True)
+    for words in ([], ["until=stdin"]):
+        camera = Sender("127.83.4.4")
+        try:
+            run = subprocess.Popen(["./gevacq", "receive", "127.83.4.4", "100000", *WORDS, *words], stdin=subprocess.PIPE, stdout=subprocess.PIPE, stderr=subprocess.PIPE, start_new_session=True)
+            first = run.stdout.readline() + run.stdout.readline()
+            os.killpg(run.pid, signal.SIGINT)
+            out, err = run.communicate(timeout=60)
+        finally:
+            camera.end()
+        wants("Control-C", "status", (run.returncode, err), (0, b""))
+        wants("Control-C", "commands", camera.heard, SETUP + STOP)
+        text = (first + out).decode()
+        judge_lines("Control-C", text, 100000, text.count("\n") - 1)
+
+
+# ---- somebody else's camera
+
+ARAVIS = """
+ip link set lo up
+arv-fake-gv-camera-0.8 -i lo >"$1/camera" 2>&1 &
+camera=$!
+sleep 1
+if command -v tcpdump >/dev/null; then
+    tcpdump -i lo -B 65536 -s 0 -U -Z root -w "$1/capture" udp >"$1/tcpdump" 2>&1 &
+    capture=$!
+    sleep 1
+fi
+"$2" receive 127.0.0.1 100 start:0x0124=1 stop:0x0124=0 >"$1/lines" 2>"$1/said"
+echo $? >"$1/status"
+if [ -n "${capture:-}" ]; then
+    sleep 1
+    kill $capture
+    wait $capture
+    set -- "$1" "$2" $("$2" streams <"$1/capture" | sed -n 's/^stream [^ ]* [^ ]*:\\([0-9]*\\) .* payload=\\([0-9]*\\) .* bytes=\\([0-9]*\\) .*/\\1 \\2 \\3/p')
+    "$2" capture "$3" "$4" "$5" <"$1/capture" | "$2" replay >"$1/replayed"
+fi
+kill $camera
+"""
+
+
+def check_aravis():
+    """Aravis' fake camera, in a network of its own: 100 whole images, with the digests of a capture of the same packets
+    where tcpdump is there. Answers why it isn't run, or nothing."""
+    for tool in ("arv-fake-gv-camera-0.8", "unshare", "ip"):
+        if not shutil.which(tool):
+            return "there is no " + tool
+    if os.geteuid() != 0 or subprocess.run(["unshare", "-n", "true"], capture_output=True).returncode:
+        return "a network of its own can't be made here"
+    case = "Aravis' fake camera"
+    with tempfile.TemporaryDirectory() as here:
+        subprocess.run(["unshare", "-n", "sh", "-c", ARAVIS, "sh", here, os.path.abspath(PROGRAM)], timeout=120)
+        read = lambda name: open(here + "/" + name).read() if os.path.exists(here + "/" + name) else ""
+        wants(case, "status", (read("status"), read("said")), ("0\n", ""))
+        lines = re.findall(r"^take \d+\.\d+ block=(\d+) complete=1 .* sha256=([0-9a-f]{64}) ", read("lines"), re.M)
+        wants(case, "whole images", len(lines), 100)
+        replayed = re.findall(r"^take \d+\.\d+ block=(\d+) complete=1 .* sha256=([0-9a-f]{64})$", read("replayed"), re.M)
+        if replayed:
+            # (images of which the capture lacks a packet stand in it as incomplete)
+            wants(case, "images that differ from the capture's", [it for it in replayed if it[0] in dict(lines) and it not in lines], [])
+    return ""
+
+
+def main():
+    try:
+        Sender("127.83.4.1").end()
+    except OSError as error:
+        print("checks/cameras: receive is skipped, since port %d of 127.83.4.1 can't be bound: %s" % (PORT, error))
+        return 0
+    if b"\nusage: gevacq receive " not in subprocess.run([PROGRAM], capture_output=True).stderr:
+        print("checks/cameras: receive is skipped, since the program doesn't know it")
+        return 0
+    check_two_processes()
+    check_ends()
+    check_steps()
+    check_pipes()
+    check_interrupts()
+    why = check_aravis()
+    if why:
+        print("checks/cameras: Aravis' fake camera is skipped for receive, since " + why)
+    for fault in faults:
+        print(fault, file=sys.stderr)
+    if not faults:
+        print("checks/cameras: receive takes whole images of cameras, and stops them however it ends")
+    return 1 if faults else 0
+
+
+if __name__ == "__main__":
+    sys.exit(main())
