@@ -46,7 +46,7 @@ impl Gate for HoldingGate {
             if before.wrapping_add(1) == self.last {
                 wait_for(&self.takes, 2);
             }
-        } else if self.takes.fetch_add(1, Ordering::SeqCst) == 0 {
+        } else if point == 2 && self.takes.fetch_add(1, Ordering::SeqCst) == 0 {
             wait_for(&self.fills, self.last);
         }
     }
