@@ -303,12 +303,17 @@ def check_simulate():
         note("no address of this machine", "%r" % done)
 
 
+def as_by_default():
+    """In what is started: a check that runs in the background has Control-C ignored, and a shell can't take it then."""
+    signal.signal(signal.SIGINT, signal.SIG_DFL)
+
+
 def check_interrupts():
     """Control-C where the launcher runs it: the signal goes to all of its group."""
     # (where there is no program it builds one first)
     subprocess.run(["./gevacq", "--version"], capture_output=True)
     for words in ([], ["until=stdin"]):
-        launcher = subprocess.Popen(["./gevacq", "simulate", "127.83.3.2", "rate=50", *words], stdin=subprocess.PIPE, stdout=subprocess.PIPE, stderr=subprocess.PIPE, start_new_session=True)
+        launcher = subprocess.Popen(["./gevacq", "simulate", "127.83.3.2", "rate=50", *words], stdin=subprocess.PIPE, stdout=subprocess.PIPE, stderr=subprocess.PIPE, start_new_session=True, preexec_fn=as_by_default)
         await_camera("127.83.3.2")
         os.killpg(launcher.pid, signal.SIGINT)
         out, err = launcher.communicate(timeout=60)

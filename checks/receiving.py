@@ -18,7 +18,7 @@ import tempfile
 import threading
 import time
 
-from cameras import CCP, PORT, PROGRAM, READREG, SCDA0, SCP0, SCPS0, WRITEREG, acknowledge, faults, note, simulated
+from cameras import CCP, PORT, PROGRAM, READREG, SCDA0, SCP0, SCPS0, WRITEREG, acknowledge, as_by_default, faults, note, simulated
 
 CAPABILITY, START = 0x0934, 0x0124
 WIDTH, HEIGHT, MONO8 = 64, 48, 0x01080001
@@ -269,7 +269,7 @@ def check_interrupts():
     for words in ([], ["until=stdin"]):
         camera = Sender("127.83.4.4")
         try:
-            run = subprocess.Popen(["./gevacq", "receive", "127.83.4.4", "100000", *WORDS, *words], stdin=subprocess.PIPE, stdout=subprocess.PIPE, stderr=subprocess.PIPE, start_new_session=True)
+            run = subprocess.Popen(["./gevacq", "receive", "127.83.4.4", "100000", *WORDS, *words], stdin=subprocess.PIPE, stdout=subprocess.PIPE, stderr=subprocess.PIPE, start_new_session=True, preexec_fn=as_by_default)
             first = run.stdout.readline() + run.stdout.readline()
             os.killpg(run.pid, signal.SIGINT)
             out, err = run.communicate(timeout=60)
