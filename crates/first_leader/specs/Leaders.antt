@@ -24,10 +24,11 @@ abbrev pub wide_leader : Result (ℕ × List ℕ) StdError → Option LeaderInfo
 wide_leader (Ok x) = leader_in (take 9000 x.1)
 wide_leader (Err e) = None
 
--- What is known of the stream: the bytes of the frame, and how many of them a packet of this size has beside its headers.
+-- What is known of the stream: what its leader says, and how many of a frame's bytes a packet of this size has beside its
+-- headers.
 abbrev pub found_in : ℕ → Option LeaderInfo → Option LeaderInfo → Option FirstLeader
-found_in packet_size (Some info) wide = Some (record { frame_size = info.size; ids = Extended; payload_size = packet_size - 48 })
-found_in packet_size None (Some info) = Some (record { frame_size = info.size; ids = Standard; payload_size = packet_size - 36 })
+found_in packet_size (Some info) wide = Some (record { info = info; ids = Extended; payload_size = packet_size - 48 })
+found_in packet_size None (Some info) = Some (record { info = info; ids = Standard; payload_size = packet_size - 36 })
 found_in packet_size None None = None
 
 abbrev pub first_leader_in : ℕ → List ℕ → Option FirstLeader

@@ -61,13 +61,13 @@ fn found_in(
 {
     match own {
         Some(info) => Some(FirstLeader {
-            frame_size: info.size,
+            info,
             ids: IdMode::Extended,
             payload_size: packet_size.saturating_sub(EXTENDED_HEADERS),
         }),
         None => match wide {
             Some(info) => Some(FirstLeader {
-                frame_size: info.size,
+                info,
                 ids: IdMode::Standard,
                 payload_size: packet_size.saturating_sub(STANDARD_HEADERS),
             }),

@@ -41,26 +41,20 @@ fn ended(taken: u32, complete: u32, end: HandedEnd) -> HandedOut
 /// A turn looks at the run word and then waits no time for a buffer, so the clock is read once in a turn that finds one
 /// and twice in another. It passes point 2 of the gate after each buffer that it took, and where turns found none it
 /// rests at the gate, so that a gate that each fill rings wakes it at once.
-pub fn hand_out_frames<
-    R: Wait,
-    C: Clock,
-    G: Gate,
-    K: Sink + Drop,
-    I: Source + Drop,
-    T: Clock + Drop,
->(
+pub fn hand_out_frames<R: Wait, C: Clock + Drop, G: Gate, K: Sink, I: Source, T: Clock + Drop>(
     rt: &R,
     alloc: Global,
     board: &Board,
     pass: &mut Pass,
-    clock: &mut C,
     gate: &G,
-    outlet: &mut Outlet<K, I, T>,
+    outlet: &mut Outlet<C, T>,
+    sink: &mut K,
+    input: &mut I,
 ) -> HandedOut
     requires table { pass.old.table ≡ board_id board.now }
-    ensures hands_out { HandsOut outlet.old.frames outlet.old.output (C.told clock.old) (C.told clock.new) result pass.old pass.new (K.written outlet.old.sink) (K.written outlet.new.sink) (K.faults outlet.old.sink) (K.faults outlet.new.sink) outlet.old.watch.on (I.left outlet.new.watch.input) }
-    ensures dropped { Drops (I.left outlet.old.watch.input) (I.left outlet.new.watch.input) }
-    ensures input_faults { I.faults outlet.new.watch.input ≡ I.faults outlet.old.watch.input }
+    ensures hands_out { HandsOut outlet.old.frames outlet.old.output (C.told outlet.old.clock) (C.told outlet.new.clock) result pass.old pass.new (K.written sink.old) (K.written sink.new) (K.faults sink.old) (K.faults sink.new) outlet.old.watch.on (I.left input.new) }
+    ensures dropped { Drops (I.left input.old) (I.left input.new) }
+    ensures input_faults { I.faults input.new ≡ I.faults input.old }
     ensures hands { SameHands pass.old pass.new }
     ensures frames { outlet.new.frames ≡ outlet.old.frames }
     ensures output { outlet.new.output ≡ outlet.old.output }
@@ -72,7 +66,7 @@ pub fn hand_out_frames<
         if taken == outlet.frames {
             return ended(taken, complete, HandedEnd::Enough);
         }
-        if outlet.watch.has_ended() {
+        if outlet.watch.has_ended(input) {
             return ended(taken, complete, HandedEnd::InputEnded);
         }
         let rings = gate.rings();
@@ -82,10 +76,10 @@ pub fn hand_out_frames<
             alloc,
             board,
             pass,
-            clock,
+            &mut outlet.clock,
             gate,
             output,
-            &mut outlet.sink,
+            sink,
         ) {
             TurnEnd::Handed(whole) => {
                 taken += 1;

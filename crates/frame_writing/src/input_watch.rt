@@ -7,11 +7,9 @@ use gev_links::{Clock, Source};
 /// How many milliseconds lie between two looks at the input.
 const PAUSE: u64 = 100;
 
-/// An input whose end ends a run, or one that isn't looked at.
+/// When an input is looked at whose end ends a run, or that none is.
 #[derive(Drop)]
-pub struct InputWatch<I: Drop, T: Drop> {
-    /// The input. What it holds is dropped.
-    pub input: I,
+pub struct InputWatch<T: Drop> {
     /// The clock by which looks are made at most every 100 ms.
     pub clock: T,
     /// Whether the input is looked at.
@@ -20,13 +18,14 @@ pub struct InputWatch<I: Drop, T: Drop> {
     pub next: u64,
 }
 
-impl<I: Source + Drop, T: Clock + Drop> InputWatch<I, T> {
-    /// Whether the input is seen to have ended. It's looked at at most every 100 ms, and never waited for.
-    pub fn has_ended(&mut self) -> bool
-        ensures ended { OnTrue result (IsSpent (I.left self.new.input)) }
+impl<T: Clock + Drop> InputWatch<T> {
+    /// Whether the input is seen to have ended. It's looked at at most every 100 ms, and never waited for; what it
+    /// holds is dropped.
+    pub fn has_ended<I: Source>(&mut self, input: &mut I) -> bool
+        ensures ended { OnTrue result (IsSpent (I.left input.new)) }
         ensures watched { OnTrue result (self.old.on ≡ true) }
-        ensures dropped { Drops (I.left self.old.input) (I.left self.new.input) }
-        ensures faults { I.faults self.new.input ≡ I.faults self.old.input }
+        ensures dropped { Drops (I.left input.old) (I.left input.new) }
+        ensures faults { I.faults input.new ≡ I.faults input.old }
         ensures on { self.new.on ≡ self.old.on }
     {
         if !self.on {
@@ -37,6 +36,6 @@ impl<I: Source + Drop, T: Clock + Drop> InputWatch<I, T> {
             return false;
         }
         self.next = now.saturating_add(PAUSE);
-        self.input.has_ended()
+        input.has_ended()
     }
 }

@@ -19,11 +19,9 @@ use std::alloc::Global;
 use std::sync::Wait;
 
 /// What the application's worker gives back beside its pass.
-pub struct FramesDone<C, K: Drop, I: Drop, T: Drop> {
-    /// Its clock.
-    pub clock: C,
-    /// Where the frames went.
-    pub outlet: Outlet<K, I, T>,
+pub struct FramesDone<C: Drop, T: Drop> {
+    /// What was wanted, with its clocks.
+    pub outlet: Outlet<C, T>,
     /// How it ended.
     pub handed: HandedOut,
 }
@@ -43,32 +41,29 @@ fn is_enough(end: HandedEnd) -> bool
 
 /// The application's worker: hands out buffers until it has enough or the run is over. It stops the run in each case but
 /// that it was over.
-pub fn work_frames<R: Wait, C: Clock, G: Gate, K: Sink + Drop, I: Source + Drop, T: Clock + Drop>(
+pub fn work_frames<R: Wait, C: Clock + Drop, G: Gate, K: Sink, I: Source, T: Clock + Drop>(
     rt: &R,
     alloc: Global,
     board: &Board,
     mut pass: Pass,
-    mut clock: C,
     gate: &G,
-    mut outlet: Outlet<K, I, T>,
-) -> Worked<FramesDone<C, K, I, T>>
+    mut outlet: Outlet<C, T>,
+    sink: &mut K,
+    input: &mut I,
+) -> Worked<FramesDone<C, T>>
     requires table { pass.table ≡ board_id board.now }
     requires hands { IsEmptyHanded pass }
-    ensures hands_out { HandsOutAndStops outlet.frames outlet.output (C.told clock) (C.told result.done.clock) result.done.handed pass result.pass (K.written outlet.sink) (K.written result.done.outlet.sink) (K.faults outlet.sink) (K.faults result.done.outlet.sink) outlet.watch.on (I.left result.done.outlet.watch.input) }
-    ensures dropped { Drops (I.left outlet.watch.input) (I.left result.done.outlet.watch.input) }
-    ensures input_faults { I.faults result.done.outlet.watch.input ≡ I.faults outlet.watch.input }
+    ensures hands_out { HandsOutAndStops outlet.frames outlet.output (C.told outlet.clock) (C.told result.done.outlet.clock) result.done.handed pass result.pass (K.written sink.old) (K.written sink.new) (K.faults sink.old) (K.faults sink.new) outlet.watch.on (I.left input.new) }
+    ensures dropped { Drops (I.left input.old) (I.left input.new) }
+    ensures input_faults { I.faults input.new ≡ I.faults input.old }
     ensures works { Works is_applications pass result.pass }
     ensures back { ComesBack pass result.pass }
 {
-    let handed = hand_out_frames(rt, alloc, board, &mut pass, &mut clock, gate, &mut outlet);
+    let handed = hand_out_frames(rt, alloc, board, &mut pass, gate, &mut outlet, sink, input);
     let over = is_enough(handed.end);
     stop_if(board, &mut pass, over);
     Worked {
         pass,
-        done: FramesDone {
-            clock,
-            outlet,
-            handed,
-        },
+        done: FramesDone { outlet, handed },
     }
 }

@@ -1,0 +1,21 @@
+//! A run over the frames of a camera on the network: the camera is taken, its stream is received and handed out as it
+//! comes, and the camera is let go.
+#![tactic(auto)]
+
+mod answers; // how a run ends, of several causes
+mod asking; // a control link on which packets are asked for again
+mod crew; // reader and application as threads
+mod ending; // the last line
+mod forms; // the frames of a stream, by its identifiers
+mod frames; // the frames of a stream
+mod host; // what the host works with
+mod leading; // the first leader, waited for
+mod meeting; // the camera, taken and let go
+mod noticing; // the last datagram that is no packet
+mod ran; // how the part between went
+mod reading; // the reader's worker
+mod receiving; // a run over ports
+mod starting; // what a stream is received with
+mod writes; // the writes of each stage
+
+pub use receiving::receive_over;
