@@ -4,3 +4,8 @@ pub mod Told
 pub mod ByForm
 pub mod Leaving
 pub mod Last
+pub mod Alone
+pub mod Standing
+pub mod Bound
+pub mod MeetingLaws
+pub mod Over

@@ -4,4 +4,5 @@ pub mod Ending
 pub mod Reader
 pub mod Forms
 pub mod Frames
+pub mod Bound
 pub mod Receives
