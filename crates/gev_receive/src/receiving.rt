@@ -4,13 +4,14 @@ ghost use Rattle.std.specs.Prelude.{◌≡◌};
 ghost use Rattle.gev_links.specs.Links.{IsBlank};
 ghost use Rattle.camera_words.specs.Receiving.{IsInRange};
 
+use crate::drops::tell_drops;
 use crate::ending::finish;
 use crate::host::Host;
 use crate::meeting::{Ways, meet_camera};
 use buffer_words::{Board, Pass};
 use camera_words::Settings;
 use control_client::Client;
-use frame_writing::{InputWatch, Outlet};
+use frame_writing::{InputWatch, Outlet, Progress};
 use gev_far::{FarPorts, PeekLink};
 use gev_links::{Clock, Gate, Sink, Source};
 use gev_status::Status;
@@ -88,6 +89,7 @@ fn receive_from<
             on: settings.until_input_ends,
             next: 0,
         },
+        progress: Progress::each(settings.progress),
     };
     let (ran, host, outlet) = meet_camera(rt, alloc, ways, host, outlet, gate, sink, input, kept);
     let Host {
@@ -104,6 +106,7 @@ fn receive_from<
         output: _,
         clock: app_clock,
         watch,
+        progress: _,
     } = outlet;
     let InputWatch {
         clock: watch_clock,
@@ -169,6 +172,7 @@ where
         app_clock,
         watch_clock,
     } = ends;
+    tell_drops(alloc, ports, &stream, sink);
     ports.unbind(control);
     ports.unbind(stream);
     ports.unclock(host_clock);
