@@ -184,7 +184,7 @@ pub record RanFrames (settings : Settings) (camera : Address) (leader : FirstLea
   pub answered : answer ≡ weightier (handed_status handed.end) (reader_status read settings.frames handed.taken)
   pub counts_are : counts ≡ with_counts (leader_counts settings leader) handed.taken handed.complete counted
 
--- Memory was wanting before they ran: nothing was received, sent or written.
+-- Memory or a thread was wanting before they ran: nothing was received, sent or written.
 pub record NeverRan (settings : Settings) (leader : FirstLeader) (o n : Outside) (stream stream_after control control_after : ℕ) (app app_after : Option (List ℕ))
     (written written_after : Option (List ℕ)) (faults faults_after : ℕ) (input left : Option (List ℕ)) (misses misses_after : ℕ) (answer : Status) (counts : ReceiveCounts) : Type 0 where
   pub wanted : answer ≡ status.NoMemory

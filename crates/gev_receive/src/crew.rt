@@ -51,8 +51,9 @@ fn take_back<T>(lent: &mut T)
     ensures { lent.new ≡ lent.old }
 {}
 
-/// Reader and application at the same time, the application on this thread. Where no thread can be made the reader comes
-/// behind the application, which waits for it then until its input ends.
+/// Reader and application at the same time, the application on this thread. The caller has seen that a thread can be made;
+/// where the system gives the last one to another process in between the reader comes behind the application, which waits
+/// for it then until its input ends.
 pub(crate) fn work_two<
     R: Threads + Wait + Sync,
     S: Link + Send + Drop,

@@ -15,6 +15,7 @@ use crate::host::Host;
 use crate::ran::Ran;
 use crate::reading::{ReadDone, ReaderWords};
 use crate::starting::{buffer_size, config_of, leader_counts, mode_of, with_counts};
+use crate::threads::has_thread;
 use acq_core::Acq;
 use acquisition_machine::Counts;
 use buffer_words::{Board, Pass};
@@ -71,7 +72,8 @@ fn ran_none(asked: Asked<'_>, status: Status) -> Ran
     }
 }
 
-/// Receives and hands out the frames over these links.
+/// Receives and hands out the frames over these links; `NoMemory` where memory or a thread is wanting before anything is
+/// received.
 pub(crate) fn run_frames<
     R: Threads + Wait + Sync,
     S: Link + Send + Drop,
@@ -111,6 +113,9 @@ pub(crate) fn run_frames<
         leader,
         resends,
     } = asked;
+    if !has_thread(rt) {
+        return (ran_none(asked, Status::NoMemory), host, outlet);
+    }
     let Ok(acq) = Acq::new(alloc, config_of(settings, leader, resends)) else {
         return (ran_none(asked, Status::NoMemory), host, outlet);
     };

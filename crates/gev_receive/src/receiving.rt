@@ -12,6 +12,7 @@ ghost use Rattle.gev_receive.specs.Answers.{rank};
 ghost use Rattle.gev_receive.specs.Frames.{seen_by};
 ghost use Rattle.gev_receive.specs.Receives.{told_by, Receives, ReceivesOver};
 
+use crate::drops::tell_drops;
 use crate::ending::finish;
 use crate::host::Host;
 use crate::meeting::{Ways, meet_camera};
@@ -19,7 +20,7 @@ use crate::tools::{Ends, bind_ends, control_peer, give_back};
 use buffer_words::{Board, Pass};
 use camera_words::Settings;
 use control_client::Client;
-use frame_writing::{InputWatch, Outlet};
+use frame_writing::{InputWatch, Outlet, Progress};
 use gev_far::{FarPorts, PeekLink};
 use gev_links::{Clock, Gate, Sink, Source};
 use gev_status::Status;
@@ -92,6 +93,7 @@ fn receive_from<
             on: settings.until_input_ends,
             next: 0,
         },
+        progress: Progress::each(settings.progress),
     };
     let (ran, host, outlet) = meet_camera(rt, alloc, ways, host, outlet, gate, sink, input, kept);
     let Host {
@@ -108,6 +110,7 @@ fn receive_from<
         output: _,
         clock: app_clock,
         watch,
+        progress: _,
     } = outlet;
     let InputWatch {
         clock: input_clock,
@@ -170,6 +173,7 @@ where
     let (status, ends) = receive_from::<R, P::L, P::C, G, K, I, Brand>(
         rt, alloc, ways, ends, gate, sink, input, kept,
     );
+    tell_drops(alloc, ports, &ends.stream, sink);
     give_back(ports, ends);
     status
 }
