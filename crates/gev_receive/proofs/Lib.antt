@@ -1,7 +1,5 @@
 pub mod ReaderWork
 pub mod RanAll
-pub mod Told
-pub mod ByForm
 pub mod Leaving
 pub mod Last
 pub mod Alone
