@@ -32,7 +32,8 @@ use Rattle.gev_live.specs.History.{live_size, LiveHistory}
 use Rattle.gev_live.specs.Acquirers.{acquires}
 use Rattle.gev_live.specs.Endings.{taken_of, status_by, EndsSo}
 use Rattle.gev_acq.specs.declared.turn.Turn.{Turn}
-use Rattle.gev_live.specs.LiveRun.{Numbers, LiveRun, NeverRan, RunsLive}
+use Rattle.gev_live.specs.declared.numbers.Numbers.{Numbers}
+use Rattle.gev_live.specs.LiveRun.{LiveRun, NeverRan, RunsLive}
 use Rattle.gev_live.specs.Journal.{JournaledRun, RunsWithJournal}
 use Rattle.gev_live.specs.Ran.{RanCrew}
 use Rattle.gev_live.proofs.Quiet.{one_size}

@@ -5,6 +5,8 @@ ghost use Rattle.gev_report.specs.LiveLine.{live_line};
 ghost use Rattle.gev_live.specs.Endings.{taken_of, read_status, application_status, camera_status, status_by, is_told, IsAnswer, EndsSo};
 
 use crate::counting::{Tally, tell_counts};
+use crate::crew_done::Outcome;
+use crate::numbers::Numbers;
 use gev_control::AcqEnd;
 use gev_links::{Sink, write_all};
 use gev_report::line_live;
@@ -75,9 +77,9 @@ fn camera_status(
     }
 }
 
-/// The answer of a live run whose workers ended so: a link's failure goes first, then want of memory, then a
-/// command without answer or one that was refused.
-pub fn status_by(
+// The answer of a live run whose workers ended so: a link's failure goes first, then want of memory, then a
+// command without answer or one that was refused.
+fn status_by(
     served: ServeEnd,
     end: AcqEnd,
     frames: u32,
@@ -99,8 +101,8 @@ pub fn status_by(
     }
 }
 
-/// How many buffers were taken; 0 where memory was wanting.
-pub fn taken_of(answer: &Result<u32, NoMemory>) -> u32
+// How many buffers were taken; 0 where memory was wanting.
+fn taken_of(answer: &Result<u32, NoMemory>) -> u32
     ensures { result ≡ taken_of answer.now }
 {
     match answer {
@@ -175,8 +177,8 @@ fn write_told<K: Sink>(
     }
 }
 
-/// Tells what was counted, and writes the lines and the last one, where the workers' answer wants that.
-pub fn finish<K: Sink>(
+// Tells what was counted, and writes the lines and the last one, where the workers' answer wants that.
+fn finish<K: Sink>(
     alloc: Global,
     sink: &mut K,
     first: Status,
@@ -190,4 +192,27 @@ pub fn finish<K: Sink>(
 {
     tell_counts(alloc, sink, tally, &lines, frames, taken);
     write_told(alloc, sink, first, lines, frames, taken)
+}
+
+/// The answer of a run whose workers ended so, after what was counted was told, and the lines were written where the
+/// answer wants that.
+pub(crate) fn end_run<K: Sink>(
+    alloc: Global,
+    sink: &mut K,
+    numbers: Numbers,
+    outcome: Outcome,
+) -> Status
+    ensures ends { EndsSo (status_by outcome.served outcome.read numbers.frames numbers.turns outcome.taken) result (outcome.lines.items ++ live_line numbers.frames (taken_of outcome.taken))
+        (K.written sink.old) (K.written sink.new) (K.faults sink.old) (K.faults sink.new) }
+{
+    let Outcome {
+        served,
+        read,
+        taken,
+        lines,
+        tally,
+    } = outcome;
+    let first = status_by(served, read, numbers.frames, numbers.turns, &taken);
+    let count = taken_of(&taken);
+    finish(alloc, sink, first, lines, numbers.frames, count, tally)
 }

@@ -1,7 +1,7 @@
 //! What the workers of a live run work with, beside what is of the outside.
 
 ghost use Rattle.std.specs.Prelude.{◌≡◌, IfOk, vec_capacity};
-ghost use Rattle.gev_live.specs.Told.{live_shape, live_config, AreNew};
+ghost use Rattle.gev_live.specs.Told.{live_shape, live_config, live_camera, IsNewReceiver, AreNew};
 
 use acq_core::Acq;
 use acquisition_machine::AcqConfig;
@@ -53,12 +53,26 @@ fn config() -> AcqConfig
     }
 }
 
+/// A live run's camera, which made no frame yet.
+pub(crate) fn make_camera(alloc: Global, seed: u64) -> Result<Camera, NoMemory>
+    ensures { IfOk result (λ camera. camera ≡ live_camera seed) }
+{
+    Camera::new(alloc, seed, shape(), KEPT_FRAMES)
+}
+
+/// A receiver of a live run, which took nothing yet.
+pub(crate) fn make_receiver(alloc: Global) -> Result<Acq, NoMemory>
+    ensures { IfOk result (λ acq. IsNewReceiver acq) }
+{
+    Acq::new(alloc, config())
+}
+
 /// Takes all the memory that the reader will use, and that of an empty camera.
 pub(crate) fn make_tools(alloc: Global, seed: u64, turns: u64) -> Result<Tools, NoMemory>
     ensures { IfOk result (λ tools. AreNew seed turns tools.camera tools.acq tools.client tools.journal.items (vec_capacity tools.journal) tools.lines.items) }
 {
-    let camera = Camera::new(alloc, seed, shape(), KEPT_FRAMES)?;
-    let acq = Acq::new(alloc, config())?;
+    let camera = make_camera(alloc, seed)?;
+    let acq = make_receiver(alloc)?;
     let journal = Vec::with_capacity(alloc, turns as usize)?;
     Ok(Tools {
         camera,
