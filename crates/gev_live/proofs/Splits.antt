@@ -15,36 +15,36 @@ use Rattle.gev_lanes.specs.Sides.{LaneEnd, IsLaneAt, AreNew}
 use Rattle.lane_crew.specs.declared.lane_tools.LaneTools.{LaneTools}
 use Rattle.lane_crew.specs.Tools.{IsReady, AreReady, ends_in}
 use Rattle.live_crew.specs.HomeLaws.{SplitsEach}
-use Rattle.gev_live.specs.declared.lane_parts.LaneParts.{LaneParts}
-use Rattle.gev_live.specs.LanesMade.{IsNewReceiver, IsNewPart, AreNewParts, ends_of, IsSplit, AreSplit, numbers_in, AreLiveTools}
+use Rattle.gev_live.specs.Told.{IsNewReceiver}
+use Rattle.gev_live.specs.LanesMade.{NewPart, IsNewPart, AreNewParts, ends_of, IsSplit, AreSplit, numbers_in, AreLiveTools}
 
-pub split_last : (board : TableId) (ps : List LaneParts) (s : Token) (xs : List LaneTools) (t : Token) (p : LaneParts) (x : LaneTools) (u : Token)
+pub split_last : (board : TableId) (ps : List NewPart) (s : Token) (xs : List LaneTools) (t : Token) (p : NewPart) (x : LaneTools) (u : Token)
     → AreSplit board ps s xs t → IsSplit board p t x u → AreSplit board (ps ++ p ∷ []) s (xs ++ x ∷ []) u
 split_last board [] s [] t p x u none last = (u, subst (λ v. IsSplit board p v x u) none last, refl)
 split_last board [] s (y ∷ xs) t p x u none last = absurd none
 split_last board (q ∷ ps) s [] t p x u none last = absurd none
 split_last board (q ∷ ps) s (y ∷ xs) t p x u each last = (each.0, each.1, split_last board ps each.0 xs t p x u each.2 last)
 
-pub splits_each : (board : TableId) (ps : List LaneParts) (s : Token) (xs : List LaneTools) (u : Token) → AreSplit board ps s xs u → SplitsEach s (numbers_in xs) u
+pub splits_each : (board : TableId) (ps : List NewPart) (s : Token) (xs : List LaneTools) (u : Token) → AreSplit board ps s xs u → SplitsEach s (numbers_in xs) u
 splits_each board [] s [] u none = none
 splits_each board [] s (x ∷ xs) u none = absurd none
 splits_each board (p ∷ ps) s [] u none = absurd none
 splits_each board (p ∷ ps) s (x ∷ xs) u each = (each.0, each.1.splits, splits_each board ps each.0 xs u each.2)
 
-pub ends_same : (board : TableId) (ps : List LaneParts) (s : Token) (xs : List LaneTools) (u : Token) → AreSplit board ps s xs u → ends_in xs ≡ ends_of ps
+pub ends_same : (board : TableId) (ps : List NewPart) (s : Token) (xs : List LaneTools) (u : Token) → AreSplit board ps s xs u → ends_in xs ≡ ends_of ps
 ends_same board [] s [] u none = refl
 ends_same board [] s (x ∷ xs) u none = absurd none
 ends_same board (p ∷ ps) s [] u none = absurd none
 ends_same board (p ∷ ps) s (x ∷ xs) u each =
-    ap (λ e. e ∷ ends_in xs) each.1.ends ∙ ap (λ l. p.ends ∷ l) (ends_same board ps each.0 xs u each.2)
+    ap (λ e. e ∷ ends_in xs) each.1.ends ∙ ap (λ l. p.0 ∷ l) (ends_same board ps each.0 xs u each.2)
 
-pub as_many : (board : TableId) (ps : List LaneParts) (s : Token) (xs : List LaneTools) (u : Token) → AreSplit board ps s xs u → length xs ≡ length ps
+pub as_many : (board : TableId) (ps : List NewPart) (s : Token) (xs : List LaneTools) (u : Token) → AreSplit board ps s xs u → length xs ≡ length ps
 as_many board [] s [] u none = refl
 as_many board [] s (x ∷ xs) u none = absurd none
 as_many board (p ∷ ps) s [] u none = absurd none
 as_many board (p ∷ ps) s (x ∷ xs) u each = ap suc (as_many board ps each.0 xs u each.2)
 
-one_ready : (board : TableId) (qs : List LaneQueues) (p : LaneParts) (s : Token) (x : LaneTools) (t : Token) → IsNewPart qs p → IsSplit board p s x t → IsReady board qs x
+one_ready : (board : TableId) (qs : List LaneQueues) (p : NewPart) (s : Token) (x : LaneTools) (t : Token) → IsNewPart qs p → IsSplit board p s x t → IsReady board qs x
 one_ready board qs p s x t new split = record {
   table = split.table;
   unborn = split.unborn;
@@ -59,13 +59,13 @@ one_ready board qs p s x t new split = record {
     receiver : IsNewReceiver x.acq
     receiver = subst (λ a. IsNewReceiver a) (sym split.acq) new.receiver
 
-pub are_ready : (board : TableId) (qs : List LaneQueues) (ps : List LaneParts) (s : Token) (xs : List LaneTools) (u : Token) → AreNewParts qs ps → AreSplit board ps s xs u → AreReady board qs xs
+pub are_ready : (board : TableId) (qs : List LaneQueues) (ps : List NewPart) (s : Token) (xs : List LaneTools) (u : Token) → AreNewParts qs ps → AreSplit board ps s xs u → AreReady board qs xs
 are_ready board qs [] s [] u new none = tt
 are_ready board qs [] s (x ∷ xs) u new none = absurd none
 are_ready board qs (p ∷ ps) s [] u new none = absurd none
 are_ready board qs (p ∷ ps) s (x ∷ xs) u new each = (one_ready board qs p s x each.0 new.0 each.1, are_ready board qs ps each.0 xs u new.1 each.2)
 
-pub are_live : (board : TableId) (qs : List LaneQueues) (ps : List LaneParts) (s : Token) (xs : List LaneTools) (u : Token) → AreNewParts qs ps → AreSplit board ps s xs u → AreLiveTools xs
+pub are_live : (board : TableId) (qs : List LaneQueues) (ps : List NewPart) (s : Token) (xs : List LaneTools) (u : Token) → AreNewParts qs ps → AreSplit board ps s xs u → AreLiveTools xs
 are_live board qs [] s [] u new none = tt
 are_live board qs [] s (x ∷ xs) u new none = absurd none
 are_live board qs (p ∷ ps) s [] u new none = absurd none
@@ -83,7 +83,7 @@ new_count k (q ∷ qs) [] (e ∷ es) new = absurd new
 new_count k (q ∷ qs) (s ∷ ss) [] new = absurd new
 new_count k (q ∷ qs) (s ∷ ss) (e ∷ es) new = ap suc (new_count (suc k) qs ss es new.1)
 
-pub ends_count : (ps : List LaneParts) → length (ends_of ps) ≡ length ps
+pub ends_count : (ps : List NewPart) → length (ends_of ps) ≡ length ps
 ends_count [] = refl
 ends_count (p ∷ ps) = ap suc (ends_count ps)
 

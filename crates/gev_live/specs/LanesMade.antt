@@ -3,57 +3,54 @@ use Rattle.std.specs.Prelude.{◌≡◌, ⊤, ℕ, ◌≤◌, List, [], ◌∷�
 use Rattle.atomic_table.specs.Seated.{TableId}
 use Rattle.board_machine.specs.declared.events.Event.TheVariants.{Split}
 use Rattle.buffer_words.specs.Passes.{Token, own, IsEmptyHanded, Enters}
-use Rattle.client_machine.specs.Times.{SEND_LIMIT}
-use Rattle.client_machine.specs.Machine.{Client, HasSubmittedNone, new_client}
-use Rattle.camera_machine.specs.Camera.{Camera}
 use Rattle.acq_core.specs.Receiver.{config_of}
+use Rattle.acq_core.specs.declared.window.Window.{Window}
 use Rattle.gev_lanes.specs.declared.parts.LaneQueues.{LaneQueues}
 use Rattle.gev_lanes.specs.declared.parts.ReaderLane.{ReaderLane}
 use Rattle.gev_lanes.specs.Sides.{LaneEnd, IsLaneAt, AreReadersOf}
 use Rattle.gev_lanes.specs.Sides as sides
-use Rattle.gev_live.specs.Told.{live_config, live_camera, IsNewReceiver}
+use Rattle.gev_live.specs.Told.{live_config, IsNewReceiver}
 use Rattle.lane_crew.specs.declared.lane_tools.LaneTools.{LaneTools}
-use Rattle.gev_live.specs.declared.lane_parts.LaneParts.{LaneParts}
 
--- What a lane begins with beside its pass: its ends of these queues, and a new receiver.
-pub record IsNewPart (qs : List LaneQueues) (p : LaneParts) : Type 0 where
-  pub lane : IsLaneAt qs p.ends
-  pub receiver : IsNewReceiver p.acq
+-- what a lane begins with beside its pass: its ends of its queues, and its receiver
+abbrev pub NewPart : Type 0
+NewPart = LaneEnd × Window
 
-abbrev pub AreNewParts : List LaneQueues → List LaneParts → Type 0
+-- The ends are those of a lane of these queues, and the receiver is new.
+pub record IsNewPart (qs : List LaneQueues) (p : NewPart) : Type 0 where
+  pub lane : IsLaneAt qs p.0
+  pub receiver : IsNewReceiver p.1
+
+abbrev pub AreNewParts : List LaneQueues → List NewPart → Type 0
 AreNewParts qs [] = ⊤
 AreNewParts qs (p ∷ ps) = IsNewPart qs p × AreNewParts qs ps
 
-abbrev pub ends_of : List LaneParts → List LaneEnd
+abbrev pub ends_of : List NewPart → List LaneEnd
 ends_of [] = []
-ends_of (p ∷ ps) = p.ends ∷ ends_of ps
+ends_of (p ∷ ps) = p.0 ∷ ends_of ps
 
--- Camera, client and so many lanes are new.
-pub record AreNew (seed lanes : ℕ) (camera : Camera) (client : Client) (qs : List LaneQueues) (reader : List ReaderLane) (parts : List LaneParts) (tools : List LaneTools) (room : ℕ) (lines : List ℕ) : Type 0 where
-  pub camera_is : camera ≡ live_camera seed
-  pub client_is : client ≡ new_client SEND_LIMIT
-  pub unsubmitted : HasSubmittedNone client
+-- So many lanes are new.
+pub record AreNew (lanes : ℕ) (qs : List LaneQueues) (reader : List ReaderLane) (parts : List NewPart) (tools : List LaneTools) (room : ℕ) : Type 0 where
   pub count : length qs ≡ lanes
   pub new : sides.AreNew 0 qs reader (ends_of parts)
   pub readers : AreReadersOf qs reader
   pub parts_new : AreNewParts qs parts
   pub no_tools : tools ≡ []
   pub room_for : length parts ≤ room
-  pub no_lines : lines ≡ []
 
 -- ---- the passes
 
 -- A new pass of this board was split off for the lane.
-pub record IsSplit (board : TableId) (p : LaneParts) (s : Token) (x : LaneTools) (t : Token) : Type 0 where
+pub record IsSplit (board : TableId) (p : NewPart) (s : Token) (x : LaneTools) (t : Token) : Type 0 where
   pub splits : Enters s (Split x.pass.number) t
   pub table : x.pass.table ≡ board
   pub unborn : own x.pass ≡ []
   pub empty : IsEmptyHanded x.pass
-  pub ends : x.ends ≡ p.ends
-  pub acq : x.acq ≡ p.acq
+  pub ends : x.ends ≡ p.0
+  pub acq : x.acq ≡ p.1
 
 -- One for each lane, in their order.
-abbrev pub AreSplit : TableId → List LaneParts → Token → List LaneTools → Token → Type 0
+abbrev pub AreSplit : TableId → List NewPart → Token → List LaneTools → Token → Type 0
 AreSplit board [] s [] u = u ≡ s
 AreSplit board [] s (x ∷ xs) u = ⊥
 AreSplit board (p ∷ ps) s [] u = ⊥

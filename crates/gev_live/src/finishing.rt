@@ -2,15 +2,18 @@
 
 ghost use Rattle.std.specs.Prelude.{◌≡◌, ◌++◌, true};
 ghost use Rattle.gev_report.specs.LiveLine.{live_line};
+ghost use Rattle.gev_live.specs.Told.{ends_back};
 ghost use Rattle.gev_live.specs.Endings.{taken_of, read_status, application_status, camera_status, status_by, is_told, IsAnswer, EndsSo};
 
 use crate::counting::{Tally, tell_counts};
-use crate::crew_done::Outcome;
+use crate::ends::Ends;
 use crate::numbers::Numbers;
+use gev_acq::{Acquired, Turn};
+use gev_apply::ApplicationDone;
 use gev_control::AcqEnd;
 use gev_links::{Sink, write_all};
 use gev_report::line_live;
-use gev_serve::ServeEnd;
+use gev_serve::{CameraDone, ServeEnd};
 use gev_status::Status;
 use gev_types::NoMemory;
 use std::alloc::Global;
@@ -194,25 +197,42 @@ fn finish<K: Sink>(
     write_told(alloc, sink, first, lines, frames, taken)
 }
 
-/// The answer of a run whose workers ended so, after what was counted was told, and the lines were written where the
-/// answer wants that.
-pub(crate) fn end_run<K: Sink>(
+/// The answer of a run whose workers gave this back, after what was counted was told, and the lines were written where
+/// the answer wants that; with the links and clocks, and the reader's journal.
+pub(crate) fn end_run<L, S, C, K: Sink>(
     alloc: Global,
     sink: &mut K,
     numbers: Numbers,
-    outcome: Outcome,
-) -> Status
-    ensures ends { EndsSo (status_by outcome.served outcome.read numbers.frames numbers.turns outcome.taken) result (outcome.lines.items ++ live_line numbers.frames (taken_of outcome.taken))
+    done: (CameraDone<L, C>, Acquired<S, L, C>, ApplicationDone<C>),
+) -> (Status, Ends<L, S, C>, Vec<Turn>)
+    ensures ends { EndsSo (status_by done.0.end done.1.end numbers.frames numbers.turns done.2.answer) result.0 (done.2.lines.items ++ live_line numbers.frames (taken_of done.2.answer))
         (K.written sink.old) (K.written sink.new) (K.faults sink.old) (K.faults sink.new) }
+    ensures back { result.1 ≡ ends_back done.0 done.1 done.2 }
+    ensures journal { result.2 ≡ done.1.journal }
 {
-    let Outcome {
-        served,
-        read,
-        taken,
-        lines,
-        tally,
-    } = outcome;
-    let first = status_by(served, read, numbers.frames, numbers.turns, &taken);
-    let count = taken_of(&taken);
-    finish(alloc, sink, first, lines, numbers.frames, count, tally)
+    let (served, acquired, applied) = done;
+    let Acquired {
+        host,
+        journal,
+        counts,
+        shed,
+        end,
+    } = acquired;
+    let first = status_by(served.end, end, numbers.frames, numbers.turns, &applied.answer);
+    let taken = taken_of(&applied.answer);
+    let tally = Tally {
+        counts,
+        gone: host.client.gone(),
+        shed,
+    };
+    let status = finish(alloc, sink, first, applied.lines, numbers.frames, taken, tally);
+    let ends = Ends {
+        camera: served.link,
+        stream: host.stream,
+        control: host.control,
+        camera_clock: served.clock,
+        host_clock: host.clock,
+        app_clock: applied.clock,
+    };
+    (status, ends, journal)
 }

@@ -5,15 +5,16 @@ ghost use Rattle.buffer_words.specs.Boards.{board_id};
 ghost use Rattle.buffer_words.specs.Passes.{SameHands};
 ghost use Rattle.gev_live.specs.LanesMade.{AreSplit};
 
-use crate::lane_parts::LaneParts;
+use acq_core::Acq;
 use buffer_words::{Board, Pass};
+use gev_lanes::LaneEnds;
 use lane_crew::LaneTools;
 
 /// Splits a pass off for each lane, in their order. The room is empty and large enough.
 pub(crate) fn split_lanes(
     board: &Board,
     pass: &mut Pass,
-    mut parts: Vec<LaneParts>,
+    mut parts: Vec<(LaneEnds, Acq)>,
     room: Vec<LaneTools>,
 ) -> Vec<LaneTools>
     requires table { pass.old.table ≡ board_id board.now }
@@ -31,8 +32,8 @@ pub(crate) fn split_lanes(
             let lane_pass = board.split(pass);
             tools.push_reserved(LaneTools {
                 pass: lane_pass,
-                ends: last.ends,
-                acq: last.acq,
+                ends: last.0,
+                acq: last.1,
             });
             tools
         }

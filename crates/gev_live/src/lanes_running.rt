@@ -4,22 +4,24 @@ ghost use Rattle.std.specs.Prelude.{◌≡◌, ◌<◌, [], vec_capacity};
 ghost use Rattle.board_machine.specs.Actors.{born};
 ghost use Rattle.buffer_words.specs.Boards.{board_id};
 ghost use Rattle.buffer_words.specs.Passes.{SameHands, own};
-ghost use Rattle.gev_live.specs.Told.{live_camera, told_by};
+ghost use Rattle.gev_live.specs.Told.{live_camera, told_by, ends_back};
 ghost use Rattle.gev_live.specs.LanesMade.{AreNew};
 ghost use Rattle.gev_live.specs.LanesRan.{RanLanes};
 
-use crate::counting::Tally;
-use crate::crew_done::{CrewDone, Outcome};
+use crate::crew::{ApplicationSide, CameraSide};
 use crate::ends::Ends;
 use crate::lane_passes::split_lanes;
-use crate::lanes_making::LanesTools;
-use crate::lanes_reading::{Acquirers, work_with_lanes};
+use crate::lanes_making::NewLanes;
+use crate::lanes_reading::work_with_lanes;
 use crate::numbers::Numbers;
 use buffer_words::{Board, Pass};
+use camera_sim::Camera;
+use control_client::Client;
+use gev_acq::{Acquired, Host};
 use gev_apply::ApplicationDone;
 use gev_links::{Clock, Gate, Link};
 use gev_serve::CameraDone;
-use lane_crew::LanesDone;
+use lane_crew::LanesReader;
 use std::alloc::Global;
 use std::sync::Wait;
 use std::thread::Threads;
@@ -38,91 +40,66 @@ pub(crate) fn run_lanes_crew<
     pass: &mut Pass,
     gate: &G,
     numbers: Numbers,
-    tools: LanesTools,
+    made: (Camera, NewLanes),
     ends: Ends<L, S, C>,
-) -> CrewDone<L, S, C>
+) -> (CameraDone<L, C>, Acquired<S, L, C>, ApplicationDone<C>)
     requires table { pass.old.table ≡ board_id board.now }
     requires first { pass.old.number ≡ 0 }
     requires childless { born (own pass.old) ≡ [] }
     requires some { 0 < numbers.lanes }
-    requires tools { AreNew numbers.seed numbers.lanes tools.camera tools.client tools.lanes tools.reader tools.parts.items tools.room.items (vec_capacity tools.room) tools.lines.items }
+    requires camera { made.0 ≡ live_camera numbers.seed }
+    requires lanes { AreNew numbers.lanes made.1.lanes made.1.reader made.1.parts.items made.1.room.items (vec_capacity made.1.room) }
     ensures table { pass.new.table ≡ pass.old.table }
     ensures hands { SameHands pass.old pass.new }
     ensures ran { RanLanes numbers.mode numbers.lanes (live_camera numbers.seed) (L.address ends.camera) (S.address ends.stream)
         (told_by L.received L.sent L.faults S.received S.sent S.faults C.told ends)
-        (told_by L.received L.sent L.faults S.received S.sent S.faults C.told result.ends)
-        numbers.frames numbers.turns result.outcome.served result.outcome.read result.outcome.taken result.outcome.lines.items pass.old pass.new }
+        (told_by L.received L.sent L.faults S.received S.sent S.faults C.told (ends_back result.0 result.1 result.2))
+        numbers.frames numbers.turns result.0.end result.1.end result.2.answer result.2.lines.items pass.old pass.new }
 {
-    let LanesTools {
-        camera: new_camera,
-        client,
-        lanes: queues,
-        reader: sides,
-        parts,
-        room,
-        lines,
-    } = tools;
-    pass.witness();
-    let lane_tools = split_lanes(board, pass, parts, room);
-    let mine = Acquirers {
-        reader: sides,
-        tools: lane_tools,
-        client,
-    };
-    let (watched, told, applied) = work_with_lanes(
-        rt,
-        alloc,
-        board,
-        pass,
-        &queues,
-        mine,
-        new_camera,
-        ends,
-        gate,
-        numbers.turns,
-        numbers.frames,
-        lines,
-        numbers.mode,
-    );
-    let CameraDone {
-        link: camera,
-        clock: camera_clock,
-        end: served,
-    } = watched;
-    let LanesDone {
-        client,
+    let Ends {
+        camera: link,
+        stream,
+        control,
+        camera_clock,
+        host_clock,
+        app_clock,
+    } = ends;
+    let peer = link.peer();
+    let own = stream.peer();
+    let host = Host {
         stream,
         control,
         clock: host_clock,
-        counts,
-        shed,
-        end: read,
-    } = told;
-    let ApplicationDone {
+        client: Client::new(),
+    };
+    let (camera, lanes) = made;
+    let NewLanes {
+        lanes,
+        reader,
+        parts,
+        room,
+    } = lanes;
+    pass.witness();
+    let tools = split_lanes(board, pass, parts, room);
+    let mine = LanesReader {
+        lanes,
+        reader,
+        tools,
+        host,
+        camera: peer,
+        own,
+        turns: numbers.turns,
+        mode: numbers.mode,
+    };
+    let side = CameraSide {
+        camera,
+        link,
+        clock: camera_clock,
+    };
+    let taker = ApplicationSide {
         clock: app_clock,
-        lines,
-        answer: taken,
-    } = applied;
-    CrewDone {
-        ends: Ends {
-            camera,
-            stream,
-            control,
-            camera_clock,
-            host_clock,
-            app_clock,
-        },
-        journal: Vec::new(alloc),
-        outcome: Outcome {
-            served,
-            read,
-            taken,
-            lines,
-            tally: Tally {
-                counts,
-                gone: client.gone(),
-                shed: Some(shed),
-            },
-        },
-    }
+        frames: numbers.frames,
+        lines: Vec::new(alloc),
+    };
+    work_with_lanes(rt, alloc, board, pass, gate, side, mine, taker)
 }

@@ -7,19 +7,17 @@
 
 mod counting; // what a run lost, as a line
 mod crew; // camera, application, and who acquires, as workers
-mod crew_done; // what the workers gave back
 mod ends; // the links and clocks of a run
 mod finishing; // the answer, and the lines that are written
-mod lane_parts; // what a lane begins with beside its pass
 mod lane_passes; // each lane gets a pass
-mod lanes_making; // what the workers work with, with lanes
+mod lanes_making; // what reader and lanes begin with
 mod lanes_reading; // a reader with lanes acquires
-mod lanes_running; // the workers, and what they gave back, with lanes
+mod lanes_running; // the workers of a run with lanes
 mod live; // a run over links and clocks that are handed in
 mod numbers; // what is asked of a run
 mod reading; // a reader acquires
-mod running; // the workers, and what they gave back
-mod tools; // what the workers work with
+mod running; // the workers of a run with one lane
+mod tools; // what the workers begin with
 
 pub use crew::{ApplicationSide, CameraSide, work_crew};
 pub use ends::Ends;

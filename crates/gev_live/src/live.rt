@@ -64,11 +64,10 @@ pub fn live_with_journal<
         (K.written sink.old) (K.written sink.new) (K.faults sink.old) (K.faults sink.new) pass.new.seen result.2.items }
 {
     match make_tools(alloc, numbers.seed, numbers.turns) {
-        Ok(tools) => match prepare(alloc, board, pass, BUFFER_SIZE, numbers.buffers) {
+        Ok(made) => match prepare(alloc, board, pass, BUFFER_SIZE, numbers.buffers) {
             Ok(()) => {
-                let done = run_crew(rt, alloc, board, pass, gate, numbers, tools, ends);
-                let status = end_run(alloc, sink, numbers, done.outcome);
-                (status, done.ends, done.journal)
+                let done = run_crew(rt, alloc, board, pass, gate, numbers, made, ends);
+                end_run(alloc, sink, numbers, done)
             }
             Err(_) => (Status::NoMemory, ends, Vec::new(alloc)),
         },
@@ -109,11 +108,11 @@ fn live_with_lanes<
         (K.written sink.old) (K.written sink.new) (K.faults sink.old) (K.faults sink.new) pass.new.seen }
 {
     match make_lanes_tools(alloc, numbers.seed, numbers.lanes) {
-        Ok(tools) => match prepare(alloc, board, pass, BUFFER_SIZE, numbers.buffers) {
+        Ok(made) => match prepare(alloc, board, pass, BUFFER_SIZE, numbers.buffers) {
             Ok(()) => {
-                let done = run_lanes_crew(rt, alloc, board, pass, gate, numbers, tools, ends);
-                let status = end_run(alloc, sink, numbers, done.outcome);
-                (status, done.ends)
+                let done = run_lanes_crew(rt, alloc, board, pass, gate, numbers, made, ends);
+                let (status, ends, _journal) = end_run(alloc, sink, numbers, done);
+                (status, ends)
             }
             Err(_) => (Status::NoMemory, ends),
         },

@@ -1,20 +1,21 @@
-//! The workers of a run, and what they gave back.
+//! The workers of a run.
 
 ghost use Rattle.std.specs.Prelude.{◌≡◌, [], vec_capacity};
 ghost use Rattle.board_machine.specs.Actors.{born};
 ghost use Rattle.buffer_words.specs.Boards.{board_id};
 ghost use Rattle.buffer_words.specs.Passes.{SameHands, own};
-ghost use Rattle.gev_live.specs.Told.{live_config, live_camera, told_by, AreNew};
+ghost use Rattle.gev_live.specs.Told.{live_config, live_camera, told_by, ends_back, AreNew};
 ghost use Rattle.gev_live.specs.Ran.{RanCrew};
 
-use crate::counting::Tally;
-use crate::crew_done::{CrewDone, Outcome};
+use crate::crew::{ApplicationSide, CameraSide};
 use crate::ends::Ends;
 use crate::numbers::Numbers;
 use crate::reading::work_with_reader;
-use crate::tools::Tools;
+use acq_core::Acq;
 use buffer_words::{Board, Pass};
-use gev_acq::ReadDone;
+use camera_sim::Camera;
+use control_client::Client;
+use gev_acq::{Acquired, Host, Reader, Turn};
 use gev_apply::ApplicationDone;
 use gev_links::{Clock, Gate, Link};
 use gev_serve::CameraDone;
@@ -36,71 +37,55 @@ pub(crate) fn run_crew<
     pass: &mut Pass,
     gate: &G,
     numbers: Numbers,
-    tools: Tools,
+    made: (Camera, Acq, Vec<Turn>),
     ends: Ends<L, S, C>,
-) -> CrewDone<L, S, C>
+) -> (CameraDone<L, C>, Acquired<S, L, C>, ApplicationDone<C>)
     requires table { pass.old.table ≡ board_id board.now }
     requires first { pass.old.number ≡ 0 }
     requires childless { born (own pass.old) ≡ [] }
-    requires tools { AreNew numbers.seed numbers.turns tools.camera tools.acq tools.client tools.journal.items (vec_capacity tools.journal) tools.lines.items }
+    requires made { AreNew numbers.seed numbers.turns made.0 made.1 made.2.items (vec_capacity made.2) }
     ensures table { pass.new.table ≡ pass.old.table }
     ensures hands { SameHands pass.old pass.new }
     ensures ran { (ran : RanCrew numbers.mode live_config (live_camera numbers.seed) (L.address ends.camera) (S.address ends.stream)
         (told_by L.received L.sent L.faults S.received S.sent S.faults C.told ends)
-        (told_by L.received L.sent L.faults S.received S.sent S.faults C.told result.ends)
-        numbers.frames numbers.turns result.outcome.served result.outcome.read result.outcome.taken result.outcome.lines.items pass.old pass.new) × (ran.journal ≡ result.journal.items) }
+        (told_by L.received L.sent L.faults S.received S.sent S.faults C.told (ends_back result.0 result.1 result.2))
+        numbers.frames numbers.turns result.0.end result.1.end result.2.answer result.2.lines.items pass.old pass.new) × (ran.journal ≡ result.1.journal.items) }
 {
-    let (watched, told, applied) = work_with_reader(
-        rt,
-        alloc,
-        board,
-        pass,
-        tools,
-        ends,
-        gate,
-        numbers.turns,
-        numbers.frames,
-        numbers.mode,
-    );
-    let CameraDone {
-        link: camera,
-        clock: camera_clock,
-        end: served,
-    } = watched;
-    let ReadDone {
-        client,
+    let Ends {
+        camera: link,
+        stream,
+        control,
+        camera_clock,
+        host_clock,
+        app_clock,
+    } = ends;
+    let peer = link.peer();
+    let own = stream.peer();
+    let host = Host {
         stream,
         control,
         clock: host_clock,
+        client: Client::new(),
+    };
+    let (camera, acq, journal) = made;
+    let reader = Reader {
+        acq,
+        host,
+        camera: peer,
+        own,
         journal,
-        counts,
-        end: read,
-    } = told;
-    let ApplicationDone {
+        turns: numbers.turns,
+        mode: numbers.mode,
+    };
+    let side = CameraSide {
+        camera,
+        link,
+        clock: camera_clock,
+    };
+    let taker = ApplicationSide {
         clock: app_clock,
-        lines,
-        answer: taken,
-    } = applied;
-    CrewDone {
-        ends: Ends {
-            camera,
-            stream,
-            control,
-            camera_clock,
-            host_clock,
-            app_clock,
-        },
-        journal,
-        outcome: Outcome {
-            served,
-            read,
-            taken,
-            lines,
-            tally: Tally {
-                counts,
-                gone: client.gone(),
-                shed: None,
-            },
-        },
-    }
+        frames: numbers.frames,
+        lines: Vec::new(alloc),
+    };
+    work_with_reader(rt, alloc, board, pass, gate, side, reader, taker)
 }

@@ -7,7 +7,7 @@ use Rattle.gev_live.proofs.lane_passes.+split_lanes.Goals as goal
 
 pub returns-in-Some-clause-split : goal.returns-in-Some-clause-split
 returns-in-Some-clause-split t c =
-    let x : LaneTools = record { pass = c.split-lane_pass.result; ends = c.in-Some.last.ends; acq = c.in-Some.last.acq } in
+    let x : LaneTools = record { pass = c.split-lane_pass.result; ends = c.in-Some.last.0; acq = c.in-Some.last.1 } in
     subst (λ l. AreSplit (board_id c.args.board.now) c.args.parts.items c.args.pass.now l c.split-lane_pass.new.pass) (sym c.push_reserved.ensures.items)
     (subst (λ l. AreSplit (board_id c.args.board.now) l c.args.pass.now (c.split_lanes-tools.result.items ++ x ∷ []) c.split-lane_pass.new.pass) (sym c.in-Some.ensures.items)
     (split_last (board_id c.args.board.now) c.pop.new.self.items c.args.pass.now c.split_lanes-tools.result.items c.split_lanes-tools.new.pass c.in-Some.last x c.split-lane_pass.new.pass

@@ -1,7 +1,6 @@
 use Rattle.std.proofs.Common.{rules, [], ◌∷◌, ◌++◌, sym, ap, subst, ◌∙◌}
 use Rattle.gev_lanes.specs.Sides.{AreLanesOf}
-use Rattle.gev_live.specs.declared.lane_parts.LaneParts.{LaneParts}
-use Rattle.gev_live.specs.LanesMade.{AreNewParts, ends_of}
+use Rattle.gev_live.specs.LanesMade.{NewPart, AreNewParts, ends_of}
 use Rattle.gev_live.proofs.Lasts.{lanes_last, parts_last, ends_last}
 use Rattle.gev_live.proofs.lanes_making.+make_parts.Goals as goal
 
@@ -13,7 +12,7 @@ make_parts-requires t c = (
 
 pub returns-in_ok-push-in-Some-clause-new : goal.returns-in_ok-push-in-Some-clause-new
 returns-in_ok-push-in-Some-clause-new t c =
-    let p : LaneParts = record { ends = c.in-Some.last; acq = c.in_ok-acq-in-Some.acq } in
+    let p : NewPart = (c.in-Some.last, c.in_ok-acq-in-Some.acq) in
     subst (AreNewParts c.args.lanes.now) (sym c.in_ok-push-in-Some.ensures.items)
     (parts_last c.args.lanes.now c.in_ok-parts-in-Some.parts.items p c.in_ok-parts-in-Some.ensures.new
     (record {
@@ -23,7 +22,7 @@ returns-in_ok-push-in-Some-clause-new t c =
 
 pub returns-in_ok-push-in-Some-clause-ends : goal.returns-in_ok-push-in-Some-clause-ends
 returns-in_ok-push-in-Some-clause-ends t c =
-    let p : LaneParts = record { ends = c.in-Some.last; acq = c.in_ok-acq-in-Some.acq } in
+    let p : NewPart = (c.in-Some.last, c.in_ok-acq-in-Some.acq) in
     ap ends_of c.in_ok-push-in-Some.ensures.items
     ∙ (ends_last c.in_ok-parts-in-Some.parts.items p
     ∙ (ap (λ l. l ++ c.in-Some.last ∷ []) c.in_ok-parts-in-Some.ensures.ends ∙ sym c.in-Some.ensures.items))
