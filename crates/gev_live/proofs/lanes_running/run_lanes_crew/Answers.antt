@@ -3,7 +3,7 @@ use Rattle.buffer_words.proofs.Hands.{hands_then}
 use Rattle.gev_lanes.specs.Sides.{LaneEnd, AreNew}
 use Rattle.gev_live.proofs.Taking.{serves_new, applies_new}
 use Rattle.gev_live.proofs.Splits.{splits_each, ends_same, as_many, are_ready, are_live, new_count, ends_count}
-use Rattle.gev_live.proofs.LanesTaking.{reads_at}
+use Rattle.gev_live.proofs.LanesTaking.{lanes_new}
 use Rattle.gev_live.proofs.lanes_running.run_lanes_crew.Goals as goal
 
 pub work_with_lanes-requires-clause-new : goal.work_with_lanes-requires-clause-new
@@ -52,10 +52,10 @@ returns-clause-ran g c =
       sides = c.args.made.1.reader;
       sides_new = subst (λ (l : List LaneEnd). AreNew 0 c.args.made.1.lanes c.args.made.1.reader l) (sym (ends_same _ _ _ _ _ c.split_lanes-tools.ensures.split)) c.requires.lanes.new;
       reader_works = r.did_second.1;
-      reads = reads_at _ _ _ _ _ _ _ _ _ _ _ _ _ c.peer.ensures c.peer-own.ensures r.did_second.0;
+      reads = lanes_new _ _ _ _ _ _ _ _ _ _ _ _ _ _ _ _ _ _ c.peer.ensures c.peer-own.ensures c.new.ensures.new r.did_second.0;
       faults = r.did_second.2;
       application_works = r.did_third.1;
-      applies = applies_new _ _ _ _ _ _ _ _ _ c.new.ensures.items r.did_third.0;
+      applies = applies_new _ _ _ _ _ _ _ _ _ c.new-2.ensures.items r.did_third.0;
       owned = r.owned;
       legal = r.legal;
     }

@@ -32,10 +32,10 @@ returns-clause-ran g c =
         client = c.work_with_reader.result.1.host.client;
         journal = c.work_with_reader.result.1.journal.items;
         reader_works = r.did_second.1;
-        reads = reads_new _ _ _ _ _ _ _ _ _ _ _ _ _ _ _ _ c.requires.made.receiver_new.config c.peer.ensures c.peer-own.ensures c.requires.made.unwritten r.did_second.0;
+        reads = reads_new _ _ _ _ _ _ _ _ _ _ _ _ _ _ _ _ _ _ _ _ _ c.requires.made.receiver_new.config c.peer.ensures c.peer-own.ensures c.new.ensures.new c.requires.made.unwritten r.did_second.0;
         faults = r.did_second.2;
         application_works = r.did_third.1;
-        applies = applies_new _ _ _ _ _ _ _ _ _ c.new.ensures.items r.did_third.0;
+        applies = applies_new _ _ _ _ _ _ _ _ _ c.new-2.ensures.items r.did_third.0;
         owned = r.owned;
         legal = r.legal;
       },
