@@ -11,14 +11,12 @@ ghost use Rattle.live_crew.specs.Crews.{ComesBack};
 ghost use Rattle.gev_control.specs.Ends.{is_fault_end};
 ghost use Rattle.gev_acq.specs.Buffers.{Backs, HoldsAlone};
 ghost use Rattle.gev_acq.specs.Reading.{FaultsOf};
-ghost use Rattle.gev_acq.specs.Hosts.{outside_of};
 ghost use Rattle.gev_acq.specs.Kinds.{is_readers};
 ghost use Rattle.gev_acq.specs.Reads.{ReadsTurns, Reads};
 
-use crate::acquired::Acquired;
 use crate::acquiring::acquire;
 use crate::draining::drain;
-use crate::host::Host;
+use crate::read_done::ReadDone;
 use crate::turn::Turn;
 use acq_core::Acq;
 use buffer_words::{Board, Pass};
@@ -78,63 +76,41 @@ fn read_turns<R: Wait, S: Link, M: Link, C: Clock, G: Gate>(
     }
 }
 
-/// The reader of a run, by what it works with.
-#[derive(Drop)]
-pub struct Reader<S, M, C> {
-    /// The receiver of the stream.
-    pub acq: Acq,
-    /// The links, the clock and the client.
-    pub host: Host<S, M, C>,
-    /// The camera.
-    pub camera: Peer,
-    /// Where the camera is to send its stream.
-    pub own: Peer,
-    /// Where the turns are noted.
-    pub journal: Vec<Turn>,
-    /// The most turns.
-    pub turns: u64,
-    /// What a new block does with buffers that wait for the application.
-    pub mode: Mode,
-}
-
-/// The reader of a live run: sets its camera up to send the stream to it, makes at most the asked number of turns where
-/// that was done, and in every case stops the receiver, fills what retires, and stops the acquisition.
+/// The reader of a live run, with what it works on by value: sets the camera at the peer `camera` up to send its
+/// stream to `own`, makes at most `turns` turns where that was done, and in every case stops the receiver, fills
+/// what retires, and stops the acquisition.
 pub fn read<R: Wait, S: Link, M: Link, C: Clock, G: Gate>(
     rt: &R,
     board: &Board,
     mut pass: Pass,
+    mut acq: Acq,
+    mut client: Client,
+    mut stream: S,
+    mut control: M,
+    mut clock: C,
     gate: &G,
-    reader: Reader<S, M, C>,
-) -> Worked<Acquired<S, M, C>>
+    camera: Peer,
+    own: Peer,
+    mut journal: Vec<Turn>,
+    turns: u64,
+    mode: Mode,
+) -> Worked<ReadDone<S, M, C>>
     requires table { pass.table ≡ board_id board.now }
     requires hands { IsEmptyHanded pass }
-    requires new { Stands reader.acq [] }
-    requires client { HasSubmittedNone reader.host.client }
-    requires fills { waiting_fills reader.acq ≡ [] }
-    requires requests { waiting_requests reader.acq ≡ [] }
-    requires buffers { buffers reader.acq ≡ [] }
-    requires room { vec_len reader.journal + reader.turns ≤ vec_capacity reader.journal }
-    ensures reads { Reads reader.mode (config_of reader.acq) reader.camera reader.own (outside_of S.received M.received M.sent C.told reader.host)
-        (outside_of S.received M.received M.sent C.told result.done.host) reader.journal.items result.done.journal.items reader.turns result.done.end pass result.pass }
-    ensures works { Works (is_readers reader.mode) pass result.pass }
+    requires new { Stands acq [] }
+    requires client { HasSubmittedNone client }
+    requires fills { waiting_fills acq ≡ [] }
+    requires requests { waiting_requests acq ≡ [] }
+    requires buffers { buffers acq ≡ [] }
+    requires room { vec_len journal + turns ≤ vec_capacity journal }
+    ensures reads { Reads mode (config_of acq) camera own
+        (record { received = S.received stream; heard = M.received control; sent = M.sent control; told = C.told clock; client = client })
+        (record { received = S.received result.done.stream; heard = M.received result.done.control; sent = M.sent result.done.control; told = C.told result.done.clock; client = result.done.client })
+        journal.items result.done.journal.items turns result.done.end pass result.pass }
+    ensures works { Works (is_readers mode) pass result.pass }
     ensures back { ComesBack pass result.pass }
-    ensures faults { FaultsOf (is_fault_end result.done.end) (S.faults reader.host.stream) (S.faults result.done.host.stream) (M.faults reader.host.control) (M.faults result.done.host.control) }
+    ensures faults { FaultsOf (is_fault_end result.done.end) (S.faults stream) (S.faults result.done.stream) (M.faults control) (M.faults result.done.control) }
 {
-    let Reader {
-        mut acq,
-        host,
-        camera,
-        own,
-        mut journal,
-        turns,
-        mode,
-    } = reader;
-    let Host {
-        mut stream,
-        mut control,
-        mut clock,
-        mut client,
-    } = host;
     let end = read_turns(
         rt,
         board,
@@ -155,16 +131,13 @@ pub fn read<R: Wait, S: Link, M: Link, C: Clock, G: Gate>(
     let _stopped = board.stop(&mut pass, false);
     Worked {
         pass,
-        done: Acquired {
-            host: Host {
-                stream,
-                control,
-                clock,
-                client,
-            },
+        done: ReadDone {
+            client,
+            stream,
+            control,
+            clock,
             journal,
             counts: acq.counts(),
-            shed: None,
             end,
         },
     }

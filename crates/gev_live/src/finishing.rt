@@ -8,7 +8,7 @@ ghost use Rattle.gev_live.specs.Endings.{taken_of, read_status, application_stat
 use crate::counting::{Tally, tell_counts};
 use crate::ends::Ends;
 use crate::numbers::Numbers;
-use gev_acq::{Acquired, Turn};
+use gev_acq::Turn;
 use gev_apply::ApplicationDone;
 use gev_control::AcqEnd;
 use gev_links::{Sink, write_all};
@@ -16,6 +16,7 @@ use gev_report::line_live;
 use gev_serve::{CameraDone, ServeEnd};
 use gev_status::Status;
 use gev_types::NoMemory;
+use lane_crew::Acquired;
 use std::alloc::Global;
 
 // The answer by the reader's end, where no link failed and memory was there.
@@ -218,14 +219,28 @@ pub(crate) fn end_run<L, S, C, K: Sink>(
         shed,
         end,
     } = acquired;
-    let first = status_by(served.end, end, numbers.frames, numbers.turns, &applied.answer);
+    let first = status_by(
+        served.end,
+        end,
+        numbers.frames,
+        numbers.turns,
+        &applied.answer,
+    );
     let taken = taken_of(&applied.answer);
     let tally = Tally {
         counts,
         gone: host.client.gone(),
         shed,
     };
-    let status = finish(alloc, sink, first, applied.lines, numbers.frames, taken, tally);
+    let status = finish(
+        alloc,
+        sink,
+        first,
+        applied.lines,
+        numbers.frames,
+        taken,
+        tally,
+    );
     let ends = Ends {
         camera: served.link,
         stream: host.stream,
