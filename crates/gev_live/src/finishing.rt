@@ -16,7 +16,7 @@ use gev_report::line_live;
 use gev_serve::{CameraDone, ServeEnd};
 use gev_status::Status;
 use gev_types::NoMemory;
-use lane_crew::Acquired;
+use lane_crew::{Acquired, Host};
 use std::alloc::Global;
 
 // The answer by the reader's end, where no link failed and memory was there.
@@ -211,43 +211,45 @@ pub(crate) fn end_run<L, S, C, K: Sink>(
     ensures back { result.1 ≡ ends_back done.0 done.1 done.2 }
     ensures journal { result.2 ≡ done.1.journal }
 {
-    let (served, acquired, applied) = done;
+    let (watched, acquired, applied) = done;
+    let CameraDone {
+        link: camera,
+        clock: camera_clock,
+        end: served,
+    } = watched;
     let Acquired {
         host,
         journal,
         counts,
         shed,
-        end,
+        end: read,
     } = acquired;
-    let first = status_by(
-        served.end,
-        end,
-        numbers.frames,
-        numbers.turns,
-        &applied.answer,
-    );
-    let taken = taken_of(&applied.answer);
+    let Host {
+        stream,
+        control,
+        clock: host_clock,
+        client,
+    } = host;
+    let ApplicationDone {
+        clock: app_clock,
+        lines,
+        answer,
+    } = applied;
+    let first = status_by(served, read, numbers.frames, numbers.turns, &answer);
+    let taken = taken_of(&answer);
     let tally = Tally {
         counts,
-        gone: host.client.gone(),
+        gone: client.gone(),
         shed,
     };
-    let status = finish(
-        alloc,
-        sink,
-        first,
-        applied.lines,
-        numbers.frames,
-        taken,
-        tally,
-    );
+    let status = finish(alloc, sink, first, lines, numbers.frames, taken, tally);
     let ends = Ends {
-        camera: served.link,
-        stream: host.stream,
-        control: host.control,
-        camera_clock: served.clock,
-        host_clock: host.clock,
-        app_clock: applied.clock,
+        camera,
+        stream,
+        control,
+        camera_clock,
+        host_clock,
+        app_clock,
     };
     (status, ends, journal)
 }

@@ -4,6 +4,7 @@ use gev_acq::Turn;
 use gev_control::AcqEnd;
 
 /// What the worker that acquires gives back beside its pass.
+#[derive(Drop)]
 pub struct Acquired<S, M, C> {
     /// Its links, its clock and its client.
     pub host: Host<S, M, C>,
