@@ -241,6 +241,12 @@ ran_lanes n lanes camera stream answer o e served read taken lines written writt
     own_camera : own_of r.a.number u.seen ≡ own r.worked_a
     own_camera = own_a n lanes camera stream o e served read taken lines s u r
 
+-- the same, by what is the same
+pub lanes_as : (n : Numbers) (lanes : ℕ) (camera stream : Address) (answer : Status) (o e f : Told) (written written_after : Option (List ℕ)) (faults faults_after : ℕ) (h : List Entry) → f ≡ e
+    → LanesRun n lanes camera stream answer o e written written_after faults faults_after h → LanesRun n lanes camera stream answer o f written written_after faults faults_after h
+lanes_as n lanes camera stream answer o e f written written_after faults faults_after h is run =
+    subst (λ (x : Told). LanesRun n lanes camera stream answer o x written written_after faults faults_after h) (sym is) run
+
 pub lanes_alone : (n : Numbers) (lanes : ℕ) (camera stream : Address) (answer : Status) (o e : Told) (written written_after : Option (List ℕ)) (faults faults_after : ℕ) (h : List Entry)
     → RunsLanes n lanes camera stream answer o e written written_after faults faults_after h → IsAlone (After h) 0
 lanes_alone n lanes camera stream answer o e written written_after faults faults_after h (inl run) = run.history.alone

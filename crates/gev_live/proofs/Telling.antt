@@ -173,6 +173,13 @@ ran_with_journal n camera stream answer o e served read taken lines written writ
   journal_is = is;
 }
 
+-- the same, by what is the same
+pub noted_as : (n : Numbers) (camera stream : Address) (answer : Status) (o e f : Told) (written written_after : Option (List ℕ)) (faults faults_after : ℕ) (h : List Entry) (journal kept : List Turn) → f ≡ e → kept ≡ journal
+    → JournaledRun n camera stream answer o e written written_after faults faults_after h journal → JournaledRun n camera stream answer o f written written_after faults faults_after h kept
+noted_as n camera stream answer o e f written written_after faults faults_after h journal kept is same run =
+    subst (λ (l : List Turn). JournaledRun n camera stream answer o f written written_after faults faults_after h l) (sym same)
+    (subst (λ (x : Told). JournaledRun n camera stream answer o x written written_after faults faults_after h journal) (sym is) run)
+
 pub ends_as : (first second status : Status) (lines : List ℕ) (frames taken count : ℕ) (written written_after : Option (List ℕ)) (faults faults_after : ℕ) → first ≡ second → taken ≡ count
     → EndsSo first status (lines ++ live_line frames taken) written written_after faults faults_after → EndsSo second status (lines ++ live_line frames count) written written_after faults faults_after
 ends_as first second status lines frames taken count written written_after faults faults_after e f ends =

@@ -209,7 +209,7 @@ pub(crate) fn end_run<L, S, C, K: Sink>(
     ensures ends { EndsSo (status_by done.0.end done.1.end numbers.frames numbers.turns done.2.answer) result.0 (done.2.lines.items ++ live_line numbers.frames (taken_of done.2.answer))
         (K.written sink.old) (K.written sink.new) (K.faults sink.old) (K.faults sink.new) }
     ensures back { result.1 ≡ ends_back done.0 done.1 done.2 }
-    ensures journal { result.2 ≡ done.1.journal }
+    ensures journal { result.2.items ≡ done.1.journal.items }
 {
     let (watched, acquired, applied) = done;
     let CameraDone {
