@@ -1,5 +1,5 @@
 -- A live run with lanes, by what its workers and lanes promised.
-use Rattle.std.proofs.Common.{◌≡◌, inl, inr, ℕ, false, List, [], ◌∷◌, ◌++◌, Option, Result, refl, sym, ap, subst, ◌∙◌, append_assoc, arith, ◌≤◌, length}
+use Rattle.std.proofs.Common.{◌≡◌, inl, inr, ℕ, false, List, [], ◌∷◌, ◌++◌, Option, Result, refl, sym, ap, subst, ◌∙◌, append_assoc, arith, length}
 use Rattle.std.proofs.lemmas.List.{append-nil, append_cancel_left}
 use Rattle.gev_types.specs.declared.memory.NoMemory as memory
 use Rattle.board_machine.specs.declared.events.Entry.{Entry}

@@ -9,6 +9,7 @@ use Rattle.gev_serve.specs.declared.ends.ServeEnd.{ServeEnd}
 use Rattle.gev_control.specs.declared.acq_end.AcqEnd.{AcqEnd}
 use Rattle.gev_status.specs.declared.status.Status.{Status}
 use Rattle.gev_status.specs.declared.status.Status.TheVariants as status
+use Rattle.gev_live.specs.declared.numbers.Numbers.{Numbers}
 use Rattle.gev_live.specs.Told.{Told, live_config, live_camera}
 use Rattle.gev_live.specs.Endings.{taken_of, status_by, is_told, EndsSo}
 use Rattle.gev_live.specs.Parts.{LiveCamera, LiveServes, LiveApplication}

@@ -1,4 +1,5 @@
 use Rattle.std.proofs.Common.{ap, inl, inr}
+use Rattle.buffer_words.proofs.Hands.{hands_then}
 use Rattle.gev_live.specs.Told.{told_by}
 use Rattle.gev_live.proofs.Telling.{ran_with_journal, noted_as, never_begun}
 use Rattle.gev_live.proofs.live.live_with_journal.Goals as goal
@@ -11,3 +12,6 @@ returns-in-Ok-prepare-clause-live g c =
 
 pub returns-in-Err-clause-live : goal.returns-in-Err-clause-live
 returns-in-Err-clause-live g c = inr (never_begun c.args.numbers _ _ _ _ c.requires.some_buffers c.requires.unseen, c.new-in-Err.ensures.items)
+
+pub returns-in-Ok-prepare-clause-hands : goal.returns-in-Ok-prepare-clause-hands
+returns-in-Ok-prepare-clause-hands g c = hands_then c.args.pass.now c.prepare.new.pass c.run_crew-done.new.pass c.prepare.ensures.hands c.run_crew-done.ensures.hands
