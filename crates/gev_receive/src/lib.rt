@@ -15,6 +15,7 @@ mod ran; // how the part between went
 mod reading; // the reader's worker
 mod receiving; // a run over ports
 mod starting; // what a stream is received with
+mod tools; // what ports give and get back
 mod writes; // the writes of each stage
 
 pub use receiving::receive_over;
