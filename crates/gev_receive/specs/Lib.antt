@@ -2,6 +2,5 @@ pub mod Answers
 pub mod Starting
 pub mod Ending
 pub mod Reader
-pub mod Forms
 pub mod Frames
 pub mod Receives

@@ -12,13 +12,13 @@ use crate::answers::{handed_status, reader_status, weightier};
 use crate::crew::{Crew, work_two};
 use crate::host::Host;
 use crate::ran::Ran;
-use crate::reading::{ReadDone, ReaderWords};
+use crate::reading::ReadDone;
 use crate::starting::{buffer_size, config_of, leader_counts, mode_of, with_counts};
 use crate::threads::has_thread;
 use acq_core::Acq;
 use acquisition_machine::Counts;
 use buffer_words::{Board, Pass};
-use camera_reader::ReaderEnd;
+use camera_reader::{ReaderEnd, ReaderWords};
 use camera_words::Settings;
 use first_leader::FirstLeader;
 use frame_writing::{FramesDone, HandedOut, Outlet};
@@ -125,6 +125,7 @@ pub(crate) fn run_frames<
     }
     let words = ReaderWords {
         camera,
+        ids: leader.ids,
         silence: u64::from(settings.silence),
         mode: mode_of(settings.mode),
     };

@@ -3,7 +3,6 @@
 #![tactic(auto)]
 
 mod answers; // how a run ends, of several causes
-mod asking; // a control link on which packets are asked for again
 mod crew; // reader and application as threads
 mod drops; // datagrams that the system dropped
 mod ending; // the last line
