@@ -2,3 +2,9 @@ pub mod ReaderWork
 pub mod RanAll
 pub mod Leaving
 pub mod Last
+pub mod Alone
+pub mod Standing
+pub mod Bound
+pub mod MeetingLaws
+pub mod Over
+pub mod Drops

@@ -1,6 +1,9 @@
 //! The frames of a stream by the form of its identifiers.
 
-ghost use Rattle.std.specs.Prelude.{◌≡◌, option_map};
+ghost use Rattle.std.specs.Prelude.{◌≡◌, None, option_map, IfSome};
+ghost use Rattle.board_machine.specs.Histories.{After};
+ghost use Rattle.board_machine.specs.Laws.{IsAlone};
+ghost use Rattle.buffer_words.specs.Boards.{board_id};
 ghost use Rattle.gev_receive.specs.Frames.{RunsAs, seen_by};
 ghost use Rattle.camera_words.specs.Receiving.{IsInRange};
 
@@ -38,6 +41,9 @@ pub(crate) fn run_by_ids<
     requires frames { outlet.frames ≡ asked.settings.now.frames }
     requires output { outlet.output ≡ asked.settings.now.output }
     requires watch { outlet.watch.on ≡ asked.settings.now.until_input_ends }
+    requires unkept { kept.old ≡ None }
+    ensures alone { IfSome kept.new (λ k. IsAlone (After k.1.seen) 0) }
+    ensures own { IfSome kept.new (λ k. k.1.table ≡ board_id k.0) }
     ensures runs { RunsAs asked.entry.leader.ids asked.entry.settings.now asked.entry.camera asked.entry.leader asked.entry.resends
         (record { received = S.received host.stream; heard = M.received host.control; sent = M.sent host.control; told = C.told host.clock; client = host.client })
         (record { received = S.received result.1.stream; heard = M.received result.1.control; sent = M.sent result.1.control; told = C.told result.1.clock; client = result.1.client })

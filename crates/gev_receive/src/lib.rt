@@ -17,6 +17,7 @@ mod reading; // the reader's worker
 mod receiving; // a run over ports
 mod starting; // what a stream is received with
 mod threads; // whether a thread can be made
+mod tools; // what ports give and get back
 mod writes; // the writes of each stage
 
 pub use receiving::receive_over;
