@@ -3,6 +3,7 @@ ghost use Rattle.gev_links.specs.Faults.{Rose};
 ghost use Rattle.gev_links.specs.Given.{one_more, ToldOfThree};
 ghost use Rattle.gev_links.specs.Links.{Address, IsBlank};
 
+use crate::drops::Drops;
 use gev_links::{Failed, Ports};
 use gev_types::Peer;
 
@@ -59,4 +60,9 @@ pub trait FarPorts: Ports {
         ensures no_fault { IfOk result (λ _. Self.faults self.new ≡ Self.faults self.old) }
         ensures failed { OnErr result (Rose (Self.faults self.old) (Self.faults self.new)) }
         ensures never_falls { Self.faults self.old ≤ Self.faults self.new };
+
+    /// What the system dropped of this link's datagrams so far, where it tells. Nothing is promised of it.
+    fn drops(&self, _link: &Self::L) -> Option<Drops> {
+        None
+    }
 }

@@ -4,9 +4,11 @@
 //! Both stand beside `Link` and `Ports` of `gev_links`. `MemoryLink` and `MemoryPorts` are their forms in memory.
 #![tactic(auto)]
 
+mod drops; // what the system dropped
 mod far_ports; // `FarPorts`
 mod memory; // the forms in memory
 mod peek_link; // `PeekLink`
 
+pub use drops::Drops;
 pub use far_ports::FarPorts;
 pub use peek_link::PeekLink;

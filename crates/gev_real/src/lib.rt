@@ -5,6 +5,7 @@
 
 mod monotonic_clock; // the system's clock
 mod real_ports; // where links and clocks come from
+mod socket_table; // the system's table of sockets
 mod standard_input; // standard input as a source
 mod standard_output; // standard output as a sink
 mod udp_link; // a UDP socket

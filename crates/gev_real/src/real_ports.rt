@@ -3,10 +3,12 @@ ghost use Rattle.gev_links.specs.Faults.{Rose};
 ghost use Rattle.gev_links.specs.Given.{one_more};
 
 use crate::monotonic_clock::MonotonicClock;
+use crate::socket_table::drops_at;
 use crate::udp_link::{LOCALHOST, UdpLink, own_towards};
-use gev_far::FarPorts;
+use gev_far::{Drops, FarPorts};
 use gev_links::{Failed, Link, Ports};
 use gev_types::Peer;
+use std::fs::Files;
 use std::io;
 use std::net::Net;
 use std::time::Clock as Time;
@@ -25,13 +27,13 @@ const WAITING_LINKS: u64 = 2;
 /// let mut clock = ports.clock();
 /// ```
 #[derive(Drop)]
-pub struct RealPorts<'a, R: Net + Time + Sync> {
+pub struct RealPorts<'a, R: Net + Time + Files + Sync> {
     rt: &'a R,
     binds: u64,
     faults: u64,
 }
 
-impl<'a, R: Net + Time + Sync> RealPorts<'a, R> {
+impl<'a, R: Net + Time + Files + Sync> RealPorts<'a, R> {
     /// Ports that have bound nothing yet.
     pub fn new(rt: &'a R) -> RealPorts<'a, R>
         ensures binds { result.binds ≡ 0 }
@@ -94,7 +96,7 @@ fn open_towards<N: Net>(net: &N, peer: Peer) -> io::Result<UdpLink>
     UdpLink::open(net, own, true)
 }
 
-impl<'a, R: Net + Time + Sync> Ports for RealPorts<'a, R> {
+impl<'a, R: Net + Time + Files + Sync> Ports for RealPorts<'a, R> {
     type L = UdpLink;
 
     type C = MonotonicClock<'a, R>;
@@ -128,7 +130,7 @@ impl<'a, R: Net + Time + Sync> Ports for RealPorts<'a, R> {
     fn unclock(&mut self, _clock: MonotonicClock<'a, R>) {}
 }
 
-impl<'a, R: Net + Time + Sync> FarPorts for RealPorts<'a, R> {
+impl<'a, R: Net + Time + Files + Sync> FarPorts for RealPorts<'a, R> {
     ghost stands_at = { λ asked bound. bound ≡ asked };
 
     fn bind_towards(&mut self, peer: Peer) -> Result<(UdpLink, Peer), Failed> {
@@ -144,5 +146,13 @@ impl<'a, R: Net + Time + Sync> FarPorts for RealPorts<'a, R> {
     fn bind_broadcasting(&mut self) -> Result<(UdpLink, Peer), Failed> {
         let opened = UdpLink::open_broadcasting(self.rt);
         count_bind(&mut self.binds, &mut self.faults, opened)
+    }
+
+    fn drops(&self, link: &UdpLink) -> Option<Drops> {
+        let datagrams = drops_at(self.rt, link.peer())?;
+        Some(Drops {
+            datagrams,
+            socket_bytes: link.room(),
+        })
     }
 }

@@ -95,6 +95,26 @@ fn ask_room_of(socket: &UdpSocket, room: u32) {
     };
 }
 
+/// How much room the system gave, in bytes, with what it keeps beside the datagrams; 0 where it doesn't tell.
+fn room_of(socket: &UdpSocket) -> u64 {
+    let mut value = [0; 16];
+    let mut len = 4;
+    let status = unsafe {
+        libc::net::getsockopt(
+            socket.as_raw_fd(),
+            libc::net::SOL_SOCKET,
+            libc::net::SO_RCVBUF,
+            &mut value,
+            &mut len,
+        )
+    };
+    if status != 0 {
+        return 0;
+    }
+    let [a, b, c, d, ..] = value;
+    u64::from(u32::from_ne_bytes([a, b, c, d]))
+}
+
 /// Waits until a datagram is there, for at most the receive limit. The socket's own read timeout comes out
 /// longer: the system rounds it up to its clock ticks.
 fn wait(socket: &UdpSocket) {
@@ -189,6 +209,12 @@ impl UdpLink {
     /// much as it allows, mostly by `net.core.rmem_max`, and doesn't tell when that is less.
     pub fn ask_room(&self, bytes: u32) {
         ask_room_of(&self.socket, bytes);
+    }
+
+    /// How many bytes of room the system gave for datagrams that wait, with what it keeps beside them; 0 where it
+    /// doesn't tell.
+    pub fn room(&self) -> u64 {
+        room_of(&self.socket)
     }
 
     /// Receives into a slice of any length, or looks; where nothing is there, waits and does so once more.

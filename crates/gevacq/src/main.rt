@@ -8,6 +8,7 @@ use gev_call::gevacq_top;
 use gev_links::FillBell;
 use gev_real::{RealPorts, StandardInput, StandardOutput};
 use gev_status::Status;
+use std::fs::Files;
 use std::net::Net;
 use std::process::ExitCode;
 use std::sync::Wait;
@@ -45,7 +46,7 @@ fn words(rt: &HostRuntime) -> Result<Vec<String>, Status> {
 
 /// Answers the words of the help and of the version, and hands every other command line on. A live run has its
 /// threads and its sockets of `handles`.
-fn run<R: Threads + Wait + Net + Clock + Sync>(
+fn run<R: Threads + Wait + Net + Clock + Files + Sync>(
     rt: &HostRuntime,
     handles: &R,
     words: &[String],

@@ -12,7 +12,18 @@ pub use gvcp_wire::{
     Ack, Command, CommandHead, ControlError, Status, parse_ack, parse_command, write_ack,
     write_command,
 };
-pub use gvsp_std::{StdError, Widener, write_resend_std};
+pub use gvsp_std::{StdError, write_resend_std};
+/// `Widener` makes datagrams with standard identifiers such with extended ones.
+///
+/// ```
+/// let mut widener = Widener::new();
+/// let mut wide = [0; 9012];
+/// match widener.widen(&bytes, &mut wide) {
+///     Ok(len) => println!(rt; "{:?}", parse(&wide[..len]))?,
+///     Err(refusal) => println!(rt; "{refusal}")?,
+/// }
+/// ```
+pub use gvsp_std::Widener;
 pub use gvsp_wire::{
     Head, LeaderInfo, Packet, WireError, parse, write_leader, write_notice, write_payload,
     write_trailer,
