@@ -9,7 +9,7 @@ use crate::lines::{buffer, print_text};
 use anyhow::{Result, anyhow};
 use buffer_words::{Board, Pass, Tried};
 use camera_words::Output;
-use frame_writing::{InputWatch, Outlet, hand_out_frames};
+use frame_writing::{InputWatch, Outlet, Progress, hand_out_frames};
 use gev_links::{Clock, MeetingGate, MemoryClock, MemorySink, MemorySource};
 use gev_types::Buf;
 use std::sync::Wait;
@@ -41,8 +41,13 @@ fn output(word: &str) -> Output {
 /// The application where the acquisition runs or not, where so many buffers are asked for and this is written, where an
 /// input with this text is watched or not, with the moments of the clock by which it's looked at, the application's own
 /// ones and the numbers of the writes that fail, and where two buffers wait: how it ended, the moment that is read next,
-/// how often the gate was passed, the places in the pool, and what was written.
-pub fn hand_out<R: Wait>(rt: &HostRuntime, handles: &R, fields: &mut Fields<'_>) -> Result<()> {
+/// how often the gate was passed, the places in the pool, what was written, and what was told each `millis` milliseconds.
+pub fn hand_out<R: Wait>(
+    rt: &HostRuntime,
+    handles: &R,
+    millis: u32,
+    fields: &mut Fields<'_>,
+) -> Result<()> {
     let alloc = rt.alloc();
     let (board, mut pass) = Board::new(alloc)?;
     if fields.byte() == 1 {
@@ -67,6 +72,7 @@ pub fn hand_out<R: Wait>(rt: &HostRuntime, handles: &R, fields: &mut Fields<'_>)
             on,
             next: 0,
         },
+        progress: Progress::each(millis),
     };
     let mut sink = MemorySink::new(alloc, 1000, writes.as_slice());
     let mut input = MemorySource::new(text.as_bytes(), 1, &[]);
@@ -86,5 +92,6 @@ pub fn hand_out<R: Wait>(rt: &HostRuntime, handles: &R, fields: &mut Fields<'_>)
     )?;
     print!(rt; ", next {}, takes {}", outlet.clock.now(), gate.takes())?;
     print!(rt; ", pool {:?}", board.look_pool(&mut pass).as_slice())?;
-    print_text(rt, sink.written())
+    print_text(rt, sink.written())?;
+    print_text(rt, sink.told())
 }

@@ -32,7 +32,11 @@ fn answer<R: Wait>(rt: &HostRuntime, handles: &R, row: &str) -> Result<()> {
     match word {
         "frame" => lines::frame(rt, &mut fields),
         "receive" => lines::receive(rt, &mut fields),
-        "hand" => applying::hand_out(rt, handles, &mut fields),
+        "hand" => applying::hand_out(rt, handles, 0, &mut fields),
+        "tell" => {
+            let millis = fields.small();
+            applying::hand_out(rt, handles, millis, &mut fields)
+        }
         _ => {
             print!(rt; "not understood")?;
             Ok(())
