@@ -27,8 +27,8 @@ struct Row {
     control: Vec<Option<Datagram>>,
 }
 
-/// The fields of a row, in order; how it's waited; and the input, of which each byte lasts for one look.
-fn fill<'x>(alloc: Global, row: &mut Row, text: &'x str) -> Result<(Patience, &'x str)> {
+/// The fields of a row, in order: how it's waited.
+fn fill(alloc: Global, row: &mut Row, text: &str) -> Result<Patience> {
     let mut fields = text.split(' ');
     row.moments = numbers(alloc, field(&mut fields))?;
     row.looks = numbers(alloc, field(&mut fields))?;
@@ -36,15 +36,24 @@ fn fill<'x>(alloc: Global, row: &mut Row, text: &'x str) -> Result<(Patience, &'
     row.sends = numbers(alloc, field(&mut fields))?;
     let packet_size = field(&mut fields).parse::<u16>().unwrap_or(0);
     let silence = field(&mut fields).parse::<u64>().unwrap_or(0);
-    let input = field(&mut fields);
+    let until_input = field(&mut fields) != "-";
     row.stream = datagrams(alloc, field(&mut fields))?;
     row.control = datagrams(alloc, field(&mut fields))?;
-    let patience = Patience {
+    Ok(Patience {
         packet_size,
         silence,
-        until_input: input != "-",
-    };
-    Ok((patience, if input == "." { "" } else { input }))
+        until_input,
+    })
+}
+
+/// The input of a row, of which each byte lasts for one look.
+fn input_of(text: &str) -> &str {
+    let mut fields = text.split(' ');
+    for _ in 0..6 {
+        let _ = field(&mut fields);
+    }
+    let input = field(&mut fields);
+    if input == "." { "" } else { input }
 }
 
 /// A wait behind a first command: how it ended, how many bytes the next receive of the stream gives, the faults, and what was
@@ -59,7 +68,19 @@ pub fn leader_row<R: Wait>(rt: &HostRuntime, handles: &R, text: &str) -> Result<
         stream: Vec::new(alloc),
         control: Vec::new(alloc),
     };
-    let (patience, input) = fill(alloc, &mut row, text)?;
+    let patience = fill(alloc, &mut row, text)?;
+    wait_over(rt, handles, &row, patience, input_of(text))
+}
+
+/// The same, over the links of this row.
+fn wait_over<R: Wait>(
+    rt: &HostRuntime,
+    handles: &R,
+    row: &Row,
+    patience: Patience,
+    input: &str,
+) -> Result<()> {
+    let alloc = rt.alloc();
     let shown = heard(alloc, row.stream.as_slice())?;
     let told = heard(alloc, row.control.as_slice())?;
     let mut stream = MemoryLink::new(alloc, HOST, shown.as_slice(), row.looks.as_slice(), &[], 0)?;
@@ -98,11 +119,11 @@ fn wait_for<R: Wait>(
     let mut client = Client::with_limit(SEND_LIMIT);
     let mut clock = MemoryClock::new(moments);
     let mut source = MemorySource::new(input.as_bytes(), 1, &[]);
-    let order = Order::WriteReg {
+    let orders = [Order::WriteReg {
         address: CCP,
         value: 2,
-    };
-    let _ = carry_out(handles, &mut client, control, &mut clock, CAMERA, &[order]);
+    }];
+    let _ = carry_out(handles, &mut client, control, &mut clock, CAMERA, &orders);
     await_leader(
         handles,
         &mut client,
