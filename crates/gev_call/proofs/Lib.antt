@@ -9,3 +9,4 @@ pub mod Recorded
 pub mod Completing
 pub mod Faced
 pub mod Simulated
+pub mod Received

@@ -10,7 +10,7 @@ use Rattle.gev_call.specs.Bound.{AllToldOfThree}
 use Rattle.gev_top.specs.declared.live_numbers.LiveNumbers.{LiveNumbers}
 use Rattle.gev_top.specs.Completeness.{NoneRose, EndsLive}
 use Rattle.gev_live.specs.Told.{Told}
-use Rattle.gev_live.specs.LiveRun.{Numbers}
+use Rattle.gev_live.specs.declared.numbers.Numbers.{Numbers}
 use Rattle.live_recording.specs.Recorded.{Recorded, RecordsLive}
 use Rattle.gev_call.specs.Runs.{IsUntold, told_by, RecordsOver}
 use Rattle.gev_call.proofs.Promised.{all_back}
@@ -57,7 +57,7 @@ record_understood n camera stream answer o e taped written written_after faults 
 
 -- the numbers of such a run in this mode
 abbrev pub in_mode : LiveNumbers → Mode → Numbers
-in_mode n mode = record { seed = n.seed; frames = n.frames; buffers = n.buffers; turns = n.turns; mode = mode }
+in_mode n mode = record { seed = n.seed; frames = n.frames; buffers = n.buffers; lanes = 1; turns = n.turns; mode = mode }
 
 pub recorded_over : {L C : Type 0} (received : L → Option (List Answer)) (sent : L → Option (List (Address × List ℕ))) (faults : L → ℕ) (told : C → Option (List ℕ))
     (n : LiveNumbers) (status : Status) (links links_after : Option (List L)) (clocks clocks_after : Option (List C)) (written written_after : Option (List ℕ)) (writes writes_after : ℕ) (h : List Entry)

@@ -10,9 +10,10 @@ use Rattle.gev_status.specs.declared.status.Status.{Status}
 use Rattle.gev_status.specs.declared.status.Status.TheVariants.{LinkFault, NoMemory}
 use Rattle.gev_top.specs.declared.live_numbers.LiveNumbers.{LiveNumbers}
 use Rattle.gev_live.specs.Told.{Told}
-use Rattle.gev_live.specs.LiveRun.{Numbers, RunsLive}
+use Rattle.gev_live.specs.declared.numbers.Numbers.{Numbers}
+use Rattle.gev_live.specs.LiveRun.{RunsLive}
 use Rattle.live_promises.specs.Promises.{KeepsLivePromises}
-use Rattle.live_lanes.specs.LanesRun.{RunsLanes}
+use Rattle.gev_live.specs.LanesRun.{RunsLanes}
 use Rattle.live_promises.specs.LanesPromises.{KeepsLanesPromises}
 use Rattle.live_recording.specs.Recorded.{RecordsLive}
 
@@ -53,7 +54,11 @@ pub record AreListed {L C : Type 0} (received : L → Option (List Answer)) (sen
   pub are : e ≡ told_by received sent faults told camera stream control camera_clock host_clock app_clock
 
 abbrev pub numbers_of : LiveNumbers → Numbers
-numbers_of n = record { seed = n.seed; frames = n.frames; buffers = n.buffers; turns = n.turns; mode = n.mode }
+numbers_of n = record { seed = n.seed; frames = n.frames; buffers = n.buffers; lanes = n.lanes; turns = n.turns; mode = n.mode }
+
+-- a recorded run has one lane
+abbrev pub recorded_of : LiveNumbers → Numbers
+recorded_of n = record { seed = n.seed; frames = n.frames; buffers = n.buffers; lanes = 1; turns = n.turns; mode = n.mode }
 
 -- A live run with so many lanes; with one lane the reader is the lane.
 abbrev pub RunsSo : LiveNumbers → Address → Address → Status → Told → Told → Option (List ℕ) → Option (List ℕ) → ℕ → ℕ → List Entry → Type 0
@@ -99,7 +104,7 @@ pub record RecordsOver {L C : Type 0} (received : L → Option (List Answer)) (s
   pub ends : Told
   -- what the tape held at the end
   pub taped : List (Option (List ℕ))
-  pub runs : RecordsLive (numbers_of n) camera stream status begins ends taped written written_after writes writes_after h
+  pub runs : RecordsLive (recorded_of n) camera stream status begins ends taped written written_after writes writes_after h
   pub listed : links ≡ Some [] → clocks ≡ Some [] → AreListed received sent faults told links_after clocks_after ends
 
 -- Three new links and three clocks that had told no moment came back, each as it was given.

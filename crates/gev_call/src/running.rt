@@ -10,18 +10,16 @@ ghost use Rattle.gev_call.specs.Bound.{AllToldOfThree, RaisesBy};
 ghost use Rattle.gev_top.specs.LiveWords.{IsInRange};
 ghost use Rattle.gev_top.specs.Completeness.{NoneRose, EndsLive};
 ghost use Rattle.buffer_words.specs.Boards.{board_id};
-ghost use Rattle.buffer_words.specs.Passes.{SameHands};
-ghost use Rattle.gev_call.specs.Runs.{RunsSo, GivesAllBack, IsBound, RunsOver, RunsNothing, told_by};
+ghost use Rattle.gev_call.specs.Runs.{GivesAllBack, IsBound, RunsOver, RunsNothing};
 
 use crate::binding::bind_three;
 use crate::returning::give_back;
 use crate::three_links::ThreeLinks;
 use buffer_words::{Board, Pass};
-use gev_links::{Clock, Gate, Link, Ports, Sink};
+use gev_links::{Gate, Ports, Sink};
 use gev_live::{Ends, live_over};
 use gev_status::Status;
 use gev_top::LiveNumbers;
-use live_lanes::live_lanes;
 use std::alloc::Global;
 use std::sync::Wait;
 use std::thread::Threads;
@@ -85,69 +83,6 @@ pub(crate) fn with_clocks<P: Ports>(
     }
 }
 
-/// Runs over these links and clocks on this board, by the number of lanes: with one lane the reader is the lane.
-fn run_on<
-    R: Threads + Wait + Sync,
-    L: Link + Send + Drop,
-    C: Clock + Send + Drop,
-    K: Sink,
-    G: Gate + Sync,
->(
-    rt: &R,
-    alloc: Global,
-    board: &Board,
-    pass: &mut Pass,
-    numbers: LiveNumbers,
-    ends: Ends<L, L, C>,
-    gate: &G,
-    sink: &mut K,
-) -> (Status, Ends<L, L, C>)
-    requires within { IsInRange numbers }
-    requires table { pass.old.table ≡ board_id board.now }
-    requires first { pass.old.number ≡ 0 }
-    requires unseen { pass.old.seen ≡ [] }
-    ensures table { pass.new.table ≡ pass.old.table }
-    ensures hands { SameHands pass.old pass.new }
-    ensures alone { IsAlone (After pass.new.seen) 0 }
-    ensures live { RunsSo numbers (L.address ends.camera) (L.address ends.stream) result.0
-        (told_by L.received L.sent L.faults C.told ends.camera ends.stream ends.control ends.camera_clock ends.host_clock ends.app_clock)
-        (told_by L.received L.sent L.faults C.told result.1.camera result.1.stream result.1.control result.1.camera_clock result.1.host_clock result.1.app_clock)
-        (K.written sink.old) (K.written sink.new) (K.faults sink.old) (K.faults sink.new) pass.new.seen }
-{
-    if numbers.lanes == 1 {
-        return live_over(
-            rt,
-            alloc,
-            board,
-            pass,
-            numbers.seed,
-            numbers.frames,
-            numbers.buffers,
-            numbers.lanes,
-            numbers.turns,
-            ends,
-            gate,
-            sink,
-            numbers.mode,
-        );
-    }
-    live_lanes(
-        rt,
-        alloc,
-        board,
-        pass,
-        numbers.seed,
-        numbers.frames,
-        numbers.buffers,
-        numbers.lanes,
-        numbers.turns,
-        ends,
-        gate,
-        sink,
-        numbers.mode,
-    )
-}
-
 /// Runs over these links and clocks on a new board, and gives all back.
 fn run_over<R: Threads + Wait + Sync, K: Sink, P: Ports, G: Gate + Sync>(
     rt: &R,
@@ -186,7 +121,21 @@ fn run_over<R: Threads + Wait + Sync, K: Sink, P: Ports, G: Gate + Sync>(
     match Board::new(alloc) {
         Ok(made) => {
             let (board, mut pass) = made;
-            let (status, ends) = run_on(rt, alloc, &board, &mut pass, numbers, ends, gate, sink);
+            let (status, ends) = live_over(
+                rt,
+                alloc,
+                &board,
+                &mut pass,
+                numbers.seed,
+                numbers.frames,
+                numbers.buffers,
+                numbers.lanes,
+                numbers.turns,
+                ends,
+                gate,
+                sink,
+                numbers.mode,
+            );
             give_ends(ports, ends);
             // All that the pass has seen is one run of the board.
             pass.witness();

@@ -1,6 +1,6 @@
 //! The call of the program.
 
-ghost use Rattle.std.specs.Prelude.{◌≡◌, ◌≢◌, ◌↔◌, ◌+◌, ◌≤◌, ℕ, Some, None, Ok, map, IfSome};
+ghost use Rattle.std.specs.Prelude.{◌≡◌, ◌≢◌, ◌↔◌, ◌+◌, ◌≤◌, ℕ, Some, None, Ok, map, option_map, IfSome};
 ghost use Rattle.std.specs.String.{string_bytes};
 ghost use Rattle.board_machine.specs.Histories.{After};
 ghost use Rattle.board_machine.specs.Laws.{IsAlone};
@@ -18,16 +18,20 @@ ghost use Rattle.gev_top.specs.Completeness.{NoneRose, CompletesErrand};
 ghost use Rattle.gev_call.specs.Runs.{IsBound, RunsOver, RecordsOver, RunsNothing};
 ghost use Rattle.gev_call.specs.Cameras.{DiscoversOver, DescribesOver};
 ghost use Rattle.gev_call.specs.Simulation.{SimulatesSo};
+ghost use Rattle.gev_call.specs.Reception.{WritesSteady};
+ghost use Rattle.gev_receive.specs.Receives.{ReceivesOver};
+ghost use Rattle.camera_words.specs.declared.settings.Settings.{Settings};
 ghost use Rattle.camera_words.specs.declared.simulate_words.SimulateWords.{SimulateWords};
 ghost use Rattle.gev_call.specs.Replayed.{ReplaysByHeadline};
 ghost use Rattle.gev_call.specs.Explained.{ExplainsByHeadline};
 
 use crate::meeting::{run_description, run_discover};
+use crate::reception::run_receive;
 use crate::recording::run_recorded;
 use crate::running::run_live;
 use crate::simulation::run_simulate;
 use buffer_words::{Board, Pass};
-use gev_far::FarPorts;
+use gev_far::{FarPorts, PeekLink};
 use gev_links::{Gate, Sink, Source};
 use gev_status::Status;
 use gev_top::{Errand, read_errand, run_command};
@@ -52,6 +56,10 @@ use std::thread::Threads;
 ///
 /// `simulate` with an address of this machine and settings simulates a camera there, over a link of the ports, and
 /// writes a line behind its turns. Nothing is kept.
+///
+/// `receive` with a camera's address, a number of frames, writes and settings takes the camera over a link of the ports,
+/// receives its stream over a second one and writes what it hands out as it comes, and lets the camera go. The run's board
+/// and the run's pass are kept, where a board was made.
 pub fn gevacq_top<R: Threads + Wait + Sync, S: Source, K: Sink, P: FarPorts, G: Gate + Sync>(
     rt: &R,
     alloc: Global,
@@ -62,6 +70,8 @@ pub fn gevacq_top<R: Threads + Wait + Sync, S: Source, K: Sink, P: FarPorts, G: 
     gate: &G,
     kept: &mut Option<(Board, Pass)>,
 ) -> Status
+where
+    P::L: PeekLink,
     requires unkept { kept.old ≡ None }
 
     // Words that aren't a command line are answered by their place, and nothing is read, written or bound.
@@ -129,16 +139,26 @@ pub fn gevacq_top<R: Threads + Wait + Sync, S: Source, K: Sink, P: FarPorts, G: 
         (P.links ports.old) (P.links ports.new) (P.clocks ports.old) (P.clocks ports.new) (S.left source.old) (S.left source.new)
         (S.faults source.old) (S.faults source.new) (K.written sink.old) (K.written sink.new) × (kept.new ≡ None) }
 
+    // The frames of a camera: the camera was taken and let go over one link of the ports, its stream received over another,
+    // which both came back, and what was written is what was handed out. Where a board was made its pass is kept, which is
+    // alone and has seen the run's whole history.
+    ensures receives { (asked : Settings) → errand_of (map (λ word. string_bytes word) words.now) ≡ Ok (errands.Receive asked)
+        → ReceivesOver P.L.received P.L.sent P.L.faults P.C.told asked result (P.bound ports.old) (P.bound ports.new)
+        (P.links ports.old) (P.links ports.new) (P.clocks ports.old) (P.clocks ports.new) (S.left source.new)
+        (K.written sink.old) (K.written sink.new) (K.faults sink.old) (K.faults sink.new) (option_map (λ k. k.1.seen) kept.new) }
+
     // Where no count of faults rose, each command comes to one of its own ends, or memory was wanting.
     ensures complete { (errand : Errand) → errand_of (map (λ word. string_bytes word) words.now) ≡ Ok errand
         → NoneRose (S.faults source.old) (S.faults source.new) → NoneRose (K.faults sink.old) (K.faults sink.new)
         → NoneRose (P.faults ports.old) (P.faults ports.new) → CompletesErrand errand (S.left source.old) result }
 
     // A count of faults changes only with the answer that tells of it; of a capture, that of the source may also
-    // have changed where writing failed or memory ran out behind a read that failed.
+    // have changed where writing failed or memory ran out behind a read that failed, and of a camera's frames that
+    // of the sink where a link failed.
     ensures reads_steady { (command : Command) → errand_of (map (λ word. string_bytes word) words.now) ≡ Ok (errands.Plain command)
         → ReadsSteady command result (S.faults source.old) (S.faults source.new) }
-    ensures writes_steady { result ≢ Status.WriteFault → K.faults sink.new ≡ K.faults sink.old }
+    ensures writes_steady { (errand : Errand) → errand_of (map (λ word. string_bytes word) words.now) ≡ Ok errand
+        → WritesSteady errand result (K.faults sink.old) (K.faults sink.new) }
     ensures links_steady { result ≢ Status.LinkFault → P.faults ports.new ≡ P.faults ports.old }
     ensures link_fault { result ≡ Status.LinkFault → Rose (P.faults ports.old) (P.faults ports.new) }
 {
@@ -159,6 +179,8 @@ fn run_errand<R: Threads + Wait + Sync, S: Source, K: Sink, P: FarPorts, G: Gate
     gate: &G,
     kept: &mut Option<(Board, Pass)>,
 ) -> Status
+where
+    P::L: PeekLink,
     requires within { IsErrand errand }
     requires unkept { kept.old ≡ None }
     ensures understood { (place : ℕ) → result ≢ Status.Usage place }
@@ -214,16 +236,23 @@ fn run_errand<R: Threads + Wait + Sync, S: Source, K: Sink, P: FarPorts, G: Gate
         (P.links ports.old) (P.links ports.new) (P.clocks ports.old) (P.clocks ports.new) (S.left source.old) (S.left source.new)
         (S.faults source.old) (S.faults source.new) (K.written sink.old) (K.written sink.new) × (kept.new ≡ None) }
 
+    // The frames of a camera.
+    ensures receives { (asked : Settings) → errand ≡ (errands.Receive asked)
+        → ReceivesOver P.L.received P.L.sent P.L.faults P.C.told asked result (P.bound ports.old) (P.bound ports.new)
+        (P.links ports.old) (P.links ports.new) (P.clocks ports.old) (P.clocks ports.new) (S.left source.new)
+        (K.written sink.old) (K.written sink.new) (K.faults sink.old) (K.faults sink.new) (option_map (λ k. k.1.seen) kept.new) }
+
     // Where no count of faults rose, each command comes to one of its own ends, or memory was wanting.
     ensures complete { (asked : Errand) → errand ≡ asked
         → NoneRose (S.faults source.old) (S.faults source.new) → NoneRose (K.faults sink.old) (K.faults sink.new)
         → NoneRose (P.faults ports.old) (P.faults ports.new) → CompletesErrand asked (S.left source.old) result }
 
     // A count of faults changes only with the answer that tells of it; of a capture, that of the source may also
-    // have changed where writing failed or memory ran out behind a read that failed.
+    // have changed where writing failed or memory ran out behind a read that failed, and of a camera's frames that
+    // of the sink where a link failed.
     ensures reads_steady { (command : Command) → errand ≡ (errands.Plain command)
         → ReadsSteady command result (S.faults source.old) (S.faults source.new) }
-    ensures writes_steady { result ≢ Status.WriteFault → K.faults sink.new ≡ K.faults sink.old }
+    ensures writes_steady { (asked : Errand) → errand ≡ asked → WritesSteady asked result (K.faults sink.old) (K.faults sink.new) }
     ensures links_steady { result ≢ Status.LinkFault → P.faults ports.new ≡ P.faults ports.old }
     ensures link_fault { result ≡ Status.LinkFault → Rose (P.faults ports.old) (P.faults ports.new) }
 {
@@ -234,5 +263,8 @@ fn run_errand<R: Threads + Wait + Sync, S: Source, K: Sink, P: FarPorts, G: Gate
         Errand::Discover(address) => run_discover(rt, alloc, address, ports, sink),
         Errand::Description(camera) => run_description(rt, camera, ports, sink),
         Errand::Simulate(asked) => run_simulate(rt, alloc, asked, source, ports, sink),
+        Errand::Receive(settings) => {
+            run_receive(rt, alloc, &settings, source, ports, gate, sink, kept)
+        }
     }
 }

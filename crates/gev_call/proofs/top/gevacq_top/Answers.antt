@@ -28,3 +28,9 @@ returns-in-Ok-clause-none g c = λ asked is. c.run_errand.ensures.none asked (sa
 
 pub returns-in-Ok-clause-complete : goal.returns-in-Ok-clause-complete
 returns-in-Ok-clause-complete g c = λ asked is. c.run_errand.ensures.complete asked (said_is _ _ _ c.in-Ok.ensures.said is)
+
+pub returns-in-Ok-clause-writes_steady : goal.returns-in-Ok-clause-writes_steady
+returns-in-Ok-clause-writes_steady g c = λ asked is. c.run_errand.ensures.writes_steady asked (said_is _ _ _ c.in-Ok.ensures.said is)
+
+pub returns-in-Ok-clause-receives : goal.returns-in-Ok-clause-receives
+returns-in-Ok-clause-receives g c = λ asked is. c.run_errand.ensures.receives asked (said_is _ _ _ c.in-Ok.ensures.said is)

@@ -1,11 +1,14 @@
 -- A command over source and sink alone.
-use Rattle.std.proofs.Common.{sym, ◌∙◌, subst}
+use Rattle.std.proofs.Common.{sym, ◌∙◌, option_map, subst}
+use Rattle.camera_words.specs.declared.settings.Settings.{Settings}
 use Rattle.camera_words.specs.declared.simulate_words.SimulateWords.{SimulateWords}
 use Rattle.gev_top.specs.declared.command.Command.TheVariants as commands
+use Rattle.gev_receive.specs.Receives.{ReceivesOver}
 use Rattle.gev_call.specs.Cameras.{DiscoversOver, DescribesOver}
 use Rattle.gev_call.specs.Simulation.{SimulatesSo}
 use Rattle.gev_call.proofs.Errands.{command_is, discover_is, description_is, never_links}
 use Rattle.gev_call.proofs.Simulated.{simulate_is}
+use Rattle.gev_call.proofs.Received.{receive_is}
 use Rattle.gev_call.proofs.Replaying.{replay_headline, explain_headline}
 use Rattle.gev_call.proofs.Completing.{plain_completes}
 use Rattle.gev_call.proofs.top.run_errand.Goals as goal
@@ -60,3 +63,15 @@ returns-in-Simulate-clause-simulates g c =
           c.run_simulate.ensures.simulates,
       c.requires.unkept,
     )
+
+pub returns-in-Receive-clause-receives : goal.returns-in-Receive-clause-receives
+returns-in-Receive-clause-receives g c =
+    λ asked is.
+    subst
+    (λ (words : Settings). ReceivesOver g.P.L.Link.received g.P.L.Link.sent g.P.L.Link.faults g.P.C.Clock.told words c.run_receive.result
+    (g.P.Ports.bound c.args.ports.now) (g.P.Ports.bound c.run_receive.new.ports) (g.P.Ports.links c.args.ports.now) (g.P.Ports.links c.run_receive.new.ports)
+    (g.P.Ports.clocks c.args.ports.now) (g.P.Ports.clocks c.run_receive.new.ports) (g.S.Source.left c.run_receive.new.source)
+    (g.K.Sink.written c.args.sink.now) (g.K.Sink.written c.run_receive.new.sink) (g.K.Sink.faults c.args.sink.now) (g.K.Sink.faults c.run_receive.new.sink)
+    (option_map (λ k. k.1.seen) c.run_receive.new.kept))
+    (receive_is c.in-Receive.settings asked c.args.errand c.in-Receive.is is)
+    c.run_receive.ensures.receives
