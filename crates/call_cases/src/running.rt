@@ -52,7 +52,7 @@ pub fn run<R: Threads + Wait + Sync>(
 }
 
 /// The words of a text.
-pub fn word_list(alloc: Global, text: &str) -> Result<Vec<String>, NoMemory> {
+fn word_list(alloc: Global, text: &str) -> Result<Vec<String>, NoMemory> {
     let mut words = Vec::new(alloc);
     for word in text.split_whitespace() {
         words.push(String::from_str(alloc, word)?)?;
