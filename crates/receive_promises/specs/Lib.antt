@@ -1,0 +1,5 @@
+pub mod FramesRun
+pub mod Meaning
+pub mod Promises
+pub mod Stopping
+pub mod Laws
