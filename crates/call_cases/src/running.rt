@@ -7,8 +7,8 @@ use crate::outcome::{Outcome, Sent};
 use crate::pacing::Pace;
 use crate::setting::{Fails, Setting};
 use buffer_words::{Board, Pass};
-use gev_call::gevacq_top;
 use gev_links::{MemoryLink, MemoryPorts, MemorySink, SteadySource};
+use gev_program::gevacq_top;
 use gev_types::{NoMemory, Peer};
 use std::alloc::Global;
 use std::sync::Wait;
@@ -62,17 +62,57 @@ fn heard(alloc: Global, packets: &[Vec<u8>]) -> Result<Vec<Option<(&[u8], Peer)>
     Ok(all)
 }
 
-/// What the last of three links, which is that of the control channel, sent.
+/// What the link of the control channel sent: the last one of three, or the first one of two.
 fn sent_by(alloc: Global, links: &[MemoryLink<'_>]) -> Result<Vec<Sent>, NoMemory> {
+    match links {
+        [_, _, control] => fronts_of(alloc, control),
+        [control, _] => fronts_of(alloc, control),
+        _ => Ok(Vec::new(alloc)),
+    }
+}
+
+/// The fronts of what a link sent.
+fn fronts_of(alloc: Global, link: &MemoryLink<'_>) -> Result<Vec<Sent>, NoMemory> {
     let mut all = Vec::new(alloc);
-    if let [_, _, control] = links {
-        for (peer, bytes) in control.sent() {
-            let bytes = bytes.as_slice();
-            let front = hex::encode(alloc, &bytes[..bytes.len().min(FRONT)])?;
-            all.push(Sent { peer: *peer, front })?;
-        }
+    for (peer, bytes) in link.sent() {
+        let bytes = bytes.as_slice();
+        let front = hex::encode(alloc, &bytes[..bytes.len().min(FRONT)])?;
+        all.push(Sent { peer: *peer, front })?;
     }
     Ok(all)
+}
+
+/// Ports whose stream's link and control link hear this, and whose host clock tells these moments. `receive` binds the
+/// control link first and then the stream's, and takes the host's clock first.
+fn ports_of<'a>(
+    alloc: Global,
+    receives: bool,
+    stream: &'a [Option<(&'a [u8], Peer)>],
+    control: &'a [Option<(&'a [u8], Peer)>],
+    moments: &'a [u64],
+    fails: Fails,
+) -> Result<MemoryPorts<'a, MemoryLink<'a>>, NoMemory> {
+    let camera = MemoryLink::new(alloc, CAMERA, &[], &[], &[], 0)?;
+    let stream = MemoryLink::new(alloc, HOST, stream, fails.hear, &[], 0)?;
+    let control = MemoryLink::new(alloc, HOST, control, fails.answer, fails.send, ROOM)?;
+    if receives {
+        return MemoryPorts::new(
+            alloc,
+            control,
+            stream,
+            camera,
+            [moments, &[], &[]],
+            fails.bind,
+        );
+    }
+    MemoryPorts::new(
+        alloc,
+        camera,
+        stream,
+        control,
+        [&[], moments, &[]],
+        fails.bind,
+    )
 }
 
 /// The run word of the board that was kept, as the pass that was kept loads it.
@@ -123,14 +163,11 @@ fn call_over<R: Threads + Wait + Sync>(
     piece: usize,
     gate: &Pace,
 ) -> Result<Outcome, NoMemory> {
-    let mut ports = MemoryPorts::new(
-        alloc,
-        MemoryLink::new(alloc, CAMERA, &[], &[], &[], 0)?,
-        MemoryLink::new(alloc, HOST, stream, fails.hear, &[], 0)?,
-        MemoryLink::new(alloc, HOST, control, fails.answer, fails.send, ROOM)?,
-        [&[], moments, &[]],
-        fails.bind,
-    )?;
+    let receives = match words.get(0) {
+        Some(word) => word.as_str() == "receive",
+        None => false,
+    };
+    let mut ports = ports_of(alloc, receives, stream, control, moments, fails)?;
     let mut source = SteadySource::new(script, 100_000);
     let mut sink = MemorySink::new(alloc, piece, fails.write);
     let mut kept = None;

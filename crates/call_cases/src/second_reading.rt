@@ -8,13 +8,21 @@ use gev_types::NoMemory;
 use mode_calls::Mode;
 use std::alloc::Global;
 
+/// The live run or the recorded one that words ask for.
+#[derive(Clone, Copy, Debug, PartialEq, Eq)]
+enum Run {
+    Live(LiveNumbers),
+    Record(LiveNumbers),
+    Other,
+}
+
 /// What both readings find in a command line.
 pub fn both_read(alloc: Global, line: &str) -> Result<String, NoMemory> {
     let words = word_list(alloc, line)?;
-    let first = read_errand(words.as_slice());
+    let first = first_reading(words.as_slice());
     let text = match matches_of(alloc, words.as_slice()) {
         Ok(found) => {
-            let same = found_errand(&found) == first.ok();
+            let same = found_run(&found) == first.ok();
             format!(in alloc; "{first:?}, and so by clap: {same}")?
         }
         Err(error) => {
@@ -23,6 +31,15 @@ pub fn both_read(alloc: Global, line: &str) -> Result<String, NoMemory> {
         }
     };
     Ok(text)
+}
+
+/// What `read_errand` finds in the words.
+fn first_reading(words: &[String]) -> Result<Run, u32> {
+    match read_errand(words)? {
+        Errand::Live(numbers) => Ok(Run::Live(numbers)),
+        Errand::Record(numbers) => Ok(Run::Record(numbers)),
+        _ => Ok(Run::Other),
+    }
 }
 
 /// A number from one to another.
@@ -55,15 +72,15 @@ fn matches_of(alloc: Global, words: &[String]) -> Result<ArgMatches<'_>, Error> 
 }
 
 /// The live run or the recorded one that was found.
-fn found_errand(found: &ArgMatches<'_>) -> Option<Errand> {
+fn found_run(found: &ArgMatches<'_>) -> Option<Run> {
     let (name, inner) = found.subcommand()?;
     if name == "live" {
         let lanes = inner.get_one::<u8>("lanes")?;
         let mode = found_mode(inner.get_one::<u8>("mode"))?;
-        return Some(Errand::Live(found_numbers(inner, lanes, mode)?));
+        return Some(Run::Live(found_numbers(inner, lanes, mode)?));
     }
     if name == "record" {
-        return Some(Errand::Record(found_numbers(inner, 1, Mode::OldestFirst)?));
+        return Some(Run::Record(found_numbers(inner, 1, Mode::OldestFirst)?));
     }
     None
 }

@@ -104,6 +104,7 @@ impl Setting {
         match name {
             "stream" => self.stream = datagrams(alloc, value)?,
             "control" => self.control = datagrams(alloc, value)?,
+            "again" => self.answer_again(alloc, value)?,
             "clock" => self.moments = moments(alloc, value)?,
             "bind" => self.fails.bind = only(value)?,
             "hear" => self.fails.hear = only(value)?,
@@ -120,6 +121,14 @@ impl Setting {
             "either" => self.either = true,
             "kept" => self.kept = true,
             _ => return Err(Wrong::NotUnderstood),
+        }
+        Ok(())
+    }
+
+    /// The control link hears these behind the rest, a hundred times over.
+    fn answer_again(&mut self, alloc: Global, list: &str) -> Result<(), Wrong> {
+        for _ in 0..100u32 {
+            put_datagrams(alloc, &mut self.control, list)?;
         }
         Ok(())
     }
@@ -172,12 +181,18 @@ fn moments(alloc: Global, last: &str) -> Result<Vec<u64>, Wrong> {
 /// Datagrams parted by commas; of an empty list none.
 fn datagrams(alloc: Global, list: &str) -> Result<Vec<Vec<u8>>, Wrong> {
     let mut all = Vec::new(alloc);
+    put_datagrams(alloc, &mut all, list)?;
+    Ok(all)
+}
+
+/// Puts such datagrams.
+fn put_datagrams(alloc: Global, all: &mut Vec<Vec<u8>>, list: &str) -> Result<(), Wrong> {
     for name in list.split(',') {
         if !name.is_empty() {
-            put_datagram(alloc, &mut all, name)?;
+            put_datagram(alloc, all, name)?;
         }
     }
-    Ok(all)
+    Ok(())
 }
 
 /// A text that is written with `_` for a space and `;` for the end of a line.

@@ -13,21 +13,22 @@ use Rattle.acquisition_machine.specs.Machine.{Input}
 use Rattle.buffer_words.specs.Passes.{Token, Enters}
 use Rattle.buffer_words.proofs.Several.{each_one}
 use Rattle.mode_calls.specs.declared.mode.Mode.{Mode}
-use Rattle.gev_acq.specs.declared.turn.Turn.{Turn}
-use Rattle.gev_acq.specs.Turns.{Turned, Outside, TakesTurn, TakesOne}
-use Rattle.gev_acq.specs.Acquired.{TurnsOn, FindsStopped}
+use Rattle.gev_acq.specs.Turns.{Turned, Outside}
 use Rattle.gev_acq.specs.Moments.{PacedClock, begins_at, SaysPaced, SaysEach}
 use Rattle.gev_acq.specs.Reading.{FaultsOf}
-use Rattle.gev_acq.proofs.AllTurns.{turns_none, turns_more}
+use Rattle.packet_requests.specs.declared.id_mode.IdMode.{IdMode}
 use Rattle.camera_control.specs.declared.control_end.ControlEnd.{ControlEnd}
 use Rattle.camera_control.specs.declared.control_end.ControlEnd.TheVariants as causes
 use Rattle.camera_control.specs.Steps.{is_held, lost_cause}
 use Rattle.first_leader.specs.Waiting.{beat_cause}
 use Rattle.camera_reader.specs.declared.listening.Listening.{Listening}
-use Rattle.camera_reader.specs.declared.reader_end.ReaderEnd.{ReaderEnd}
 use Rattle.camera_reader.specs.declared.reader_end.ReaderEnd.TheVariants.{Stopped, Silent, Ended}
-use Rattle.camera_reader.specs.Listening.{is_silent, listened, begins_listening, listened_to, NoneSilent, turn_cause, client_after, NoneEnded}
+use Rattle.camera_reader.specs.Hearing.{Arrival, is_datagram, top_of, answers_of}
+use Rattle.camera_reader.specs.Listening.{is_silent, listened, is_silent_behind, listened_behind, begins_listening, listened_to, NoneSilent, turn_cause, client_after, NoneEnded}
+use Rattle.camera_reader.specs.Turns.{TakesTurn, TakesOne, TurnsOn}
 use Rattle.camera_reader.specs.Reading.{TakesCameraTurn, KeepsOn, LastTurn, ReadsTurns, stopped, silent, ended, cause_faults}
+use Rattle.camera_reader.proofs.Arriving.{hears_none, hears_more, top_none, top_more}
+use Rattle.camera_reader.proofs.AllTurns.{turns_none, turns_more}
 
 -- ---- one more turn
 
@@ -39,73 +40,97 @@ ended-push : (s : Client) (ts : List Turned) (t : Turned) → NoneEnded s ts →
 ended-push s [] t none is = (is, tt)
 ended-push s (x ∷ xs) t none is = (none.0, ended-push (control_of s x.heard x.moment).state xs t none.1 is)
 
-listened-push : (silence : ℕ) (l : Listening) (es : List Turn) (e : Turn)
-    → listened_to silence l (es ++ e ∷ []) ≡ listened silence (listened_to silence l es) e.moment e.datagram
-listened-push silence l [] e = refl
-listened-push silence l (x ∷ xs) e = listened-push silence (listened silence l x.moment x.datagram) xs e
+listened-push : (silence : ℕ) (l : Listening) (xs : List Arrival) (a : Arrival)
+    → listened_to silence l (xs ++ a ∷ []) ≡ listened_behind silence (listened_to silence l xs) a
+listened-push silence l [] a = refl
+listened-push silence l (x ∷ xs) a = listened-push silence (listened_behind silence l x) xs a
 
-silent-push : (silence : ℕ) (l : Listening) (es : List Turn) (e : Turn) → NoneSilent silence l es
-    → is_silent silence (listened_to silence l es) e.moment e.datagram ≡ false → NoneSilent silence l (es ++ e ∷ [])
-silent-push silence l [] e none is = (is, tt)
-silent-push silence l (x ∷ xs) e none is = (none.0, silent-push silence (listened silence l x.moment x.datagram) xs e none.1 is)
+silent-push : (silence : ℕ) (l : Listening) (xs : List Arrival) (a : Arrival) → NoneSilent silence l xs
+    → is_silent_behind silence (listened_to silence l xs) a ≡ false → NoneSilent silence l (xs ++ a ∷ [])
+silent-push silence l [] a none is = (is, tt)
+silent-push silence l (x ∷ xs) a none is = (none.0, silent-push silence (listened_behind silence l x) xs a none.1 is)
 
 says-push : (p q r : PacedClock) (ts : List Turned) (t : Turned) → SaysEach SaysPaced p ts q → SaysPaced q t.moment t.told r → SaysEach SaysPaced p (ts ++ t ∷ []) r
 says-push p q r [] t each one =
     let first : SaysPaced p t.moment t.told r = subst (λ (c : PacedClock). SaysPaced c t.moment t.told r) each one in (r, first, refl)
 says-push p q r (x ∷ xs) t each one = (each.0, each.1, says-push each.0 q r xs t each.2 one)
 
+-- what a turn of this moment, in which a datagram came or none, makes of a silence
+silent_so : (silence : ℕ) (l : Listening) (a : Arrival) (moment : ℕ) (came b : Bool) → moment ≡ a.moment → came ≡ is_datagram a.answer
+    → is_silent silence l moment came ≡ b → is_silent_behind silence l a ≡ b
+silent_so silence l a moment came b at so is =
+    ap (λ (x : Bool). is_silent silence l a.moment x) (sym so) ∙ (ap (λ (m : ℕ). is_silent silence l m came) (sym at) ∙ is)
+
+listened_so : (silence : ℕ) (l next : Listening) (a : Arrival) (moment : ℕ) (came : Bool) → moment ≡ a.moment → came ≡ is_datagram a.answer
+    → next ≡ listened silence l moment came → next ≡ listened_behind silence l a
+listened_so silence l next a moment came at so is =
+    is ∙ (ap (λ (m : ℕ). listened silence l m came) at ∙ ap (λ (x : Bool). listened silence l a.moment x) so)
+
 -- ---- so far
 
 -- the turns so far, and what is known behind them
-pub record SoFar (mode : Mode) (c : AcqConfig) (camera : Address) (silence begin : ℕ) (Old New : List Input → Type 0) (o n : Outside) (clock : PacedClock)
-    (l : Listening) (s u : Token) : Type 0 where
+pub record SoFar (mode : Mode) (c : AcqConfig) (ids : IdMode) (camera : Address) (silence begin : ℕ) (Old New : List Input → Type 0) (o n : Outside) (clock : PacedClock)
+    (top refused : ℕ) (l : Listening) (s u : Token) : Type 0 where
   pub made : List Turned
-  pub entries : List Turn
-  pub keeps : KeepsOn mode c camera silence begin Old New o n clock made entries s u
-  pub listens : l ≡ listened_to silence (begins_listening begin) entries
+  pub arrivals : List Arrival
+  pub keeps : KeepsOn mode c ids camera silence begin Old New o n clock refused made arrivals s u
+  pub greatest : top ≡ top_of ids (answers_of arrivals)
+  pub listens : l ≡ listened_to silence (begins_listening begin) arrivals
 
-pub nothing_yet : (mode : Mode) (c : AcqConfig) (camera : Address) (silence begin : ℕ) (Old : List Input → Type 0) (o : Outside) (clock : PacedClock) (s : Token)
-    → clock ≡ begins_at begin → SoFar mode c camera silence begin Old Old o o clock (begins_listening begin) s s
-nothing_yet mode c camera silence begin Old o clock s is = record {
+pub nothing_yet : (mode : Mode) (c : AcqConfig) (ids : IdMode) (camera : Address) (silence begin : ℕ) (Old : List Input → Type 0) (o : Outside) (clock : PacedClock)
+    (top refused : ℕ) (s : Token)
+    → clock ≡ begins_at begin → top ≡ 0 → refused ≡ 0 → SoFar mode c ids camera silence begin Old Old o o clock top refused (begins_listening begin) s s
+nothing_yet mode c ids camera silence begin Old o clock top refused s is new none = record {
   made = [];
-  entries = [];
-  keeps = record { on = turns_none mode c camera Old o s; says = is; client = refl; controlled = tt; heard = tt };
+  arrivals = [];
+  keeps = record {
+    on = turns_none mode c ids camera Old o s;
+    hears = hears_none ids refused none;
+    says = is;
+    client = refl;
+    controlled = tt;
+    heard = tt;
+  };
+  greatest = top_none ids top new;
   listens = refl;
 }
 
 -- a look that found the run word 1, and a turn of the same configuration
-looks_on : (mode : Mode) (c d : AcqConfig) (camera : Address) (Old Mid New : List Input → Type 0) (o m n : Outside) (made : List Turned) (entries : List Turn)
-    (turned : Turned) (entry : Turn) (run : ℕ) (s t u v : Token) → TurnsOn mode c camera Old Mid o m made entries s t → d ≡ c → Enters t (LookRun run) u → run ≡ 1
-    → TakesTurn mode d camera Mid New m n turned entry u v → TurnsOn mode c camera Old New o n (made ++ turned ∷ []) (entries ++ entry ∷ []) s v
-looks_on mode c d camera Old Mid New o m n made entries turned entry run s t u v on config look one takes =
-    turns_more mode c camera Old Mid New o m n made entries turned entry s t u v on (subst (λ (k : ℕ). Enters t (LookRun k) u) one look)
-    (subst (λ (x : AcqConfig). TakesTurn mode x camera Mid New m n turned entry u v) config takes)
+looks_on : (mode : Mode) (c d : AcqConfig) (ids : IdMode) (camera : Address) (Old Mid New : List Input → Type 0) (o m n : Outside) (made : List Turned)
+    (arrivals : List Arrival) (turned : Turned) (a : Arrival) (run : ℕ) (s t u v : Token) → TurnsOn mode c ids camera Old Mid o m made arrivals s t → d ≡ c
+    → Enters t (LookRun run) u → run ≡ 1
+    → TakesTurn mode d ids camera Mid New m n turned a u v → TurnsOn mode c ids camera Old New o n (made ++ turned ∷ []) (arrivals ++ a ∷ []) s v
+looks_on mode c d ids camera Old Mid New o m n made arrivals turned a run s t u v on config look one takes =
+    turns_more mode c ids camera Old Mid New o m n made arrivals turned a s t u v on (subst (λ (k : ℕ). Enters t (LookRun k) u) one look)
+    (subst (λ (x : AcqConfig). TakesTurn mode x ids camera Mid New m n turned a u v) config takes)
 
 -- the turn was the last one
-last_turn : (mode : Mode) (c d : AcqConfig) (camera : Address) (silence begin : ℕ) (Old Mid New : List Input → Type 0) (o m n : Outside) (clock later : PacedClock)
-    (l : Listening) (entry : Turn) (cause : Option ControlEnd) (run : ℕ) (s t u v : Token)
-    → (so : SoFar mode c camera silence begin Old Mid o m clock l s t) → d ≡ c → Enters t (LookRun run) u → run ≡ 1
-    → (takes : TakesCameraTurn mode d camera Mid New clock later m n entry cause u v)
-    → LastTurn mode c camera silence begin Old New o n so.made takes.turned so.entries entry cause s v
-last_turn mode c d camera silence begin Old Mid New o m n clock later l entry cause run s t u v so config look one takes = record {
+last_turn : (mode : Mode) (c d : AcqConfig) (ids : IdMode) (camera : Address) (silence begin : ℕ) (Old Mid New : List Input → Type 0) (o m n : Outside)
+    (clock later : PacedClock) (top refused top_after refused_after : ℕ) (l : Listening) (moment : ℕ) (came : Bool) (cause : Option ControlEnd) (run : ℕ) (s t u v : Token)
+    → (so : SoFar mode c ids camera silence begin Old Mid o m clock top refused l s t) → d ≡ c → Enters t (LookRun run) u → run ≡ 1
+    → (takes : TakesCameraTurn mode d ids camera Mid New clock later top refused top_after refused_after m n moment came cause u v)
+    → LastTurn mode c ids camera silence begin Old New o n refused_after so.made takes.turned so.arrivals takes.arrival cause s v
+last_turn mode c d ids camera silence begin Old Mid New o m n clock later top refused top_after refused_after l moment came cause run s t u v so config look one takes = record {
   clock = later;
-  on = looks_on mode c d camera Old Mid New o m n so.made so.entries takes.turned entry run s t u v so.keeps.on config look one takes.takes;
+  on = looks_on mode c d ids camera Old Mid New o m n so.made so.arrivals takes.turned takes.arrival run s t u v so.keeps.on config look one takes.takes;
+  hears = hears_more ids so.made so.arrivals takes.turned takes.arrival top refused top_after refused_after so.greatest so.keeps.hears takes.hears;
   says = says-push (begins_at begin) clock later so.made takes.turned so.keeps.says takes.says;
   controlled = so.keeps.controlled;
   heard = so.keeps.heard;
   cause_is = ap (λ (k : Client). turn_cause k takes.turned) (sym so.keeps.client) ∙ takes.cause_is;
 }
 
-pub one_more : (mode : Mode) (c d : AcqConfig) (camera : Address) (silence begin : ℕ) (Old Mid New : List Input → Type 0) (o m n : Outside) (clock later : PacedClock)
-    (l next : Listening) (entry : Turn) (run : ℕ) (s t u v : Token)
-    → SoFar mode c camera silence begin Old Mid o m clock l s t → d ≡ c → Enters t (LookRun run) u → run ≡ 1
-    → TakesCameraTurn mode d camera Mid New clock later m n entry None u v → is_silent silence l entry.moment entry.datagram ≡ false
-    → next ≡ listened silence l entry.moment entry.datagram → SoFar mode c camera silence begin Old New o n later next s v
-one_more mode c d camera silence begin Old Mid New o m n clock later l next entry run s t u v so config look one takes loud follows = record {
+pub one_more : (mode : Mode) (c d : AcqConfig) (ids : IdMode) (camera : Address) (silence begin : ℕ) (Old Mid New : List Input → Type 0) (o m n : Outside)
+    (clock later : PacedClock) (top refused top_after refused_after : ℕ) (l next : Listening) (moment : ℕ) (came : Bool) (run : ℕ) (s t u v : Token)
+    → SoFar mode c ids camera silence begin Old Mid o m clock top refused l s t → d ≡ c → Enters t (LookRun run) u → run ≡ 1
+    → TakesCameraTurn mode d ids camera Mid New clock later top refused top_after refused_after m n moment came None u v → is_silent silence l moment came ≡ false
+    → next ≡ listened silence l moment came → SoFar mode c ids camera silence begin Old New o n later top_after refused_after next s v
+one_more mode c d ids camera silence begin Old Mid New o m n clock later top refused top_after refused_after l next moment came run s t u v so config look one takes loud follows = record {
   made = so.made ++ takes.turned ∷ [];
-  entries = so.entries ++ entry ∷ [];
+  arrivals = so.arrivals ++ takes.arrival ∷ [];
   keeps = record {
-    on = looks_on mode c d camera Old Mid New o m n so.made so.entries takes.turned entry run s t u v so.keeps.on config look one takes.takes;
+    on = looks_on mode c d ids camera Old Mid New o m n so.made so.arrivals takes.turned takes.arrival run s t u v so.keeps.on config look one takes.takes;
+    hears = hears_more ids so.made so.arrivals takes.turned takes.arrival top refused top_after refused_after so.greatest so.keeps.hears takes.hears;
     says = says-push (begins_at begin) clock later so.made takes.turned so.keeps.says takes.says;
     client =
         takes.takes.client
@@ -113,45 +138,60 @@ one_more mode c d camera silence begin Old Mid New o m n clock later l next entr
     controlled =
         ended-push o.client so.made takes.turned so.keeps.controlled (ap (λ (k : Client). turn_cause k takes.turned) (sym so.keeps.client) ∙ takes.cause_is);
     heard =
-        silent-push silence (begins_listening begin) so.entries entry so.keeps.heard
-        (ap (λ (k : Listening). is_silent silence k entry.moment entry.datagram) (sym so.listens) ∙ loud);
+        silent-push silence (begins_listening begin) so.arrivals takes.arrival so.keeps.heard
+        (ap (λ (k : Listening). is_silent_behind silence k takes.arrival) (sym so.listens)
+        ∙ silent_so silence l takes.arrival moment came false takes.moment_is takes.came_is loud);
   };
+  greatest = top_more ids so.arrivals takes.turned takes.arrival top refused top_after refused_after so.greatest takes.hears;
   listens =
-      follows
-      ∙ (ap (λ (k : Listening). listened silence k entry.moment entry.datagram) so.listens ∙ sym (listened-push silence (begins_listening begin) so.entries entry));
+      listened_so silence l next takes.arrival moment came takes.moment_is takes.came_is follows
+      ∙ (ap (λ (k : Listening). listened_behind silence k takes.arrival) so.listens
+      ∙ sym (listened-push silence (begins_listening begin) so.arrivals takes.arrival));
 }
 
--- the same, by what became of control
-pub caused : (mode : Mode) (d : AcqConfig) (camera : Address) (Mid New : List Input → Type 0) (clock later : PacedClock) (m n : Outside) (entry : Turn)
-    (x y : Option ControlEnd) (u v : Token) → TakesCameraTurn mode d camera Mid New clock later m n entry x u v → x ≡ y
-    → TakesCameraTurn mode d camera Mid New clock later m n entry y u v
-caused mode d camera Mid New clock later m n entry x y u v takes is =
-    subst (λ (k : Option ControlEnd). TakesCameraTurn mode d camera Mid New clock later m n entry k u v) is takes
+-- the same turn, by what became of control
+pub caused : (mode : Mode) (d : AcqConfig) (ids : IdMode) (camera : Address) (Mid New : List Input → Type 0) (clock later : PacedClock)
+    (top refused top_after refused_after : ℕ) (m n : Outside) (moment : ℕ) (came : Bool) (x y : Option ControlEnd) (u v : Token)
+    → TakesCameraTurn mode d ids camera Mid New clock later top refused top_after refused_after m n moment came x u v → x ≡ y
+    → TakesCameraTurn mode d ids camera Mid New clock later top refused top_after refused_after m n moment came y u v
+caused mode d ids camera Mid New clock later top refused top_after refused_after m n moment came x y u v takes is =
+    subst (λ (k : Option ControlEnd). TakesCameraTurn mode d ids camera Mid New clock later top refused top_after refused_after m n moment came k u v) is takes
 
 -- ---- the ends
 
-pub ends_stopped : (mode : Mode) (c : AcqConfig) (camera : Address) (silence begin : ℕ) (Old New : List Input → Type 0) (o n : Outside) (clock : PacedClock)
-    (l : Listening) (run : ℕ) (s t u : Token) → SoFar mode c camera silence begin Old New o n clock l s t → Enters t (LookRun run) u → run ≢ 1
-    → ReadsTurns mode c camera silence begin Old New o n s u Stopped
-ends_stopped mode c camera silence begin Old New o n clock l run s t u so look other =
-    stopped clock so.made so.entries t so.keeps (record { run = run; stopped = other; enters = each_one t u (LookRun run) look refl })
+pub ends_stopped : (mode : Mode) (c : AcqConfig) (ids : IdMode) (camera : Address) (silence begin : ℕ) (Old New : List Input → Type 0) (o n : Outside) (clock : PacedClock)
+    (top refused : ℕ) (l : Listening) (run : ℕ) (s t u : Token) → SoFar mode c ids camera silence begin Old New o n clock top refused l s t → Enters t (LookRun run) u
+    → run ≢ 1 → ReadsTurns mode c ids camera silence begin Old New o n refused s u Stopped
+ends_stopped mode c ids camera silence begin Old New o n clock top refused l run s t u so look other =
+    stopped clock so.made so.arrivals t so.keeps (record { run = run; stopped = other; enters = each_one t u (LookRun run) look refl })
 
-pub ends_silent : (mode : Mode) (c d : AcqConfig) (camera : Address) (silence begin : ℕ) (Old Mid New : List Input → Type 0) (o m n : Outside)
-    (clock later : PacedClock) (l : Listening) (entry : Turn) (run : ℕ) (s t u v : Token)
-    → SoFar mode c camera silence begin Old Mid o m clock l s t → d ≡ c → Enters t (LookRun run) u → run ≡ 1
-    → TakesCameraTurn mode d camera Mid New clock later m n entry None u v → is_silent silence l entry.moment entry.datagram ≡ true
-    → ReadsTurns mode c camera silence begin Old New o n s v Silent
-ends_silent mode c d camera silence begin Old Mid New o m n clock later l entry run s t u v so config look one takes quiet =
-    silent so.made takes.turned so.entries entry (last_turn mode c d camera silence begin Old Mid New o m n clock later l entry None run s t u v so config look one takes)
-    (ap (λ (k : Listening). is_silent silence k entry.moment entry.datagram) (sym so.listens) ∙ quiet)
+pub ends_silent : (mode : Mode) (c d : AcqConfig) (ids : IdMode) (camera : Address) (silence begin : ℕ) (Old Mid New : List Input → Type 0) (o m n : Outside)
+    (clock later : PacedClock) (top refused top_after refused_after : ℕ) (l : Listening) (moment : ℕ) (came : Bool) (cause : Option ControlEnd) (run : ℕ) (s t u v : Token)
+    → SoFar mode c ids camera silence begin Old Mid o m clock top refused l s t → d ≡ c → Enters t (LookRun run) u → run ≡ 1
+    → TakesCameraTurn mode d ids camera Mid New clock later top refused top_after refused_after m n moment came cause u v → cause ≡ None
+    → is_silent silence l moment came ≡ true
+    → ReadsTurns mode c ids camera silence begin Old New o n refused_after s v Silent
+ends_silent mode c d ids camera silence begin Old Mid New o m n clock later top refused top_after refused_after l moment came cause run s t u v so config look one takes_so is quiet =
+    silent so.made takes.turned so.arrivals takes.arrival
+    (last_turn mode c d ids camera silence begin Old Mid New o m n clock later top refused top_after refused_after l moment came None run s t u v so config look one takes)
+    (ap (λ (k : Listening). is_silent_behind silence k takes.arrival) (sym so.listens)
+    ∙ silent_so silence l takes.arrival moment came true takes.moment_is takes.came_is quiet)
+  where
+    takes : TakesCameraTurn mode d ids camera Mid New clock later top refused top_after refused_after m n moment came None u v
+    takes = caused mode d ids camera Mid New clock later top refused top_after refused_after m n moment came cause None u v takes_so is
 
-pub ends_ended : (mode : Mode) (c d : AcqConfig) (camera : Address) (silence begin : ℕ) (Old Mid New : List Input → Type 0) (o m n : Outside)
-    (clock later : PacedClock) (l : Listening) (entry : Turn) (cause : ControlEnd) (run : ℕ) (s t u v : Token)
-    → SoFar mode c camera silence begin Old Mid o m clock l s t → d ≡ c → Enters t (LookRun run) u → run ≡ 1
-    → TakesCameraTurn mode d camera Mid New clock later m n entry (Some cause) u v → ReadsTurns mode c camera silence begin Old New o n s v (Ended cause)
-ends_ended mode c d camera silence begin Old Mid New o m n clock later l entry cause run s t u v so config look one takes =
-    ended so.made takes.turned so.entries entry cause
-    (last_turn mode c d camera silence begin Old Mid New o m n clock later l entry (Some cause) run s t u v so config look one takes)
+pub ends_ended : (mode : Mode) (c d : AcqConfig) (ids : IdMode) (camera : Address) (silence begin : ℕ) (Old Mid New : List Input → Type 0) (o m n : Outside)
+    (clock later : PacedClock) (top refused top_after refused_after : ℕ) (l : Listening) (moment : ℕ) (came : Bool) (told : Option ControlEnd) (cause : ControlEnd) (run : ℕ)
+    (s t u v : Token)
+    → SoFar mode c ids camera silence begin Old Mid o m clock top refused l s t → d ≡ c → Enters t (LookRun run) u → run ≡ 1
+    → TakesCameraTurn mode d ids camera Mid New clock later top refused top_after refused_after m n moment came told u v → told ≡ Some cause
+    → ReadsTurns mode c ids camera silence begin Old New o n refused_after s v (Ended cause)
+ends_ended mode c d ids camera silence begin Old Mid New o m n clock later top refused top_after refused_after l moment came told cause run s t u v so config look one takes_so is =
+    ended so.made takes.turned so.arrivals takes.arrival cause
+    (last_turn mode c d ids camera silence begin Old Mid New o m n clock later top refused top_after refused_after l moment came (Some cause) run s t u v so config look one takes)
+  where
+    takes : TakesCameraTurn mode d ids camera Mid New clock later top refused top_after refused_after m n moment came (Some cause) u v
+    takes = caused mode d ids camera Mid New clock later top refused top_after refused_after m n moment came told (Some cause) u v takes_so is
 
 -- ---- one turn
 
@@ -163,17 +203,22 @@ was_waiting false None so = let bad : false ≡ true = so.1 refl in absurd (cc)
 was_waiting false (Some asked) so = refl
 
 -- the turn of the receiver and the client, by what became of control
-pub camera_turn : (mode : Mode) (c : AcqConfig) (camera : Address) (Old New : List Input → Type 0) (p q : PacedClock) (o n : Outside) (entry : Turn) (end : TurnEnd)
+pub camera_turn : (mode : Mode) (c : AcqConfig) (ids : IdMode) (camera : Address) (Old New : List Input → Type 0) (p q : PacedClock)
+    (top refused top_after refused_after : ℕ) (o n : Outside) (moment : ℕ) (came : Bool) (end : TurnEnd)
     (waited : Bool) (s u : Token) (cause : Option ControlEnd)
-    → TakesOne mode c camera Old New (λ moment told. SaysPaced p moment told q) o n entry end s u
+    → TakesOne mode c ids camera Old New p q top refused top_after refused_after o n moment came end s u
     → cause ≡ beat_cause end (told_value waited n.client.asked n.client) → waited ≡ is_some o.client.asked
-    → TakesCameraTurn mode c camera Old New p q o n entry cause s u
-camera_turn mode c camera Old New p q o n entry end waited s u cause one is was =
+    → TakesCameraTurn mode c ids camera Old New p q top refused top_after refused_after o n moment came cause s u
+camera_turn mode c ids camera Old New p q top refused top_after refused_after o n moment came end waited s u cause one is was =
     let later : Client = (control_of o.client one.turned.heard one.turned.moment).state in
     record {
       turned = one.turned;
-      takes = one.takes;
+      arrival = one.arrival;
       says = one.says;
+      hears = one.hears;
+      takes = one.takes;
+      moment_is = one.moment_is;
+      came_is = one.came_is;
       cause_is =
           ap (λ (e : TurnEnd). beat_cause e (told_value (is_some o.client.asked) later.asked later)) one.ended
           ∙ (ap (λ (k : Client). beat_cause end (told_value (is_some o.client.asked) k.asked k)) (sym one.takes.client)

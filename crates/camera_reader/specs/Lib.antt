@@ -1,3 +1,7 @@
+pub mod Hearing
 pub mod Listening
+pub mod Asking
+pub mod Turns
 pub mod Reading
 pub mod Beginning
+pub mod Laws

@@ -1,13 +1,13 @@
 -- When a camera is silent, and when its control ended, turn by turn.
-use Rattle.std.specs.Prelude.{◌≡◌, ⊤, ℕ, Bool, true, false, if◌then◌else◌, List, [], ◌∷◌, Option, Some, None, is_some}
+use Rattle.std.specs.Prelude.{◌≡◌, ⊤, ℕ, Bool, false, if◌then◌else◌, List, [], ◌∷◌, Option, None, is_some}
 use Rattle.client_machine.specs.Machine.{Client}
 use Rattle.gev_control.specs.Controlled.{control_of}
 use Rattle.gev_control.specs.Telling.{told_value}
 use Rattle.camera_control.specs.declared.control_end.ControlEnd.{ControlEnd}
 use Rattle.first_leader.specs.Waiting.{beat_cause, is_over, next_pace}
-use Rattle.gev_acq.specs.declared.turn.Turn.{Turn}
 use Rattle.gev_acq.specs.Turns.{Turned}
 use Rattle.camera_reader.specs.declared.listening.Listening.{Listening}
+use Rattle.camera_reader.specs.Hearing.{Arrival, is_datagram}
 
 -- ---- silence
 
@@ -26,15 +26,23 @@ listened silence l moment datagram = record { heard = last_heard l moment datagr
 abbrev pub begins_listening : ℕ → Listening
 begins_listening begin = record { heard = begin; pace = record { last = begin; spared = false } }
 
--- behind turns of which these entries tell
-abbrev pub listened_to : ℕ → Listening → List Turn → Listening
+-- Behind a turn the camera is silent by what arrived in it: each datagram ends a silence, also one that is foreign, or that
+-- widening refuses.
+abbrev pub is_silent_behind : ℕ → Listening → Arrival → Bool
+is_silent_behind silence l a = is_silent silence l a.moment (is_datagram a.answer)
+
+abbrev pub listened_behind : ℕ → Listening → Arrival → Listening
+listened_behind silence l a = listened silence l a.moment (is_datagram a.answer)
+
+-- behind turns in which this arrived
+abbrev pub listened_to : ℕ → Listening → List Arrival → Listening
 listened_to silence l [] = l
-listened_to silence l (e ∷ es) = listened_to silence (listened silence l e.moment e.datagram) es
+listened_to silence l (a ∷ xs) = listened_to silence (listened_behind silence l a) xs
 
 -- The camera was silent behind none of these turns.
-abbrev pub NoneSilent : ℕ → Listening → List Turn → Type 0
+abbrev pub NoneSilent : ℕ → Listening → List Arrival → Type 0
 NoneSilent silence l [] = ⊤
-NoneSilent silence l (e ∷ es) = (is_silent silence l e.moment e.datagram ≡ false) × NoneSilent silence (listened silence l e.moment e.datagram) es
+NoneSilent silence l (a ∷ xs) = (is_silent_behind silence l a ≡ false) × NoneSilent silence (listened_behind silence l a) xs
 
 -- ---- control
 

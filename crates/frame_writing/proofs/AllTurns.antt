@@ -142,6 +142,16 @@ idles_on frames output told mid now taken complete s t u written between after f
   wrote = wrote_still output g.made idle.0.turn written between after faults faults_between faults_after idle.0.nothing g.wrote idle.1 idle.2;
 }
 
+-- the same, by what is equal of the clock and of the sink
+pub goes_still : (frames : ℕ) (output : Output) (told now later : Option (List ℕ)) (taken complete : ℕ) (s t : Token) (written between after : Option (List ℕ)) (faults faults_between faults_after : ℕ)
+    → GoesOn frames output told now taken complete s t written between faults faults_between
+    → later ≡ now → after ≡ between → faults_after ≡ faults_between
+    → GoesOn frames output told later taken complete s t written after faults faults_after
+goes_still frames output told now later taken complete s t written between after faults faults_between faults_after g same_told same same_faults =
+    subst (λ v. GoesOn frames output told v taken complete s t written after faults faults_after) (sym same_told)
+    (subst (λ v. GoesOn frames output told now taken complete s t written v faults faults_after) (sym same)
+    (subst (λ n. GoesOn frames output told now taken complete s t written between faults n) (sym same_faults) g))
+
 -- ---- the ends
 
 pub has_enough : (frames : ℕ) (output : Output) (told now : Option (List ℕ)) (taken complete : ℕ) (s t : Token) (written written_after : Option (List ℕ)) (faults faults_after : ℕ) (watched : Bool) (left : Option (List ℕ)) (result : HandedOut)

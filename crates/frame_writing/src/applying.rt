@@ -69,18 +69,9 @@ pub fn hand_out_frames<R: Wait, C: Clock + Drop, G: Gate, K: Sink, I: Source, T:
         if outlet.watch.has_ended(input) {
             return ended(taken, complete, HandedEnd::InputEnded);
         }
+        tell_progress(alloc, outlet, sink);
         let rings = gate.rings();
-        let output = outlet.output;
-        match look_once(
-            rt,
-            alloc,
-            board,
-            pass,
-            &mut outlet.clock,
-            gate,
-            output,
-            sink,
-        ) {
+        match look_once(rt, alloc, board, pass, gate, outlet, sink) {
             TurnEnd::Handed(whole) => {
                 taken += 1;
                 complete += one_if(whole);
@@ -99,6 +90,25 @@ pub fn hand_out_frames<R: Wait, C: Clock + Drop, G: Gate, K: Sink, I: Source, T:
         }
     }
     unreachable!()
+}
+
+/// Tells how the run goes where it's time to, by the clock of the looks at the input.
+fn tell_progress<C: Drop, K: Sink, T: Clock + Drop>(
+    alloc: Global,
+    outlet: &mut Outlet<C, T>,
+    sink: &mut K,
+)
+    ensures written { K.written sink.new ≡ K.written sink.old }
+    ensures faults { K.faults sink.new ≡ K.faults sink.old }
+    ensures clock { outlet.new.clock ≡ outlet.old.clock }
+    ensures frames { outlet.new.frames ≡ outlet.old.frames }
+    ensures output { outlet.new.output ≡ outlet.old.output }
+    ensures watched { outlet.new.watch.on ≡ outlet.old.watch.on }
+{
+    if outlet.progress.is_on() {
+        let now = outlet.watch.clock.now();
+        outlet.progress.tell(alloc, now, sink);
+    }
 }
 
 /// Rests at the gate where it's time to, until it's rung for another time than these.

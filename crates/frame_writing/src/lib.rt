@@ -11,6 +11,7 @@ mod handing; // what becomes of a taken buffer
 mod input_watch; // whether an input has ended
 mod looking; // one turn
 mod outlet; // what is wanted, and where it goes
+mod progress; // lines that tell how the run goes
 mod turn_end; // how a turn ended
 mod working; // the application's worker
 mod write_stop; // why a buffer's text wasn't written
@@ -20,4 +21,5 @@ pub use applying::hand_out_frames;
 pub use handed_out::{HandedEnd, HandedOut};
 pub use input_watch::InputWatch;
 pub use outlet::Outlet;
+pub use progress::Progress;
 pub use working::{FramesDone, work_frames};

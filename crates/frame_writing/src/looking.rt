@@ -6,10 +6,10 @@ ghost use Rattle.buffer_words.specs.Passes.{SameHands};
 ghost use Rattle.frame_writing.specs.Turns.{end_by, TurnsTo};
 
 use crate::handing::hand_out;
+use crate::outlet::Outlet;
 use crate::turn_end::TurnEnd;
 use crate::write_stop::WriteStop;
 use buffer_words::{Board, Pass};
-use camera_words::Output;
 use gentl_events::event_get;
 use gev_links::{Clock, Gate, Sink};
 use std::alloc::Global;
@@ -27,27 +27,32 @@ fn end_by(complete: bool, wrote: Result<(), WriteStop>) -> TurnEnd
 }
 
 /// One turn: looks at the run word, waits no time for a buffer, and hands out the one that came.
-pub(crate) fn look_once<R: Wait, C: Clock, G: Gate, K: Sink>(
+pub(crate) fn look_once<R: Wait, C: Clock + Drop, G: Gate, K: Sink, T: Clock + Drop>(
     rt: &R,
     alloc: Global,
     board: &Board,
     pass: &mut Pass,
-    clock: &mut C,
     gate: &G,
-    output: Output,
+    outlet: &mut Outlet<C, T>,
     sink: &mut K,
 ) -> TurnEnd
     requires table { pass.old.table ≡ board_id board.now }
-    ensures turn { TurnsTo result output (C.told clock.old) (C.told clock.new) (K.written sink.old) (K.written sink.new) (K.faults sink.old) (K.faults sink.new) pass.old pass.new }
+    ensures turn { TurnsTo result outlet.old.output (C.told outlet.old.clock) (C.told outlet.new.clock) (K.written sink.old) (K.written sink.new) (K.faults sink.old) (K.faults sink.new) pass.old pass.new }
     ensures hands { SameHands pass.old pass.new }
+    ensures frames { outlet.new.frames ≡ outlet.old.frames }
+    ensures output { outlet.new.output ≡ outlet.old.output }
+    ensures watched { outlet.new.watch.on ≡ outlet.old.watch.on }
 {
     let run = board.look_run(pass);
-    let answer = event_get(rt, board, pass, clock, gate, 0);
+    let answer = event_get(rt, board, pass, &mut outlet.clock, gate, 0);
     pass.witness();
     match answer {
         Ok(loan) => {
-            let complete = loan.buf().rec().complete;
-            let wrote = hand_out(alloc, board, pass, loan, output, sink);
+            let rec = loan.buf().rec();
+            let complete = rec.complete;
+            let len = rec.data_len;
+            let wrote = hand_out(alloc, board, pass, loan, outlet.output, sink);
+            outlet.progress.count(complete, len);
             end_by(complete, wrote)
         }
         Err(_) => {

@@ -1,4 +1,5 @@
 use crate::input_watch::InputWatch;
+use crate::progress::Progress;
 use camera_words::Output;
 
 /// What is wanted of a camera's frames, and what else ends the run.
@@ -12,4 +13,6 @@ pub struct Outlet<C: Drop, T: Drop> {
     pub clock: C,
     /// When an input is looked at whose end ends the run.
     pub watch: InputWatch<T>,
+    /// The lines that tell how the run goes, by the clock of these looks.
+    pub progress: Progress,
 }

@@ -7,7 +7,8 @@ use Rattle.gev_status.specs.declared.status.Status.{Status}
 use Rattle.gev_status.specs.declared.status.Status.TheVariants.{Done, Usage, BadScript, BadCapture, NoPicture, Silent, Controlled, NoDescription, ControlLost, NoDatagram, RefusedAt, ReadFault, WriteFault, LinkFault, NoMemory, NoAnswer, Refused, TurnsSpent}
 use Rattle.gev_live.specs.Told.{Told}
 use Rattle.gev_live.specs.Endings.{Wrote}
-use Rattle.gev_live.specs.LiveRun.{Numbers, LinkFailed, RunsLive}
+use Rattle.gev_live.specs.declared.numbers.Numbers.{Numbers}
+use Rattle.gev_live.specs.LiveRun.{LinkFailed, RunsLive}
 
 pub runs_steady : (n : Numbers) (camera stream : Address) (answer : Status) (o e : Told) (written written_after : Option (List ℕ)) (faults faults_after : ℕ) (h : List Entry)
     → RunsLive n camera stream answer o e written written_after faults faults_after h → answer ≢ LinkFault
@@ -26,7 +27,7 @@ runs_failed n camera stream answer o e written written_after faults faults_after
     go (inr rose) = inr rose
 runs_failed n camera stream answer o e written written_after faults faults_after h (inr none) is = let wanted : answer ≡ NoMemory = none.wanted in absurd (cc)
 
-wrote_steady : (answer : Status) (text : List ℕ) (written written_after : Option (List ℕ)) (faults faults_after : ℕ) → Wrote answer text written written_after faults faults_after → answer ≢ WriteFault → faults_after ≡ faults
+pub wrote_steady : (answer : Status) (text : List ℕ) (written written_after : Option (List ℕ)) (faults faults_after : ℕ) → Wrote answer text written written_after faults faults_after → answer ≢ WriteFault → faults_after ≡ faults
 wrote_steady Done text written written_after faults faults_after wrote ne = wrote.1
 wrote_steady (NoAnswer req) text written written_after faults faults_after wrote ne = wrote.1
 wrote_steady (Refused status) text written written_after faults faults_after wrote ne = wrote.1

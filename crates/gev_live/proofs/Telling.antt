@@ -32,7 +32,8 @@ use Rattle.gev_live.specs.History.{live_size, LiveHistory}
 use Rattle.gev_live.specs.Acquirers.{acquires}
 use Rattle.gev_live.specs.Endings.{taken_of, status_by, EndsSo}
 use Rattle.gev_acq.specs.declared.turn.Turn.{Turn}
-use Rattle.gev_live.specs.LiveRun.{Numbers, LiveRun, NeverRan, RunsLive}
+use Rattle.gev_live.specs.declared.numbers.Numbers.{Numbers}
+use Rattle.gev_live.specs.LiveRun.{LiveRun, NeverRan, RunsLive}
 use Rattle.gev_live.specs.Journal.{JournaledRun, RunsWithJournal}
 use Rattle.gev_live.specs.Ran.{RanCrew}
 use Rattle.gev_live.proofs.Quiet.{one_size}
@@ -171,6 +172,13 @@ ran_with_journal n camera stream answer o e served read taken lines written writ
   run = ran_live n camera stream answer o e served read taken lines written written_after faults faults_after s u saw ran ends;
   journal_is = is;
 }
+
+-- the same, by what is the same
+pub noted_as : (n : Numbers) (camera stream : Address) (answer : Status) (o e f : Told) (written written_after : Option (List ℕ)) (faults faults_after : ℕ) (h : List Entry) (journal kept : List Turn) → f ≡ e → kept ≡ journal
+    → JournaledRun n camera stream answer o e written written_after faults faults_after h journal → JournaledRun n camera stream answer o f written written_after faults faults_after h kept
+noted_as n camera stream answer o e f written written_after faults faults_after h journal kept is same run =
+    subst (λ (l : List Turn). JournaledRun n camera stream answer o f written written_after faults faults_after h l) (sym same)
+    (subst (λ (x : Told). JournaledRun n camera stream answer o x written written_after faults faults_after h journal) (sym is) run)
 
 pub ends_as : (first second status : Status) (lines : List ℕ) (frames taken count : ℕ) (written written_after : Option (List ℕ)) (faults faults_after : ℕ) → first ≡ second → taken ≡ count
     → EndsSo first status (lines ++ live_line frames taken) written written_after faults faults_after → EndsSo second status (lines ++ live_line frames count) written written_after faults faults_after

@@ -5,7 +5,8 @@ use Rattle.gev_links.specs.Links.{Address}
 use Rattle.gev_status.specs.declared.status.Status.{Status}
 use Rattle.gev_acq.specs.declared.turn.Turn.{Turn}
 use Rattle.gev_live.specs.Told.{Told}
-use Rattle.gev_live.specs.LiveRun.{Numbers, LiveRun, NeverRan}
+use Rattle.gev_live.specs.declared.numbers.Numbers.{Numbers}
+use Rattle.gev_live.specs.LiveRun.{LiveRun, NeverRan}
 
 -- The run's reader noted its turns so.
 pub record JournaledRun (n : Numbers) (camera stream : Address) (answer : Status) (o e : Told) (written written_after : Option (List ℕ)) (faults faults_after : ℕ) (h : List Entry) (journal : List Turn) : Type 0 where

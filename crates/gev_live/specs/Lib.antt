@@ -7,3 +7,10 @@ pub mod Parts
 pub mod LiveRun
 pub mod Journal
 pub mod Ran
+pub mod LanesKinds
+pub mod LanesHistory
+pub mod LanesMade
+pub mod LanesParts
+pub mod LanesRun
+pub mod LanesHomes
+pub mod LanesRan

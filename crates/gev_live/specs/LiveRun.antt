@@ -4,7 +4,6 @@ use Rattle.gev_types.specs.declared.memory.NoMemory.{NoMemory}
 use Rattle.board_machine.specs.declared.events.Entry.{Entry}
 use Rattle.board_machine.specs.Histories.{After}
 use Rattle.board_machine.specs.Laws.{IsAlone}
-use Rattle.mode_calls.specs.declared.mode.Mode.{Mode}
 use Rattle.gev_links.specs.Links.{Address}
 use Rattle.gev_report.specs.LiveLine.{live_line}
 use Rattle.gev_serve.specs.declared.ends.ServeEnd.{ServeEnd}
@@ -16,22 +15,11 @@ use Rattle.gev_status.specs.declared.status.Status.TheVariants as status
 use Rattle.live_crew.specs.Prepared.{FallsShort}
 use Rattle.board_machine.specs.Adding.{entries_of}
 use Rattle.board_machine.specs.declared.events.Event.{Event}
+use Rattle.gev_live.specs.declared.numbers.Numbers.{Numbers}
 use Rattle.gev_live.specs.Told.{Told, live_config, live_camera}
 use Rattle.gev_live.specs.History.{Crew, live_size, LiveHistory}
 use Rattle.gev_live.specs.Endings.{taken_of, status_by, is_told, EndsSo}
 use Rattle.gev_live.specs.Parts.{LiveReader, LiveCamera, LiveServes, LiveApplication}
-
--- what is asked of a live run
-pub record Numbers : Type 0 where
-  -- of the generator of the camera's frames
-  pub seed : ℕ
-  -- how many frames are to be handed out
-  pub frames : ℕ
-  pub buffers : ℕ
-  -- the most turns of the reader
-  pub turns : ℕ
-  -- what a new block does with buffers that wait for the application
-  pub mode : Mode
 
 -- no call of a link failed
 pub record LinksStay (o e : Told) : Type 0 where

@@ -1,7 +1,6 @@
 -- What the links and the clocks of a live run tell, and the conditions under which its workers begin.
 use Rattle.std.specs.Prelude.{◌≡◌, ℕ, ◌≤◌, List, [], Option}
-use Rattle.client_machine.specs.Times.{SEND_LIMIT}
-use Rattle.client_machine.specs.Machine.{Client, HasSubmittedNone, new_client}
+use Rattle.client_machine.specs.Machine.{Client}
 use Rattle.acq_core.specs.Receiver.{config_of, buffers, Stands}
 use Rattle.acq_core.specs.declared.window.Window.{Window}
 use Rattle.acq_core.specs.Waiting.{waiting_fills, waiting_requests}
@@ -9,8 +8,13 @@ use Rattle.camera_machine.specs.Camera.{Camera, new_camera}
 use Rattle.acquisition_machine.specs.declared.config.AcqConfig.{AcqConfig}
 use Rattle.gev_types.specs.declared.frame.Shape.{Shape}
 use Rattle.gev_acq.specs.declared.turn.Turn.{Turn}
-use Rattle.gev_serve.specs.Wires.{Wire}
+use Rattle.gev_serve.specs.Wires.{Wire, wire}
+use Rattle.gev_links.specs.Links.{Address, Answer}
 use Rattle.gev_acq.specs.Turns.{Outside}
+use Rattle.lane_crew.specs.declared.acquired.Acquired.{Acquired}
+use Rattle.gev_serve.specs.declared.working.CameraDone.{CameraDone}
+use Rattle.gev_apply.specs.declared.working.ApplicationDone.{ApplicationDone}
+use Rattle.gev_live.specs.declared.ends.Ends.{Ends}
 
 -- how a live run receives: packets of 1500 bytes, two open blocks, 200 and 20 milliseconds, three rounds
 abbrev pub live_config : AcqConfig
@@ -34,20 +38,44 @@ pub record Told : Type 0 where
   pub host_clock : Option (List ℕ)
   pub app_clock : Option (List ℕ)
 
+-- what the links and the clocks of a run tell, by what each link was received, sent and failed, and each clock told
+abbrev pub told_by : {L S C : Type 0} → (L → Option (List Answer)) → (L → Option (List (Address × List ℕ))) → (L → ℕ) → (S → Option (List Answer)) → (S → Option (List (Address × List ℕ))) → (S → ℕ)
+    → (C → Option (List ℕ)) → Ends L S C → Told
+told_by received sent faults stream_received stream_sent stream_faults told ends = record {
+  camera = wire (received ends.camera) (sent ends.camera) (faults ends.camera);
+  stream = wire (stream_received ends.stream) (stream_sent ends.stream) (stream_faults ends.stream);
+  control = wire (received ends.control) (sent ends.control) (faults ends.control);
+  camera_clock = told ends.camera_clock;
+  host_clock = told ends.host_clock;
+  app_clock = told ends.app_clock;
+}
+
+-- the links and clocks that the workers gave back
+abbrev pub ends_back : {L S C : Type 0} → CameraDone L C → Acquired S L C → ApplicationDone C → Ends L S C
+ends_back served acquired applied = record {
+  camera = served.link;
+  stream = acquired.host.stream;
+  control = acquired.host.control;
+  camera_clock = served.clock;
+  host_clock = acquired.host.clock;
+  app_clock = applied.clock;
+}
+
 -- what the reader is told, with its client
 abbrev pub reader_side : Told → Client → Outside
 reader_side t client = record { received = t.stream.received; heard = t.control.received; sent = t.control.sent; told = t.host_clock; client = client }
 
--- The camera, the receiver, the client and the journal are new, and the journal has room for so many turns.
-pub record AreNew (seed turns : ℕ) (camera : Camera) (receiver : Window) (client : Client) (journal : List Turn) (room : ℕ) (lines : List ℕ) : Type 0 where
-  pub camera_is : camera ≡ live_camera seed
+-- A receiver that took nothing yet.
+pub record IsNewReceiver (receiver : Window) : Type 0 where
   pub config : config_of receiver ≡ live_config
   pub stands : Stands receiver []
   pub fills : waiting_fills receiver ≡ []
   pub requests : waiting_requests receiver ≡ []
   pub buffers_none : buffers receiver ≡ []
-  pub client_is : client ≡ new_client SEND_LIMIT
-  pub unsubmitted : HasSubmittedNone client
+
+-- The camera, the receiver and the journal are new, and the journal has room for so many turns.
+pub record AreNew (seed turns : ℕ) (camera : Camera) (receiver : Window) (journal : List Turn) (room : ℕ) : Type 0 where
+  pub camera_is : camera ≡ live_camera seed
+  pub receiver_new : IsNewReceiver receiver
   pub unwritten : journal ≡ []
   pub room_for : turns ≤ room
-  pub no_lines : lines ≡ []

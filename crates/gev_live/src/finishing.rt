@@ -2,15 +2,21 @@
 
 ghost use Rattle.std.specs.Prelude.{◌≡◌, ◌++◌, true};
 ghost use Rattle.gev_report.specs.LiveLine.{live_line};
+ghost use Rattle.gev_live.specs.Told.{ends_back};
 ghost use Rattle.gev_live.specs.Endings.{taken_of, read_status, application_status, camera_status, status_by, is_told, IsAnswer, EndsSo};
 
 use crate::counting::{Tally, tell_counts};
+use crate::ends::Ends;
+use crate::numbers::Numbers;
+use gev_acq::Turn;
+use gev_apply::ApplicationDone;
 use gev_control::AcqEnd;
 use gev_links::{Sink, write_all};
 use gev_report::line_live;
-use gev_serve::ServeEnd;
+use gev_serve::{CameraDone, ServeEnd};
 use gev_status::Status;
 use gev_types::NoMemory;
+use lane_crew::{Acquired, Host};
 use std::alloc::Global;
 
 // The answer by the reader's end, where no link failed and memory was there.
@@ -75,9 +81,9 @@ fn camera_status(
     }
 }
 
-/// The answer of a live run whose workers ended so: a link's failure goes first, then want of memory, then a
-/// command without answer or one that was refused.
-pub fn status_by(
+// The answer of a live run whose workers ended so: a link's failure goes first, then want of memory, then a
+// command without answer or one that was refused.
+fn status_by(
     served: ServeEnd,
     end: AcqEnd,
     frames: u32,
@@ -99,8 +105,8 @@ pub fn status_by(
     }
 }
 
-/// How many buffers were taken; 0 where memory was wanting.
-pub fn taken_of(answer: &Result<u32, NoMemory>) -> u32
+// How many buffers were taken; 0 where memory was wanting.
+fn taken_of(answer: &Result<u32, NoMemory>) -> u32
     ensures { result ≡ taken_of answer.now }
 {
     match answer {
@@ -175,8 +181,8 @@ fn write_told<K: Sink>(
     }
 }
 
-/// Tells what was counted, and writes the lines and the last one, where the workers' answer wants that.
-pub fn finish<K: Sink>(
+// Tells what was counted, and writes the lines and the last one, where the workers' answer wants that.
+fn finish<K: Sink>(
     alloc: Global,
     sink: &mut K,
     first: Status,
@@ -190,4 +196,60 @@ pub fn finish<K: Sink>(
 {
     tell_counts(alloc, sink, tally, &lines, frames, taken);
     write_told(alloc, sink, first, lines, frames, taken)
+}
+
+/// The answer of a run whose workers gave this back, after what was counted was told, and the lines were written where
+/// the answer wants that; with the links and clocks, and the reader's journal.
+pub(crate) fn end_run<L, S, C, K: Sink>(
+    alloc: Global,
+    sink: &mut K,
+    numbers: Numbers,
+    done: (CameraDone<L, C>, Acquired<S, L, C>, ApplicationDone<C>),
+) -> (Status, Ends<L, S, C>, Vec<Turn>)
+    ensures ends { EndsSo (status_by done.0.end done.1.end numbers.frames numbers.turns done.2.answer) result.0 (done.2.lines.items ++ live_line numbers.frames (taken_of done.2.answer))
+        (K.written sink.old) (K.written sink.new) (K.faults sink.old) (K.faults sink.new) }
+    ensures back { result.1 ≡ ends_back done.0 done.1 done.2 }
+    ensures journal { result.2.items ≡ done.1.journal.items }
+{
+    let (watched, acquired, applied) = done;
+    let CameraDone {
+        link: camera,
+        clock: camera_clock,
+        end: served,
+    } = watched;
+    let Acquired {
+        host,
+        journal,
+        counts,
+        shed,
+        end: read,
+    } = acquired;
+    let Host {
+        stream,
+        control,
+        clock: host_clock,
+        client,
+    } = host;
+    let ApplicationDone {
+        clock: app_clock,
+        lines,
+        answer,
+    } = applied;
+    let first = status_by(served, read, numbers.frames, numbers.turns, &answer);
+    let taken = taken_of(&answer);
+    let tally = Tally {
+        counts,
+        gone: client.gone(),
+        shed,
+    };
+    let status = finish(alloc, sink, first, lines, numbers.frames, taken, tally);
+    let ends = Ends {
+        camera,
+        stream,
+        control,
+        camera_clock,
+        host_clock,
+        app_clock,
+    };
+    (status, ends, journal)
 }

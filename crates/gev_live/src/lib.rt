@@ -1,20 +1,26 @@
-//! Live runs: camera, reader and application as threads that share one board.
+//! Live runs: camera, reader and application as threads that share one board, and with several lanes each of these too.
 //!
-//! `specs/History.antt` says what the history of a run is, `specs/Parts.antt` what each worker did,
-//! `specs/Endings.antt` how a run ends, and `specs/LiveRun.antt` all of it together.
+//! `specs/History.antt` says what the history of a run with one lane is, `specs/Parts.antt` what each worker did,
+//! `specs/Endings.antt` how a run ends, and `specs/LiveRun.antt` all of it together. `specs/LanesHistory.antt`,
+//! `specs/LanesParts.antt` and `specs/LanesRun.antt` say the same of a run with more.
 #![tactic(auto)]
 
 mod counting; // what a run lost, as a line
 mod crew; // camera, application, and who acquires, as workers
 mod ends; // the links and clocks of a run
 mod finishing; // the answer, and the lines that are written
+mod lane_passes; // each lane gets a pass
+mod lanes_making; // what reader and lanes begin with
+mod lanes_reading; // a reader with lanes acquires
+mod lanes_running; // the workers of a run with lanes
 mod live; // a run over links and clocks that are handed in
+mod numbers; // what is asked of a run
+mod reader; // a reader as a worker, by one value
 mod reading; // a reader acquires
-mod running; // the workers, and what they gave back
-mod tools; // what the workers work with
+mod running; // the workers of a run with one lane
+mod tools; // what the workers begin with
 
-pub use counting::Tally;
 pub use crew::{ApplicationSide, CameraSide, work_crew};
 pub use ends::Ends;
-pub use finishing::{finish, status_by, taken_of};
 pub use live::{live_over, live_with_journal};
+pub use numbers::Numbers;

@@ -14,20 +14,19 @@ ghost use Rattle.gev_serve.specs.Work.{ServesAndStops};
 ghost use Rattle.gev_apply.specs.Kinds.{is_applications};
 ghost use Rattle.gev_apply.specs.Work.{AppliesAndStops};
 ghost use Rattle.gev_control.specs.Ends.{is_fault_end};
+ghost use Rattle.lane_crew.specs.Hosts.{outside_of};
 ghost use Rattle.gev_acq.specs.Reading.{FaultsOf};
 ghost use Rattle.gev_acq.specs.Kinds.{is_readers};
 ghost use Rattle.gev_acq.specs.Reads.{Reads};
 
 use crate::crew::{ApplicationSide, CameraSide, work_crew};
-use crate::ends::Ends;
-use crate::tools::Tools;
+use crate::reader::{Reader, read_alone};
 use buffer_words::{Board, Pass};
-use gev_acq::{ReadDone, read};
 use gev_apply::ApplicationDone;
 use gev_links::{Clock, Gate, Link};
 use gev_serve::CameraDone;
+use lane_crew::Acquired;
 use live_crew::Worked;
-use mode_calls::Mode;
 use std::alloc::Global;
 use std::sync::Wait;
 use std::thread::Threads;
@@ -44,79 +43,43 @@ pub(crate) fn work_with_reader<
     alloc: Global,
     board: &Board,
     pass: &mut Pass,
-    tools: Tools,
-    ends: Ends<L, S, C>,
     gate: &G,
-    turns: u64,
-    frames: u32,
-    mode: Mode,
-) -> (CameraDone<L, C>, ReadDone<S, L, C>, ApplicationDone<C>)
+    side: CameraSide<L, C>,
+    reader: Reader<S, L, C>,
+    taker: ApplicationSide<C>,
+) -> (CameraDone<L, C>, Acquired<S, L, C>, ApplicationDone<C>)
     requires table { pass.old.table ≡ board_id board.now }
-    requires camera { tools.camera.shelf.count ≡ 0 }
-    requires receiver { Stands tools.acq [] × (waiting_fills tools.acq ≡ []) × (waiting_requests tools.acq ≡ []) × (buffers tools.acq ≡ []) }
-    requires client { HasSubmittedNone tools.client }
-    requires room { vec_len tools.journal + turns ≤ vec_capacity tools.journal }
+    requires camera { side.camera.shelf.count ≡ 0 }
+    requires receiver { Stands reader.acq [] × (waiting_fills reader.acq ≡ []) × (waiting_requests reader.acq ≡ []) × (buffers reader.acq ≡ []) }
+    requires client { HasSubmittedNone reader.host.client }
+    requires room { vec_len reader.journal + reader.turns ≤ vec_capacity reader.journal }
     ensures ran { RanThree
-        (λ given back. ServesAndStops result.0.end tools.camera (wire (L.received ends.camera) (L.sent ends.camera) (L.faults ends.camera))
-        (wire (L.received result.0.link) (L.sent result.0.link) (L.faults result.0.link)) (C.told ends.camera_clock) (C.told result.0.clock) given back × Works is_cameras given back)
-        (λ given back. Reads mode (config_of tools.acq) (L.address ends.camera) (S.address ends.stream)
-        (record { received = S.received ends.stream; heard = L.received ends.control; sent = L.sent ends.control; told = C.told ends.host_clock; client = tools.client })
-        (record { received = S.received result.1.stream; heard = L.received result.1.control; sent = L.sent result.1.control; told = C.told result.1.clock; client = result.1.client })
-        tools.journal.items result.1.journal.items turns result.1.end given back × Works (is_readers mode) given back
-        × FaultsOf (is_fault_end result.1.end) (S.faults ends.stream) (S.faults result.1.stream) (L.faults ends.control) (L.faults result.1.control))
-        (λ given back. AppliesAndStops frames (C.told ends.app_clock) (C.told result.2.clock) tools.lines.items result.2.lines.items result.2.answer given back × Works is_applications given back)
+        (λ given back. ServesAndStops result.0.end side.camera (wire (L.received side.link) (L.sent side.link) (L.faults side.link))
+        (wire (L.received result.0.link) (L.sent result.0.link) (L.faults result.0.link)) (C.told side.clock) (C.told result.0.clock) given back × Works is_cameras given back)
+        (λ given back. Reads reader.mode (config_of reader.acq) reader.camera reader.own (outside_of S.received L.received L.sent C.told reader.host)
+        (outside_of S.received L.received L.sent C.told result.1.host) reader.journal.items result.1.journal.items reader.turns result.1.end given back × Works (is_readers reader.mode) given back
+        × FaultsOf (is_fault_end result.1.end) (S.faults reader.host.stream) (S.faults result.1.host.stream) (L.faults reader.host.control) (L.faults result.1.host.control))
+        (λ given back. AppliesAndStops taker.frames (C.told taker.clock) (C.told result.2.clock) taker.lines.items result.2.lines.items result.2.answer given back × Works is_applications given back)
         pass.old pass.new }
     ensures table { pass.new.table ≡ pass.old.table }
     ensures hands { SameHands pass.old pass.new }
 {
-    let Tools {
-        camera,
-        acq,
-        client,
-        journal,
-        lines,
-    } = tools;
-    let Ends {
-        camera: link,
-        stream,
-        control,
-        camera_clock,
-        host_clock,
-        app_clock,
-    } = ends;
-    let peer = link.peer();
-    let own = stream.peer();
     work_crew(
         rt,
         alloc,
         board,
         pass,
         gate,
-        CameraSide {
-            camera,
-            link,
-            clock: camera_clock,
-        },
-        move |given: Pass| -> Worked<ReadDone<S, L, C>>
-            requires { IsNewPass (board_id board.now) given × Stands acq [] × HasSubmittedNone client × (waiting_fills acq ≡ []) × (waiting_requests acq ≡ []) × (buffers acq ≡ [])
-                × (vec_len journal + turns ≤ vec_capacity journal) }
-            ensures { Reads mode (config_of acq) peer own
-                (record { received = S.received stream; heard = L.received control; sent = L.sent control; told = C.told host_clock; client = client })
-                (record { received = S.received result.done.stream; heard = L.received result.done.control; sent = L.sent result.done.control; told = C.told result.done.clock; client = result.done.client })
-                journal.items result.done.journal.items turns result.done.end given result.pass
-                × Works (is_readers mode) given result.pass
-                × FaultsOf (is_fault_end result.done.end) (S.faults stream) (S.faults result.done.stream) (L.faults control) (L.faults result.done.control)
+        side,
+        move |given: Pass| -> Worked<Acquired<S, L, C>>
+            requires { IsNewPass (board_id board.now) given × Stands reader.acq [] × HasSubmittedNone reader.host.client × (waiting_fills reader.acq ≡ []) × (waiting_requests reader.acq ≡ [])
+                × (buffers reader.acq ≡ []) × (vec_len reader.journal + reader.turns ≤ vec_capacity reader.journal) }
+            ensures { Reads reader.mode (config_of reader.acq) reader.camera reader.own (outside_of S.received L.received L.sent C.told reader.host)
+                (outside_of S.received L.received L.sent C.told result.done.host) reader.journal.items result.done.journal.items reader.turns result.done.end given result.pass
+                × Works (is_readers reader.mode) given result.pass
+                × FaultsOf (is_fault_end result.done.end) (S.faults reader.host.stream) (S.faults result.done.host.stream) (L.faults reader.host.control) (L.faults result.done.host.control)
                 × ComesBack given result.pass }
-        {
-            read(
-                rt, board, given, acq, client, stream, control, host_clock, gate, peer, own,
-                journal, turns, mode,
-            )
-        },
-        ApplicationSide {
-            clock: app_clock,
-            frames,
-            lines,
-        },
+        { read_alone(rt, board, given, gate, reader) },
+        taker,
     )
 }

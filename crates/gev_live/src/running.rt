@@ -1,46 +1,29 @@
-//! The workers of a run, and what they gave back.
+//! The workers of a run.
 
 ghost use Rattle.std.specs.Prelude.{◌≡◌, [], vec_capacity};
 ghost use Rattle.board_machine.specs.Actors.{born};
 ghost use Rattle.buffer_words.specs.Boards.{board_id};
 ghost use Rattle.buffer_words.specs.Passes.{SameHands, own};
-ghost use Rattle.gev_serve.specs.Wires.{wire};
-ghost use Rattle.gev_live.specs.Told.{live_config, live_camera, AreNew};
+ghost use Rattle.gev_live.specs.Told.{live_config, live_camera, told_by, ends_back, AreNew};
 ghost use Rattle.gev_live.specs.Ran.{RanCrew};
 
-use crate::counting::Tally;
+use crate::crew::{ApplicationSide, CameraSide};
 use crate::ends::Ends;
+use crate::numbers::Numbers;
+use crate::reader::Reader;
 use crate::reading::work_with_reader;
-use crate::tools::Tools;
+use acq_core::Acq;
 use buffer_words::{Board, Pass};
-use gev_acq::{ReadDone, Turn};
+use camera_sim::Camera;
+use control_client::Client;
+use gev_acq::Turn;
 use gev_apply::ApplicationDone;
-use gev_control::AcqEnd;
 use gev_links::{Clock, Gate, Link};
-use gev_serve::{CameraDone, ServeEnd};
-use gev_types::NoMemory;
-use mode_calls::Mode;
+use gev_serve::CameraDone;
+use lane_crew::{Acquired, Host};
 use std::alloc::Global;
 use std::sync::Wait;
 use std::thread::Threads;
-
-/// What the workers gave back beside their passes, and how they ended.
-pub(crate) struct CrewDone<L, S, C> {
-    /// The links and clocks.
-    pub(crate) ends: Ends<L, S, C>,
-    /// How the camera ended.
-    pub(crate) served: ServeEnd,
-    /// How the reader ended.
-    pub(crate) read: AcqEnd,
-    /// How many buffers the application took.
-    pub(crate) taken: Result<u32, NoMemory>,
-    /// Their lines.
-    pub(crate) lines: Vec<u8>,
-    /// The reader's turns.
-    pub(crate) journal: Vec<Turn>,
-    /// What was counted.
-    pub(crate) tally: Tally,
-}
 
 /// Runs the workers.
 pub(crate) fn run_crew<
@@ -54,79 +37,57 @@ pub(crate) fn run_crew<
     alloc: Global,
     board: &Board,
     pass: &mut Pass,
-    seed: u64,
-    tools: Tools,
-    ends: Ends<L, S, C>,
     gate: &G,
-    turns: u64,
-    frames: u32,
-    mode: Mode,
-) -> CrewDone<L, S, C>
+    numbers: Numbers,
+    made: (Camera, Acq, Vec<Turn>),
+    ends: Ends<L, S, C>,
+) -> (CameraDone<L, C>, Acquired<S, L, C>, ApplicationDone<C>)
     requires table { pass.old.table ≡ board_id board.now }
     requires first { pass.old.number ≡ 0 }
     requires childless { born (own pass.old) ≡ [] }
-    requires tools { AreNew seed turns tools.camera tools.acq tools.client tools.journal.items (vec_capacity tools.journal) tools.lines.items }
+    requires made { AreNew numbers.seed numbers.turns made.0 made.1 made.2.items (vec_capacity made.2) }
     ensures table { pass.new.table ≡ pass.old.table }
     ensures hands { SameHands pass.old pass.new }
-    ensures ran { (ran : RanCrew mode live_config (live_camera seed) (L.address ends.camera) (S.address ends.stream)
-        (record {
-          camera = wire (L.received ends.camera) (L.sent ends.camera) (L.faults ends.camera);
-          stream = wire (S.received ends.stream) (S.sent ends.stream) (S.faults ends.stream);
-          control = wire (L.received ends.control) (L.sent ends.control) (L.faults ends.control);
-          camera_clock = C.told ends.camera_clock;
-          host_clock = C.told ends.host_clock;
-          app_clock = C.told ends.app_clock;
-        })
-        (record {
-          camera = wire (L.received result.ends.camera) (L.sent result.ends.camera) (L.faults result.ends.camera);
-          stream = wire (S.received result.ends.stream) (S.sent result.ends.stream) (S.faults result.ends.stream);
-          control = wire (L.received result.ends.control) (L.sent result.ends.control) (L.faults result.ends.control);
-          camera_clock = C.told result.ends.camera_clock;
-          host_clock = C.told result.ends.host_clock;
-          app_clock = C.told result.ends.app_clock;
-        })
-        frames turns result.served result.read result.taken result.lines.items pass.old pass.new) × (ran.journal ≡ result.journal.items) }
+    ensures ran { (ran : RanCrew numbers.mode live_config (live_camera numbers.seed) (L.address ends.camera) (S.address ends.stream)
+        (told_by L.received L.sent L.faults S.received S.sent S.faults C.told ends)
+        (told_by L.received L.sent L.faults S.received S.sent S.faults C.told (ends_back result.0 result.1 result.2))
+        numbers.frames numbers.turns result.0.end result.1.end result.2.answer result.2.lines.items pass.old pass.new) × (ran.journal ≡ result.1.journal.items) }
 {
-    let (watched, told, applied) = work_with_reader(
-        rt, alloc, board, pass, tools, ends, gate, turns, frames, mode,
-    );
-    let CameraDone {
-        link: camera,
-        clock: camera_clock,
-        end: served,
-    } = watched;
-    let ReadDone {
-        client,
+    let Ends {
+        camera: link,
+        stream,
+        control,
+        camera_clock,
+        host_clock,
+        app_clock,
+    } = ends;
+    let peer = link.peer();
+    let own = stream.peer();
+    let host = Host {
         stream,
         control,
         clock: host_clock,
+        client: Client::new(),
+    };
+    let (camera, acq, journal) = made;
+    let reader = Reader {
+        acq,
+        host,
+        camera: peer,
+        own,
         journal,
-        counts,
-        end: read,
-    } = told;
-    let ApplicationDone {
+        turns: numbers.turns,
+        mode: numbers.mode,
+    };
+    let side = CameraSide {
+        camera,
+        link,
+        clock: camera_clock,
+    };
+    let taker = ApplicationSide {
         clock: app_clock,
-        lines,
-        answer: taken,
-    } = applied;
-    CrewDone {
-        ends: Ends {
-            camera,
-            stream,
-            control,
-            camera_clock,
-            host_clock,
-            app_clock,
-        },
-        served,
-        read,
-        taken,
-        lines,
-        journal,
-        tally: Tally {
-            counts,
-            gone: client.gone(),
-            shed: None,
-        },
-    }
+        frames: numbers.frames,
+        lines: Vec::new(alloc),
+    };
+    work_with_reader(rt, alloc, board, pass, gate, side, reader, taker)
 }

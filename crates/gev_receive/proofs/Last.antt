@@ -10,6 +10,6 @@ pub with_line : (output : Output) (first answer : Status) (counts last : Receive
     → has_last output first ≡ true → last ≡ with_strangers counts strangers
     → WritesLast first (receive_line last) written written_after faults faults_after answer
     → Finishes output first answer counts strangers written written_after faults faults_after
-with_line output first answer counts last strangers written written_after faults faults_after is same wrote =
+with_line output first answer counts last strangers written written_after faults faults_after is same wrote_so =
     subst (λ (b : Bool). EndsWith b first answer (receive_line (with_strangers counts strangers)) written written_after faults faults_after) (sym is)
-    (subst (λ (l : ReceiveCounts). WritesLast first (receive_line l) written written_after faults faults_after answer) same wrote)
+    (subst (λ (l : ReceiveCounts). WritesLast first (receive_line l) written written_after faults faults_after answer) same wrote_so)

@@ -1,37 +1,58 @@
--- The camera was let go.
+-- The camera was taken and let go.
 use Rattle.std.proofs.Common.{◌≡◌, ℕ, Bool, true, false, List, Option, Result, refl, sym, subst}
 use Rattle.client_machine.specs.Machine.{Client}
 use Rattle.gev_links.specs.Links.{Address, Answer}
+use Rattle.gev_control.specs.CarriesOut.{ControlSide}
 use Rattle.camera_control.specs.declared.control_end.ControlEnd.{ControlEnd}
 use Rattle.camera_control.specs.declared.register_write.RegisterWrite.{RegisterWrite}
-use Rattle.camera_control.specs.Taking.{Leaves}
+use Rattle.camera_control.specs.declared.taken.Taken.{Taken}
+use Rattle.camera_control.specs.declared.taken.NotTaken.{NotTaken}
+use Rattle.camera_control.specs.Taking.{Takes, Leaves, FailsAs}
 use Rattle.camera_words.specs.declared.settings.Settings.{Settings}
-use Rattle.camera_words.specs.declared.register_write.Stage.TheVariants.{Stop}
+use Rattle.camera_words.specs.declared.register_write.Stage.TheVariants.{Set, Start, Stop}
 use Rattle.gev_status.specs.declared.status.Status.{Status}
-use Rattle.gev_receive.specs.Answers.{leave_status, weightier}
+use Rattle.gev_receive.specs.Answers.{leave_status, weightier, is_lost}
 use Rattle.gev_receive.specs.Starting.{writes_at}
-use Rattle.gev_receive.specs.Receives.{LeavesUnless}
+use Rattle.gev_receive.specs.Receives.{wish_of, TakesBy, LeavesUnless, LeavesHeld}
+
+pub takes_so : (settings : Settings) (camera own : Address) (o n : ControlSide) (found : Result Taken NotTaken) (sets starts : List RegisterWrite)
+    → sets ≡ writes_at Set settings.writes.items → starts ≡ writes_at Start settings.writes.items
+    → Takes camera (wish_of settings own) sets starts o n found → TakesBy settings camera own o n found
+takes_so settings camera own o n found sets starts sets_are starts_are takes =
+    subst (λ (k : List RegisterWrite). Takes camera (wish_of settings own) (writes_at Set settings.writes.items) k o n found) starts_are
+    (subst (λ (k : List RegisterWrite). Takes camera (wish_of settings own) k starts o n found) sets_are takes)
 
 pub leaves_so : (b : Bool) (settings : Settings) (camera : Address) (heartbeat : Bool) (frames : ℕ) (first answer : Status) (r q t : Option (List Answer))
-    (w v x : Option (List (Address × List ℕ))) (d e : Option (List ℕ)) (s u : Client) (stops : List RegisterWrite) (result : Result (Unit {0}) ControlEnd)
-    → b ≡ false → q ≡ r → v ≡ w → stops ≡ writes_at Stop settings.writes.items
+    (w v x : Option (List (Address × List ℕ))) (d e : Option (List ℕ)) (s u : Client) (stops : List RegisterWrite) (faults faults_mid faults_after : ℕ)
+    (result : Result (Unit {0}) ControlEnd)
+    → b ≡ false → q ≡ r → v ≡ w → stops ≡ writes_at Stop settings.writes.items → faults_mid ≡ faults
     → Leaves camera heartbeat stops (record { heard = q; sent = v; told = d; client = s }) (record { heard = t; sent = x; told = e; client = u }) result
-    → answer ≡ weightier first (leave_status result frames)
-    → LeavesUnless b settings camera heartbeat frames first (record { heard = r; sent = w; told = d; client = s }) (record { heard = t; sent = x; told = e; client = u }) answer
-leaves_so b settings camera heartbeat frames first answer r q t w v x d e s u stops result unlost heard sent are leaves is =
-    subst (λ (k : Bool). LeavesUnless k settings camera heartbeat frames first (record { heard = r; sent = w; told = d; client = s }) (record { heard = t; sent = x; told = e; client = u }) answer) (sym unlost) (
+    → FailsAs result faults_mid faults_after → answer ≡ weightier first (leave_status result frames)
+    → LeavesUnless b settings camera heartbeat frames first (record { heard = r; sent = w; told = d; client = s }) (record { heard = t; sent = x; told = e; client = u })
+    faults faults_after answer
+leaves_so b settings camera heartbeat frames first answer r q t w v x d e s u stops faults faults_mid faults_after result unlost heard sent are same leaves fails is =
+    subst (λ (k : Bool). LeavesUnless k settings camera heartbeat frames first (record { heard = r; sent = w; told = d; client = s }) (record { heard = t; sent = x; told = e; client = u }) faults faults_after answer) (sym unlost) (
       result,
       (
         subst (λ (k : Option (List Answer)). Leaves camera heartbeat (writes_at Stop settings.writes.items) (record { heard = k; sent = w; told = d; client = s }) (record { heard = t; sent = x; told = e; client = u }) result) heard
             (subst (λ (k : Option (List (Address × List ℕ))). Leaves camera heartbeat (writes_at Stop settings.writes.items) (record { heard = q; sent = k; told = d; client = s }) (record { heard = t; sent = x; told = e; client = u }) result) sent
             (subst (λ (k : List RegisterWrite). Leaves camera heartbeat k (record { heard = q; sent = v; told = d; client = s }) (record { heard = t; sent = x; told = e; client = u }) result) are leaves)),
+        subst (λ (k : ℕ). FailsAs result k faults_after) same fails,
         is,
       ),
     )
 
-pub leaves_none : (b : Bool) (settings : Settings) (camera : Address) (heartbeat : Bool) (frames : ℕ) (first : Status) (r : Option (List Answer))
-    (w : Option (List (Address × List ℕ))) (d : Option (List ℕ)) (s : Client) → b ≡ true
-    → LeavesUnless b settings camera heartbeat frames first (record { heard = r; sent = w; told = d; client = s }) (record { heard = r; sent = w; told = d; client = s }) first
-leaves_none b settings camera heartbeat frames first r w d s lost =
-    subst (λ (k : Bool). LeavesUnless k settings camera heartbeat frames first (record { heard = r; sent = w; told = d; client = s }) (record { heard = r; sent = w; told = d; client = s }) first) (sym lost)
-    (refl, refl)
+pub leaves_none : (b : Bool) (settings : Settings) (camera : Address) (heartbeat : Bool) (frames : ℕ) (first : Status) (o : ControlSide) (faults : ℕ) → b ≡ true
+    → LeavesUnless b settings camera heartbeat frames first o o faults faults first
+leaves_none b settings camera heartbeat frames first o faults lost =
+    subst (λ (k : Bool). LeavesUnless k settings camera heartbeat frames first o o faults faults first) (sym lost) (refl, refl, refl)
+
+pub held_so : (held : Bool) (settings : Settings) (camera : Address) (first answer : Status) (o n : ControlSide) (faults faults_after : ℕ) → held ≡ true
+    → LeavesUnless (is_lost first) settings camera false 0 first o n faults faults_after answer → LeavesHeld held settings camera first o n faults faults_after answer
+held_so held settings camera first answer o n faults faults_after is leaves =
+    subst (λ (k : Bool). LeavesHeld k settings camera first o n faults faults_after answer) (sym is) leaves
+
+pub held_none : (held : Bool) (settings : Settings) (camera : Address) (first : Status) (o : ControlSide) (faults : ℕ) → held ≡ false
+    → LeavesHeld held settings camera first o o faults faults first
+held_none held settings camera first o faults is =
+    subst (λ (k : Bool). LeavesHeld k settings camera first o o faults faults first) (sym is) (refl, refl, refl)

@@ -1,6 +1,9 @@
 pub mod ReaderWork
 pub mod RanAll
-pub mod Told
-pub mod ByForm
 pub mod Leaving
 pub mod Last
+pub mod Alone
+pub mod Standing
+pub mod Bound
+pub mod MeetingLaws
+pub mod Over

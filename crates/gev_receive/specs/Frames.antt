@@ -1,5 +1,5 @@
 -- The frames of a stream whose first leader came: the history of the run's board, what each worker did, and how that ended.
-use Rattle.std.specs.Prelude.{◌≡◌, ◌≢◌, ◌⊎◌, ⊤, ℕ, ◌+◌, ◌-◌, ◌^◌, ◌≤◌, min, Bool, true, false, List, [], ◌∷◌, ◌++◌, length, drop, Option, Some, None, Result}
+use Rattle.std.specs.Prelude.{◌≡◌, ◌⊎◌, ℕ, ◌≤◌, Bool, false, List, [], ◌∷◌, ◌++◌, length, Option, Some, None, Result}
 use Rattle.board_machine.specs.declared.events.Entry.{Entry}
 use Rattle.board_machine.specs.declared.events.Event.{Event}
 use Rattle.board_machine.specs.declared.events.Event.TheVariants.{Stop}
@@ -12,18 +12,16 @@ use Rattle.board_machine.specs.Laws.{IsAlone}
 use Rattle.board_machine.specs.Actors.{AllBy}
 use Rattle.board_machine.specs.Adding.{entries_of}
 use Rattle.buffer_words.specs.Workers.{AreOf, OnlyBy}
-use Rattle.live_crew.specs.Prepared.{Prepares, FallsShort}
+use Rattle.live_crew.specs.Prepared.{Prepares}
 use Rattle.mode_calls.specs.declared.mode.Mode.{Mode}
 use Rattle.acquisition_machine.specs.declared.config.AcqConfig.{AcqConfig}
 use Rattle.acquisition_machine.specs.declared.counts.Counts.{Counts}
 use Rattle.acquisition_machine.specs.Machine.{tick, stop}
 use Rattle.acquisition_machine.specs.Runs.{After as AfterInputs}
-use Rattle.acq_core.specs.Standing.{capped}
 use Rattle.block_fills.specs.Fills.{tried, retired_items}
-use Rattle.gev_links.specs.Links.{Address, Answer}
+use Rattle.gev_links.specs.Links.{Address}
 use Rattle.gev_links.specs.Moments.{TellsEach}
 use Rattle.gev_links.specs.Told.{Drops}
-use Rattle.link_filters.specs.Wide.{HasTold, CountsRefused}
 use Rattle.gev_acq.specs.Serving.{Serves}
 use Rattle.gev_acq.specs.Claims.{claims_in, claims_by}
 use Rattle.gev_acq.specs.Turns.{Turned, Outside}
@@ -40,7 +38,6 @@ use Rattle.camera_words.specs.declared.settings.Output.{Output}
 use Rattle.camera_reader.specs.declared.reader_end.ReaderEnd.{ReaderEnd}
 use Rattle.camera_reader.specs.Reading.{is_fault}
 use Rattle.first_leader.specs.declared.leading.FirstLeader.{FirstLeader}
-use Rattle.first_leader.specs.Waiting.{WaitSide}
 use Rattle.frame_writing.specs.declared.handed_out.HandedOut.{HandedOut}
 use Rattle.frame_writing.specs.Texts.{complete_in}
 use Rattle.frame_writing.specs.HandsOut.{EndsBy}
@@ -48,11 +45,9 @@ use Rattle.frame_writing.specs.Work.{has_enough}
 use Rattle.gev_status.specs.declared.status.Status.{Status}
 use Rattle.gev_status.specs.declared.status.Status.TheVariants as status
 use Rattle.packet_requests.specs.declared.id_mode.IdMode.{IdMode}
-use Rattle.packet_requests.specs.declared.id_mode.IdMode.TheVariants as ids
 use Rattle.receive_lines.specs.declared.receive_counts.ReceiveCounts.{ReceiveCounts}
 use Rattle.gev_receive.specs.Answers.{reader_status, handed_status, weightier}
 use Rattle.gev_receive.specs.Starting.{config_of, mode_of, buffer_size, leader_counts, with_counts}
-use Rattle.gev_receive.specs.Forms.{heard_as}
 use Rattle.buffer_words.specs.Passes.{Token, own}
 use Rattle.buffer_words.specs.Workers.{Works}
 use Rattle.board_machine.specs.Actors.{born}
@@ -112,12 +107,13 @@ pub record CameraReading (mode : Mode) (c : AcqConfig) (n : ℕ) (end : ReaderEn
 -- The reader, actor k: it made these turns, served the receiver's inputs by the mode, stopped the receiver and then the
 -- run. What it put into the output is what its inputs and the stop retire, in order; each buffer that it claimed has the
 -- run's size.
-pub record CameraReader (mode : Mode) (c : AcqConfig) (camera : Address) (silence size : ℕ) (o n : Outside) (k : ℕ) (end : ReaderEnd) (h : List Entry) : Type 0 where
+pub record CameraReader (mode : Mode) (c : AcqConfig) (ids : IdMode) (camera : Address) (silence size : ℕ) (o n : Outside) (k : ℕ) (end : ReaderEnd) (h : List Entry) : Type 0 where
   pub begin : ℕ
+  pub refused : ℕ
   pub made : List Turned
   pub turned : List Event
   pub last : List Event
-  pub on : ReadsOn mode c camera silence begin o n end made turned last
+  pub on : ReadsOn mode c ids camera silence begin o n refused end made turned last
   pub reading : CameraReading mode c k end begin made h
   pub fills : tried (own_of k h) ≡ retired_items c (inputs_from begin made ++ stop ∷ [])
   pub sized : AreSized size (claims_in (inputs_in made))
@@ -141,26 +137,12 @@ pub record FramesApplication (mode : Mode) (output : Output) (frames k : ℕ) (h
 
 -- ---- both
 
--- what the reader is told, by the form of the stream's identifiers
-abbrev pub reader_side : IdMode → ℕ → WaitSide → Outside
-reader_side form before s =
-    record { received = heard_as form before s.received; heard = s.heard; sent = s.sent; told = s.told; client = s.client }
-
--- So many datagrams were refused in widening, where the stream has standard identifiers.
-abbrev pub CountsUnwidened : IdMode → ℕ → Option (List Answer) → ℕ → Type 0
-CountsUnwidened ids.Standard before received count = CountsRefused before received count
-CountsUnwidened ids.Extended before received count = count ≡ 0
-
--- with the datagrams that were refused in widening
-abbrev pub with_refused : ReceiveCounts → ℕ → ReceiveCounts
-with_refused counts refused = record counts { foreign = min (counts.foreign + refused) (2 ^ 64 - 1) }
-
 -- What the reader did and what the application did, each with a pass that was split off: this is known of both together.
 abbrev pub RanBoth : Settings → Address → FirstLeader → Bool → Outside → Outside → ℕ → ℕ → ℕ → ℕ → Counts → ReaderEnd → Option (List ℕ) → Option (List ℕ)
     → HandedOut → Option (List ℕ) → Option (List ℕ) → ℕ → ℕ → Option (List ℕ) → Option (List ℕ) → ℕ → ℕ → Token → Token → Type 0
 RanBoth settings camera leader resends o n stream stream_after control control_after counts read app app_after handed written written_after faults faults_after input left misses misses_after s u =
     RanTwo
-    (λ given back. ReadsFrames (mode_of settings.mode) (config_of settings leader resends) camera settings.silence o n counts read given back
+    (λ given back. ReadsFrames (mode_of settings.mode) (config_of settings leader resends) leader.ids camera settings.silence o n counts read given back
     × Works (is_readers (mode_of settings.mode)) given back × FaultsOf (is_fault read) stream stream_after control control_after)
     (λ given back. HandsOutAndStops settings.frames settings.output app app_after handed given back written written_after faults faults_after settings.until_input_ends left
     × Works is_applications given back × Drops input left × (misses_after ≡ misses))
@@ -184,7 +166,7 @@ pub record RanFrames (settings : Settings) (camera : Address) (leader : FirstLea
   pub answered : answer ≡ weightier (handed_status handed.end) (reader_status read settings.frames handed.taken)
   pub counts_are : counts ≡ with_counts (leader_counts settings leader) handed.taken handed.complete counted
 
--- Memory was wanting before they ran: nothing was received, sent or written.
+-- Memory or a thread was wanting before they ran: nothing was received, sent or written.
 pub record NeverRan (settings : Settings) (leader : FirstLeader) (o n : Outside) (stream stream_after control control_after : ℕ) (app app_after : Option (List ℕ))
     (written written_after : Option (List ℕ)) (faults faults_after : ℕ) (input left : Option (List ℕ)) (misses misses_after : ℕ) (answer : Status) (counts : ReceiveCounts) : Type 0 where
   pub wanted : answer ≡ status.NoMemory
@@ -209,24 +191,10 @@ Runs settings camera leader resends o n stream stream_after control control_afte
     RanFrames settings camera leader resends o n stream stream_after control control_after app app_after written written_after faults faults_after input left misses misses_after answer counts h
     ⊎ NeverRan settings leader o n stream stream_after control control_after app app_after written written_after faults faults_after input left misses misses_after answer counts
 
--- what the reader is told over links that give a stream in this form; what the control link sends isn't told there
-abbrev pub heard_side : IdMode → ℕ → Outside → Outside
-heard_side form before o = record o { received = heard_as form before o.received; sent = None }
-
--- the numbers with the datagrams that were refused in widening, where there is widening
-abbrev pub counts_as : IdMode → ReceiveCounts → ℕ → ReceiveCounts
-counts_as ids.Standard counts refused = with_refused counts refused
-counts_as ids.Extended counts refused = counts
-
--- The same over a stream whose identifiers have this form: so many answers were told before it was heard so.
+-- The same over a stream whose identifiers have this form.
 pub record RunsAs (form : IdMode) (settings : Settings) (camera : Address) (leader : FirstLeader) (resends : Bool) (o n : Outside)
     (stream stream_after control control_after : ℕ) (app app_after : Option (List ℕ)) (written written_after : Option (List ℕ)) (faults faults_after : ℕ)
     (input left : Option (List ℕ)) (misses misses_after : ℕ) (answer : Status) (counts : ReceiveCounts) (h : List Entry) : Type 0 where
-  pub before : ℕ
-  pub told : HasTold before o.received
-  pub refused : ℕ
-  pub unwidened : CountsUnwidened form before n.received refused
-  pub counted : ReceiveCounts
-  pub runs : Runs settings camera leader resends (heard_side form before o) (heard_side form before n) stream stream_after control control_after app app_after
-      written written_after faults faults_after input left misses misses_after answer counted h
-  pub counts_are : counts ≡ counts_as form counted refused
+  pub form_is : leader.ids ≡ form
+  pub runs : Runs settings camera leader resends o n stream stream_after control control_after app app_after written written_after faults faults_after
+      input left misses misses_after answer counts h

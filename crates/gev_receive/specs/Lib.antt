@@ -2,6 +2,6 @@ pub mod Answers
 pub mod Starting
 pub mod Ending
 pub mod Reader
-pub mod Forms
 pub mod Frames
+pub mod Bound
 pub mod Receives

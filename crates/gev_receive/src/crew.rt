@@ -16,9 +16,10 @@ ghost use Rattle.frame_writing.specs.Work.{HandsOutAndStops};
 ghost use Rattle.gev_receive.specs.Reader.{ReadsFrames};
 
 use crate::host::Host;
-use crate::reading::{ReadDone, ReaderWords, read_frames};
+use crate::reading::{ReadDone, read_frames};
 use acq_core::Acq;
 use buffer_words::{Board, Pass};
+use camera_reader::ReaderWords;
 use frame_writing::{FramesDone, Outlet, work_frames};
 use gev_links::{Clock, Gate, Link, Sink, Source};
 use live_crew::{Worked, run_two};
@@ -51,8 +52,9 @@ fn take_back<T>(lent: &mut T)
     ensures { lent.new ≡ lent.old }
 {}
 
-/// Reader and application at the same time, the application on this thread. Where no thread can be made the reader comes
-/// behind the application, which waits for it then until its input ends.
+/// Reader and application at the same time, the application on this thread. The caller has seen that a thread can be made;
+/// where the system gives the last one to another process in between the reader comes behind the application, which waits
+/// for it then until its input ends.
 pub(crate) fn work_two<
     R: Threads + Wait + Sync,
     S: Link + Send + Drop,
@@ -74,7 +76,7 @@ pub(crate) fn work_two<
     requires table { pass.old.table ≡ board_id board.now }
     requires receiver { Stands crew.acq [] × (waiting_fills crew.acq ≡ []) × (waiting_requests crew.acq ≡ []) }
     ensures ran { RanTwo
-        (λ given back. ReadsFrames crew.words.mode (config_of crew.acq) crew.words.camera crew.words.silence
+        (λ given back. ReadsFrames crew.words.mode (config_of crew.acq) crew.words.ids crew.words.camera crew.words.silence
         (record { received = S.received crew.host.stream; heard = M.received crew.host.control; sent = M.sent crew.host.control; told = C.told crew.host.clock; client = crew.host.client })
         (record { received = S.received result.0.host.stream; heard = M.received result.0.host.control; sent = M.sent result.0.host.control; told = C.told result.0.host.clock; client = result.0.host.client })
         result.0.counts result.0.end given back × Works (is_readers crew.words.mode) given back
@@ -100,7 +102,7 @@ pub(crate) fn work_two<
         pass,
         move |given: Pass| -> Worked<ReadDone<S, M, C>>
             requires { IsNewPass (board_id board.now) given × Stands acq [] × (waiting_fills acq ≡ []) × (waiting_requests acq ≡ []) }
-            ensures { ReadsFrames words.mode (config_of acq) words.camera words.silence
+            ensures { ReadsFrames words.mode (config_of acq) words.ids words.camera words.silence
                 (record { received = S.received host.stream; heard = M.received host.control; sent = M.sent host.control; told = C.told host.clock; client = host.client })
                 (record { received = S.received result.done.host.stream; heard = M.received result.done.host.control; sent = M.sent result.done.host.control; told = C.told result.done.host.clock; client = result.done.host.client })
                 result.done.counts result.done.end given result.pass

@@ -1,7 +1,8 @@
 //! The frames of a stream whose first leader came.
 
-ghost use Rattle.std.specs.Prelude.{◌≡◌, option_map};
+ghost use Rattle.std.specs.Prelude.{◌≡◌, None, option_map, IfSome};
 ghost use Rattle.board_machine.specs.Histories.{After};
+ghost use Rattle.board_machine.specs.Laws.{IsAlone};
 ghost use Rattle.buffer_words.specs.Boards.{board_id};
 ghost use Rattle.camera_words.specs.Receiving.{IsInRange};
 ghost use Rattle.gev_receive.specs.Answers.{reader_status, handed_status, weightier as heavier};
@@ -12,12 +13,13 @@ use crate::answers::{handed_status, reader_status, weightier};
 use crate::crew::{Crew, work_two};
 use crate::host::Host;
 use crate::ran::Ran;
-use crate::reading::{ReadDone, ReaderWords};
+use crate::reading::ReadDone;
 use crate::starting::{buffer_size, config_of, leader_counts, mode_of, with_counts};
+use crate::threads::has_thread;
 use acq_core::Acq;
 use acquisition_machine::Counts;
 use buffer_words::{Board, Pass};
-use camera_reader::ReaderEnd;
+use camera_reader::{ReaderEnd, ReaderWords};
 use camera_words::Settings;
 use first_leader::FirstLeader;
 use frame_writing::{FramesDone, HandedOut, Outlet};
@@ -70,7 +72,8 @@ fn ran_none(asked: Asked<'_>, status: Status) -> Ran
     }
 }
 
-/// Receives and hands out the frames over these links.
+/// Receives and hands out the frames over these links; `NoMemory` where memory or a thread is wanting before anything is
+/// received.
 pub(crate) fn run_frames<
     R: Threads + Wait + Sync,
     S: Link + Send + Drop,
@@ -94,6 +97,9 @@ pub(crate) fn run_frames<
     requires frames { outlet.frames ≡ asked.settings.now.frames }
     requires output { outlet.output ≡ asked.settings.now.output }
     requires watch { outlet.watch.on ≡ asked.settings.now.until_input_ends }
+    requires unkept { kept.old ≡ None }
+    ensures alone { IfSome kept.new (λ k. IsAlone (After k.1.seen) 0) }
+    ensures own { IfSome kept.new (λ k. k.1.table ≡ board_id k.0) }
     ensures runs { Runs asked.entry.settings.now asked.entry.camera asked.entry.leader asked.entry.resends
         (record { received = S.received host.stream; heard = M.received host.control; sent = M.sent host.control; told = C.told host.clock; client = host.client })
         (record { received = S.received result.1.stream; heard = M.received result.1.control; sent = M.sent result.1.control; told = C.told result.1.clock; client = result.1.client })
@@ -107,6 +113,9 @@ pub(crate) fn run_frames<
         leader,
         resends,
     } = asked;
+    if !has_thread(rt) {
+        return (ran_none(asked, Status::NoMemory), host, outlet);
+    }
     let Ok(acq) = Acq::new(alloc, config_of(settings, leader, resends)) else {
         return (ran_none(asked, Status::NoMemory), host, outlet);
     };
@@ -120,6 +129,7 @@ pub(crate) fn run_frames<
     }
     let words = ReaderWords {
         camera,
+        ids: leader.ids,
         silence: u64::from(settings.silence),
         mode: mode_of(settings.mode),
     };

@@ -4,13 +4,12 @@ ghost use Rattle.std.specs.Prelude.{◌≡◌};
 ghost use Rattle.first_leader.specs.Waiting.{AwaitsLeader, InputOf, FaultsOf, is_fault};
 
 use crate::host::Host;
-use crate::noticing::{Noticing, foreign_line};
+use crate::noticing::{Foreign, Noticing, foreign_line};
 use camera_words::Settings;
 use first_leader::{FirstLeader, NoLeader, Patience, await_leader};
 use gev_far::PeekLink;
 use gev_links::{Clock, Sink, Source};
 use gev_types::Peer;
-use gvsp_wire::WireError;
 use std::alloc::Global;
 use std::sync::Wait;
 
@@ -20,7 +19,7 @@ fn tell_foreign<K: Sink>(
     alloc: Global,
     sink: &mut K,
     found: &Result<FirstLeader, NoLeader>,
-    last: Option<WireError>,
+    last: Option<Foreign>,
 )
     ensures written { K.written sink.new ≡ K.written sink.old }
     ensures faults { K.faults sink.new ≡ K.faults sink.old }
@@ -29,8 +28,8 @@ fn tell_foreign<K: Sink>(
         Err(NoLeader::Silent) => {}
         _ => return,
     }
-    if let Some(error) = last {
-        match foreign_line(alloc, error) {
+    if let Some(foreign) = last {
+        match foreign_line(alloc, foreign) {
             Ok(line) => sink.tell(line.as_bytes()),
             Err(_) => {}
         }

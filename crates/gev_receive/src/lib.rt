@@ -3,8 +3,8 @@
 #![tactic(auto)]
 
 mod answers; // how a run ends, of several causes
-mod asking; // a control link on which packets are asked for again
 mod crew; // reader and application as threads
+mod drops; // datagrams that the system dropped
 mod ending; // the last line
 mod forms; // the frames of a stream, by its identifiers
 mod frames; // the frames of a stream
@@ -16,6 +16,8 @@ mod ran; // how the part between went
 mod reading; // the reader's worker
 mod receiving; // a run over ports
 mod starting; // what a stream is received with
+mod threads; // whether a thread can be made
+mod tools; // what ports give and get back
 mod writes; // the writes of each stage
 
 pub use receiving::receive_over;

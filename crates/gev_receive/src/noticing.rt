@@ -15,16 +15,25 @@ const ROOM: usize = 9000;
 /// The room for a datagram that was widened.
 const WIDE_ROOM: usize = ROOM + 12;
 
+/// Why a datagram is no packet.
+#[derive(Clone, Copy)]
+pub(crate) enum Foreign {
+    /// It can't be read as one.
+    Unread(WireError),
+    /// It has standard identifiers, and the block with this one would be before the first.
+    Before(u16),
+}
+
 /// Why bytes are no packet, if they aren't.
-fn refusal(bytes: &[u8]) -> Option<WireError> {
+fn refusal(bytes: &[u8]) -> Option<Foreign> {
     match parse(bytes) {
         Ok(_) => None,
-        Err(error) => Some(error),
+        Err(error) => Some(Foreign::Unread(error)),
     }
 }
 
 /// Why a datagram is no packet, if it isn't; of one with standard identifiers its form with extended ones.
-fn foreign_in(bytes: &[u8]) -> Option<WireError>
+fn foreign_in(bytes: &[u8]) -> Option<Foreign>
     requires { length bytes.now ≤ 9000 }
 {
     let mut wide = [0; WIDE_ROOM];
@@ -33,13 +42,13 @@ fn foreign_in(bytes: &[u8]) -> Option<WireError>
         Ok(len) => refusal(&wide[..len.min(ROOM)]),
         Err(StdError::Short(_)) => refusal(bytes),
         Err(StdError::Extended) => refusal(bytes),
-        Err(StdError::Zero) => Some(WireError::ZeroBlock),
-        Err(StdError::Before(_)) => None,
+        Err(StdError::Zero) => Some(Foreign::Unread(WireError::ZeroBlock)),
+        Err(StdError::Before(id)) => Some(Foreign::Before(id)),
     }
 }
 
-/// What is said of it.
-fn cause_text(alloc: Global, error: WireError) -> Result<String, AllocError> {
+/// What is said of bytes that can't be read.
+fn error_text(alloc: Global, error: WireError) -> Result<String, AllocError> {
     match error {
         WireError::Short(len) => format!(in alloc; "short={len}"),
         WireError::Standard => format!(in alloc; "standard"),
@@ -51,9 +60,17 @@ fn cause_text(alloc: Global, error: WireError) -> Result<String, AllocError> {
     }
 }
 
+/// What is said of a datagram that is no packet.
+fn cause_text(alloc: Global, foreign: Foreign) -> Result<String, AllocError> {
+    match foreign {
+        Foreign::Unread(error) => error_text(alloc, error),
+        Foreign::Before(id) => format!(in alloc; "before={id}"),
+    }
+}
+
 /// The line for standard error.
-pub(crate) fn foreign_line(alloc: Global, error: WireError) -> Result<String, AllocError> {
-    let cause = cause_text(alloc, error)?;
+pub(crate) fn foreign_line(alloc: Global, foreign: Foreign) -> Result<String, AllocError> {
+    let cause = cause_text(alloc, foreign)?;
     format!(in alloc; "gevacq: no leader came, the last foreign datagram: {cause}\n")
 }
 
@@ -61,7 +78,7 @@ pub(crate) fn foreign_line(alloc: Global, error: WireError) -> Result<String, Al
 #[derive(Drop)]
 pub(crate) struct Noticing<L: Link> {
     inner: L,
-    last: Option<WireError>,
+    last: Option<Foreign>,
 }
 
 impl<L: Link> Noticing<L> {
@@ -73,7 +90,7 @@ impl<L: Link> Noticing<L> {
     }
 
     /// The link it stands on, and why the last datagram that is no packet isn't one.
-    pub(crate) fn apart(self) -> (L, Option<WireError>)
+    pub(crate) fn apart(self) -> (L, Option<Foreign>)
         ensures { result.0 ≡ self.inner }
     {
         let Noticing { inner, last } = self;

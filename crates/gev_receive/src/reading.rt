@@ -12,37 +12,24 @@ ghost use Rattle.gev_acq.specs.Buffers.{Backs, HoldsAlone};
 ghost use Rattle.gev_acq.specs.Kinds.{is_readers};
 ghost use Rattle.gev_acq.specs.Reading.{FaultsOf};
 ghost use Rattle.camera_reader.specs.Reading.{is_fault};
-ghost use Rattle.gev_receive.specs.Reader.{ReadsTo, ReadsFrames};
+ghost use Rattle.gev_receive.specs.Reader.{ReadsTo, with_refused as counts_with, ReadsFrames};
 
 use crate::host::Host;
 use acq_core::Acq;
 use acquisition_machine::Counts;
 use buffer_words::{Board, Pass};
-use camera_reader::{ReaderEnd, read_turns};
+use camera_reader::{ReaderEnd, ReaderWords, TurnsDone, read_turns};
 use gev_acq::drain;
 use gev_links::{Clock, Gate, Link};
-use gev_types::Peer;
 use live_crew::Worked;
-use mode_calls::Mode;
 use std::sync::Wait;
-
-/// How the reader reads.
-#[derive(Clone, Copy)]
-pub(crate) struct ReaderWords {
-    /// The camera's control port.
-    pub(crate) camera: Peer,
-    /// How many milliseconds may pass without a datagram.
-    pub(crate) silence: u64,
-    /// How buffers are handled.
-    pub(crate) mode: Mode,
-}
 
 /// What the reader's worker gives back beside its pass.
 #[derive(Drop)]
 pub(crate) struct ReadDone<S: Drop, M: Drop, C: Drop> {
     /// What it worked with.
     pub(crate) host: Host<S, M, C>,
-    /// What the receiver counted.
+    /// What the receiver counted, with what was refused in widening.
     pub(crate) counts: Counts,
     /// How it ended.
     pub(crate) end: ReaderEnd,
@@ -71,17 +58,17 @@ fn read_on<R: Wait, S: Link + Drop, M: Link + Drop, C: Clock + Drop, G: Gate>(
     host: &mut Host<S, M, C>,
     gate: &G,
     words: ReaderWords,
-) -> ReaderEnd
+) -> TurnsDone
     requires table { pass.old.table ≡ board_id board.now }
     requires hands { IsEmptyHanded pass.old }
     requires new { Stands acq.old [] }
     requires fills { waiting_fills acq.old ≡ [] }
     requires requests { waiting_requests acq.old ≡ [] }
-    ensures reads { ReadsTo words.mode (config_of acq.old) words.camera words.silence (Stands acq.new)
+    ensures reads { ReadsTo words.mode (config_of acq.old) words.ids words.camera words.silence (Stands acq.new)
         (record { received = S.received host.old.stream; heard = M.received host.old.control; sent = M.sent host.old.control; told = C.told host.old.clock; client = host.old.client })
         (record { received = S.received host.new.stream; heard = M.received host.new.control; sent = M.sent host.new.control; told = C.told host.new.clock; client = host.new.client })
-        result pass.old pass.new }
-    ensures faults { FaultsOf (is_fault result) (S.faults host.old.stream) (S.faults host.new.stream) (M.faults host.old.control) (M.faults host.new.control) }
+        result.refused result.end pass.old pass.new }
+    ensures faults { FaultsOf (is_fault result.end) (S.faults host.old.stream) (S.faults host.new.stream) (M.faults host.old.control) (M.faults host.new.control) }
     ensures table { pass.new.table ≡ pass.old.table }
     ensures config { config_of acq.new ≡ config_of acq.old }
     ensures fills { waiting_fills acq.new ≡ [] }
@@ -101,11 +88,17 @@ fn read_on<R: Wait, S: Link + Drop, M: Link + Drop, C: Clock + Drop, G: Gate>(
         &mut host.control,
         &mut host.clock,
         gate,
-        words.camera,
-        words.silence,
+        words,
         begin,
-        words.mode,
     )
+}
+
+/// What was counted, with the datagrams that were refused in widening.
+fn with_refused(mut counts: Counts, refused: u64) -> Counts
+    ensures { result ≡ counts_with counts refused }
+{
+    counts.foreign = counts.foreign.saturating_add(refused);
+    counts
 }
 
 /// The reader's worker: tells the receiver the moment, makes turns until one of them or the run word ends it, stops the
@@ -124,7 +117,7 @@ pub(crate) fn read_frames<R: Wait, S: Link + Drop, M: Link + Drop, C: Clock + Dr
     requires new { Stands acq [] }
     requires fills { waiting_fills acq ≡ [] }
     requires requests { waiting_requests acq ≡ [] }
-    ensures reads { ReadsFrames words.mode (config_of acq) words.camera words.silence
+    ensures reads { ReadsFrames words.mode (config_of acq) words.ids words.camera words.silence
         (record { received = S.received host.stream; heard = M.received host.control; sent = M.sent host.control; told = C.told host.clock; client = host.client })
         (record { received = S.received result.done.host.stream; heard = M.received result.done.host.control; sent = M.sent result.done.host.control; told = C.told result.done.host.clock; client = result.done.host.client })
         result.done.counts result.done.end pass result.pass }
@@ -132,15 +125,15 @@ pub(crate) fn read_frames<R: Wait, S: Link + Drop, M: Link + Drop, C: Clock + Dr
     ensures back { ComesBack pass result.pass }
     ensures faults { FaultsOf (is_fault result.done.end) (S.faults host.stream) (S.faults result.done.host.stream) (M.faults host.control) (M.faults result.done.host.control) }
 {
-    let end = read_on(rt, board, &mut pass, &mut acq, &mut host, gate, words);
+    let read = read_on(rt, board, &mut pass, &mut acq, &mut host, gate, words);
     drain(rt, board, &mut pass, &mut acq, words.mode);
     let _stopped = board.stop(&mut pass, false);
     Worked {
         pass,
         done: ReadDone {
             host,
-            counts: acq.counts(),
-            end,
+            counts: with_refused(acq.counts(), read.refused),
+            end: read.end,
         },
     }
 }

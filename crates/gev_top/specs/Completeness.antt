@@ -3,12 +3,12 @@ use Rattle.std.specs.Prelude.{⊤, ℕ, List, Option}
 use Rattle.gev_links.specs.Faults.{Rose}
 use Rattle.script_runs.specs.Verdicts.{IfTold}
 use Rattle.gev_status.specs.declared.status.Status.{Status}
-use Rattle.gev_status.specs.declared.status.Status.TheVariants.{Done, BadScript, NoMemory, NoAnswer, Refused, TurnsSpent, BadCapture, NoDatagram, NoPicture, NoDescription}
+use Rattle.gev_status.specs.declared.status.Status.TheVariants.{Done, BadScript, NoMemory, NoAnswer, Refused, RefusedAt, TurnsSpent, BadCapture, NoDatagram, NoPicture, NoDescription, Silent, Controlled, ControlLost}
 use Rattle.gev_top.specs.declared.command.Command.{Command}
 use Rattle.gev_top.specs.declared.command.Command.TheVariants.{Replay, Explain, Image, Streams, Capture, Camera, Make, Soak}
 use Rattle.gev_top.specs.Answers.{IsDecided}
 use Rattle.gev_top.specs.declared.errand.Errand.{Errand}
-use Rattle.gev_top.specs.declared.errand.Errand.TheVariants.{Plain, Live, Record, Discover, Description, Simulate}
+use Rattle.gev_top.specs.declared.errand.Errand.TheVariants.{Plain, Live, Record, Discover, Description, Simulate, Receive}
 
 -- the count of faults didn't rise
 abbrev pub NoneRose : ℕ → ℕ → Type 0
@@ -89,6 +89,19 @@ EndsSimulation Done = ⊤
 EndsSimulation NoMemory = ⊤
 EndsSimulation _ = ⊥
 
+-- the frames of a camera were handed out, or standard input had ended; a command had no answer or was refused, the
+-- frames have no picture, the camera was silent, another application controlled it, or it gave its control away
+abbrev pub EndsReception : Status → Type 0
+EndsReception Done = ⊤
+EndsReception (NoAnswer req) = ⊤
+EndsReception (RefusedAt register code) = ⊤
+EndsReception (NoPicture why) = ⊤
+EndsReception (Silent frames) = ⊤
+EndsReception Controlled = ⊤
+EndsReception (ControlLost frames) = ⊤
+EndsReception NoMemory = ⊤
+EndsReception _ = ⊥
+
 -- ---- the commands, a row each
 
 abbrev pub IsComplete : Command → Status → Type 0
@@ -114,3 +127,4 @@ CompletesErrand (Record n) left status = EndsLive status
 CompletesErrand (Discover address) left status = EndsSearch status
 CompletesErrand (Description camera) left status = EndsDescription status
 CompletesErrand (Simulate asked) left status = EndsSimulation status
+CompletesErrand (Receive s) left status = EndsReception status

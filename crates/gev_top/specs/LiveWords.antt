@@ -7,9 +7,10 @@ use Rattle.mode_calls.specs.declared.mode.Mode.TheVariants.{OldestFirst}
 use Rattle.script_trace.specs.Modes.{mode_of}
 use Rattle.camera_words.specs.Words.{discover_of, description_of}
 use Rattle.camera_words.specs.SimulateWords.{simulate_of}
+use Rattle.camera_words.specs.Receiving.{receive_of, IsInRange as IsReceivable}
 use Rattle.gev_top.specs.declared.live_numbers.LiveNumbers.{LiveNumbers}
 use Rattle.gev_top.specs.declared.errand.Errand.{Errand}
-use Rattle.gev_top.specs.declared.errand.Errand.TheVariants.{Plain, Live, Record, Discover, Description, Simulate}
+use Rattle.gev_top.specs.declared.errand.Errand.TheVariants.{Plain, Live, Record, Discover, Description, Simulate, Receive}
 use Rattle.gev_top.specs.Usage as plain
 use Rattle.gev_top.specs.Usage.{Said, ◌>>=◌, read_at, number_at, none_at, named}
 
@@ -68,6 +69,7 @@ IsErrand (Record n) = IsRecordable n
 IsErrand (Discover address) = ⊤
 IsErrand (Description camera) = ⊤
 IsErrand (Simulate asked) = ⊤
+IsErrand (Receive s) = IsReceivable s
 
 -- the words of which the first is this name
 abbrev pub errand_named : List ℕ → List (List ℕ) → Said Errand
@@ -76,6 +78,7 @@ errand_named name words =
     else if bytes_eq name (codes "record") then (record_of words >>= λ n. Ok (Record n))
     else if bytes_eq name (codes "discover") then (discover_of words >>= λ address. Ok (Discover address))
     else if bytes_eq name (codes "description") then (description_of words >>= λ camera. Ok (Description camera))
+    else if bytes_eq name (codes "receive") then (receive_of words >>= λ s. Ok (Receive s))
     else if bytes_eq name (codes "simulate") then (simulate_of words >>= λ asked. Ok (Simulate asked))
     else (named name words >>= λ command. Ok (Plain command))
 
@@ -99,6 +102,7 @@ IfPorts (Record n) P = P n
 IfPorts (Discover address) P = ⊤
 IfPorts (Description camera) P = ⊤
 IfPorts (Simulate asked) P = ⊤
+IfPorts (Receive s) P = ⊤
 
 -- this, where a camera on the network is asked for what it tells of itself
 abbrev pub IfCameras : Errand → Type 0 → Type 0
@@ -108,3 +112,4 @@ IfCameras (Record n) P = ⊤
 IfCameras (Discover address) P = P
 IfCameras (Description camera) P = P
 IfCameras (Simulate asked) P = ⊤
+IfCameras (Receive s) P = ⊤

@@ -1,9 +1,9 @@
 use crate::command::Command;
 use crate::live_numbers::LiveNumbers;
-use camera_words::SimulateWords;
+use camera_words::{Settings, SimulateWords};
 
 /// What the words of any command line ask for.
-#[derive(Clone, Copy, Debug, PartialEq, Eq)]
+#[derive(Drop)]
 pub enum Errand {
     /// A command that makes no use of ports.
     Plain(Command),
@@ -17,4 +17,6 @@ pub enum Errand {
     Description(u32),
     /// A simulated camera at an IPv4 address of this machine.
     Simulate(SimulateWords),
+    /// The frames of a camera on the network.
+    Receive(Settings),
 }

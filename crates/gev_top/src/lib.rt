@@ -1,5 +1,5 @@
 //! The commands of the program that make no use of ports: what `gevacq` does with its words, its input and its
-//! output. `gev_call` has the program's call, which adds those over ports.
+//! output. `gev_program` has the program's call, which adds those over ports.
 //!
 //! `specs/Usage.antt` says which words are which command, and `specs/Answers.antt` what a command has read
 //! and written by its answer. They stand on the definitions of `script_runs`, `script_trace`, `gev_make`

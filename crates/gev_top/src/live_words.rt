@@ -9,7 +9,7 @@ ghost use Rattle.gev_top.specs.LiveWords.{IsInRange, IsRecordable, IsErrand, mod
 use crate::errand::Errand;
 use crate::live_numbers::LiveNumbers;
 use crate::usage::{is, none_at, number_at, read_named};
-use camera_words::{read_description, read_discover, read_simulate};
+use camera_words::{read_description, read_discover, read_receive, read_simulate};
 use gev_script::number_in;
 use mode_calls::Mode;
 
@@ -45,6 +45,10 @@ fn read_errand_named(name: &[u8], words: &[String]) -> Result<Errand, u32>
     if is(name, b"description") {
         let camera = read_description(words)?;
         return Ok(Errand::Description(camera));
+    }
+    if is(name, b"receive") {
+        let settings = read_receive(words)?;
+        return Ok(Errand::Receive(settings));
     }
     if is(name, b"simulate") {
         let asked = read_simulate(words)?;

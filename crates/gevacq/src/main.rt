@@ -4,8 +4,8 @@
 mod help;
 
 use crate::help::{HELP, USAGE, print_help_on};
-use gev_call::gevacq_top;
 use gev_links::FillBell;
+use gev_program::gevacq_top;
 use gev_real::{RealPorts, StandardInput, StandardOutput};
 use gev_status::Status;
 use std::fs::Files;

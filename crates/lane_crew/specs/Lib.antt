@@ -6,3 +6,4 @@ pub mod Reader
 pub mod Did
 pub mod Crew
 pub mod Laws
+pub mod Hosts

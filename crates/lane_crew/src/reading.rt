@@ -6,16 +6,16 @@ ghost use Rattle.buffer_words.specs.Boards.{board_id};
 ghost use Rattle.buffer_words.specs.Passes.{SameHands};
 ghost use Rattle.gev_control.specs.Ends.{is_fault_end};
 ghost use Rattle.gev_acq.specs.Reading.{FaultsOf};
+ghost use Rattle.lane_crew.specs.Hosts.{outside_of};
 ghost use Rattle.gev_lanes.specs.Sides.{AreReadersOf, AreKept};
 ghost use Rattle.lane_reader.specs.LanesTurns.{EndsEach};
 ghost use Rattle.lane_crew.specs.Reader.{ReadsAll};
 
-use buffer_words::{Board, Pass};
-use control_client::Client;
+use crate::lanes_reader::Reading;
+use buffer_words::Board;
 use gev_control::{AcqEnd, setup};
 use gev_lanes::{Lanes, ReaderEnds};
 use gev_links::{Clock, Link};
-use gev_types::Peer;
 use lane_reader::{end_lanes, read_lanes};
 use std::sync::Wait;
 
@@ -35,38 +35,47 @@ fn end_early<R: Wait>(rt: &R, lanes: &Lanes, reader: &mut ReaderEnds, end: AcqEn
 pub(crate) fn read_all<R: Wait, S: Link, M: Link, C: Clock>(
     rt: &R,
     board: &Board,
-    pass: &mut Pass,
     lanes: &Lanes,
-    reader: &mut ReaderEnds,
-    client: &mut Client,
-    stream: &mut S,
-    control: &mut M,
-    clock: &mut C,
-    camera: Peer,
-    own: Peer,
-    turns: u64,
+    mine: &mut Reading<S, M, C>,
 ) -> AcqEnd
-    requires table { pass.old.table ≡ board_id board.now }
-    requires reader { AreReadersOf lanes.now reader.old }
+    requires table { mine.old.pass.table ≡ board_id board.now }
+    requires reader { AreReadersOf lanes.now mine.old.reader }
     requires some { 0 < length lanes.now }
-    requires kept { AreKept reader.old }
-    requires client { HasSubmittedNone client.old }
-    ensures reader { AreReadersOf lanes.now reader.new }
-    ensures reads { ReadsAll (length lanes.now) camera own
-        (record { received = S.received stream.old; heard = M.received control.old; sent = M.sent control.old; told = C.told clock.old; client = client.old })
-        (record { received = S.received stream.new; heard = M.received control.new; sent = M.sent control.new; told = C.told clock.new; client = client.new })
-        turns result reader.old reader.new pass.old pass.new }
-    ensures faults { FaultsOf (is_fault_end result) (S.faults stream.old) (S.faults stream.new) (M.faults control.old) (M.faults control.new) }
-    ensures table { pass.new.table ≡ pass.old.table }
-    ensures hands { SameHands pass.old pass.new }
+    requires kept { AreKept mine.old.reader }
+    requires client { HasSubmittedNone mine.old.host.client }
+    ensures reader { AreReadersOf lanes.now mine.new.reader }
+    ensures reads { ReadsAll (length lanes.now) mine.old.camera mine.old.own (outside_of S.received M.received M.sent C.told mine.old.host) (outside_of S.received M.received M.sent C.told mine.new.host)
+        mine.old.turns result mine.old.reader mine.new.reader mine.old.pass mine.new.pass }
+    ensures faults { FaultsOf (is_fault_end result) (S.faults mine.old.host.stream) (S.faults mine.new.host.stream) (M.faults mine.old.host.control) (M.faults mine.new.host.control) }
+    ensures table { mine.new.pass.table ≡ mine.old.pass.table }
+    ensures hands { SameHands mine.old.pass mine.new.pass }
 {
-    match setup(rt, client, control, clock, camera, own) {
+    match setup(
+        rt,
+        &mut mine.host.client,
+        &mut mine.host.control,
+        &mut mine.host.clock,
+        mine.camera,
+        mine.own,
+    ) {
         AcqEnd::Stopped => read_lanes(
-            rt, board, pass, lanes, reader, client, stream, control, clock, camera, turns,
+            rt,
+            board,
+            &mut mine.pass,
+            lanes,
+            &mut mine.reader,
+            &mut mine.host.client,
+            &mut mine.host.stream,
+            &mut mine.host.control,
+            &mut mine.host.clock,
+            mine.camera,
+            mine.turns,
         ),
-        AcqEnd::Spent => end_early(rt, lanes, reader, AcqEnd::Spent),
-        AcqEnd::Fault => end_early(rt, lanes, reader, AcqEnd::Fault),
-        AcqEnd::NoAnswer(req) => end_early(rt, lanes, reader, AcqEnd::NoAnswer(req)),
-        AcqEnd::Refused(status) => end_early(rt, lanes, reader, AcqEnd::Refused(status)),
+        AcqEnd::Spent => end_early(rt, lanes, &mut mine.reader, AcqEnd::Spent),
+        AcqEnd::Fault => end_early(rt, lanes, &mut mine.reader, AcqEnd::Fault),
+        AcqEnd::NoAnswer(req) => end_early(rt, lanes, &mut mine.reader, AcqEnd::NoAnswer(req)),
+        AcqEnd::Refused(status) => {
+            end_early(rt, lanes, &mut mine.reader, AcqEnd::Refused(status))
+        }
     }
 }

@@ -6,15 +6,15 @@ use Rattle.gev_links.specs.Links.{Answer}
 use Rattle.gev_links.specs.Moments.{Tells}
 use Rattle.link_filters.specs.Wide.{wide_answer, next_top, refusals, wide_answers, last_top, count_refused, heard_wide, KeepsWide}
 
-wide_push : (top : ℕ) (xs : List Answer) (a : Answer) → wide_answers top (xs ++ a ∷ []) ≡ wide_answers top xs ++ wide_answer (last_top top xs) a ∷ []
+pub wide_push : (top : ℕ) (xs : List Answer) (a : Answer) → wide_answers top (xs ++ a ∷ []) ≡ wide_answers top xs ++ wide_answer (last_top top xs) a ∷ []
 wide_push top [] a = refl
 wide_push top (b ∷ xs) a = ap (λ l. wide_answer top b ∷ l) (wide_push (next_top top b) xs a)
 
-top_push : (top : ℕ) (xs : List Answer) (a : Answer) → last_top top (xs ++ a ∷ []) ≡ next_top (last_top top xs) a
+pub top_push : (top : ℕ) (xs : List Answer) (a : Answer) → last_top top (xs ++ a ∷ []) ≡ next_top (last_top top xs) a
 top_push top [] a = refl
 top_push top (b ∷ xs) a = top_push (next_top top b) xs a
 
-refused_push : (top : ℕ) (xs : List Answer) (a : Answer) → count_refused top (xs ++ a ∷ []) ≡ count_refused top xs + refusals (last_top top xs) a
+pub refused_push : (top : ℕ) (xs : List Answer) (a : Answer) → count_refused top (xs ++ a ∷ []) ≡ count_refused top xs + refusals (last_top top xs) a
 refused_push top [] a = omega arith
 refused_push top (b ∷ xs) a = omega (arith, refused_push (next_top top b) xs a)
 

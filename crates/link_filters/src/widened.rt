@@ -113,8 +113,9 @@ fn copy_front(bytes: &[u8], out: &mut [u8]) -> usize
     count
 }
 
-/// What is heard of what a receive gave into these bytes: it's put into the front of `out`.
-fn hear(
+/// What is heard of what a receive gave into `own`, each of whose datagrams has standard identifiers: it's put into the front
+/// of `out`, and `refused` counts a datagram that is refused. `wide` is room for the wide form.
+pub fn hear(
     came: Option<(usize, Peer)>,
     own: &[u8],
     widener: &mut Widener,

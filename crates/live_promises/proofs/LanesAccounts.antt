@@ -14,8 +14,8 @@ use Rattle.gev_live.specs.Acquirers.{handed_out}
 use Rattle.gev_live.specs.History.{live_size}
 use Rattle.run_promises.specs.Headline.{is_acquirer}
 use Rattle.live_promises.proofs.Accounts.{one_account}
-use Rattle.live_lanes.specs.History.{LanesCrew, LanesHistory}
-use Rattle.live_lanes.specs.Parts.{LanesShare}
+use Rattle.gev_live.specs.LanesHistory.{LanesCrew, LanesHistory}
+use Rattle.gev_live.specs.LanesParts.{LanesShare}
 use Rattle.live_promises.specs.LanesPromises.{acquirers_in}
 use Rattle.live_promises.proofs.LanesFilling.{is_lane}
 

@@ -28,8 +28,8 @@ use Rattle.gev_live.proofs.Quiet.{is_beginning, beginning_are}
 use Rattle.gev_live.proofs.Splitting.{member_or}
 use Rattle.run_promises.specs.Headline.{Acquirer, is_acquirer, FillsAsAcquirer, FillsByAcquirers, IsBlockOf}
 use Rattle.run_promises.specs.Laws.{FillsWhatRetires}
-use Rattle.live_lanes.specs.History.{LanesCrew, LanesHistory}
-use Rattle.live_lanes.specs.Parts.{LanesShare}
+use Rattle.gev_live.specs.LanesHistory.{LanesCrew, LanesHistory}
+use Rattle.gev_live.specs.LanesParts.{LanesShare}
 use Rattle.live_promises.specs.LanesPromises.{acquirers_in}
 use Rattle.live_promises.proofs.LanesSending.{cells_clean}
 

@@ -21,13 +21,13 @@ use Rattle.lane_crew.specs.Cells.{inputs_in}
 use Rattle.client_machine.specs.Times.{SEND_LIMIT}
 use Rattle.client_machine.specs.Machine.{new_client}
 use Rattle.gev_live.specs.Told.{Told, live_config, reader_side}
-use Rattle.gev_live.specs.LiveRun.{Numbers}
+use Rattle.gev_live.specs.declared.numbers.Numbers.{Numbers}
 use Rattle.run_promises.specs.Headline.{IsBlockOf}
 use Rattle.run_promises.proofs.Headlines.{runs_headline, blocks_frames}
 use Rattle.live_promises.specs.Promises.{packets_among}
 use Rattle.live_promises.proofs.Keeping.{never_keeps}
-use Rattle.live_lanes.specs.Parts.{LanesShare}
-use Rattle.live_lanes.specs.LanesRun.{LanesRun}
+use Rattle.gev_live.specs.LanesParts.{LanesShare}
+use Rattle.gev_live.specs.LanesRun.{LanesRun}
 use Rattle.live_promises.specs.LanesPromises.{acquirers_in, lanes_of, HoldsUnderOne, KeepsRun}
 use Rattle.live_promises.specs.LanesLaws.{LaneRunsKeepPromises}
 use Rattle.live_promises.proofs.LanesSending.{lane_sent}

@@ -15,8 +15,8 @@ use Rattle.lane_crew.specs.Cells.{CellServed, inputs_in}
 use Rattle.lane_crew.specs.Lane.{messages_in}
 use Rattle.live_promises.specs.Promises.{packets_among}
 use Rattle.gev_live.specs.Told.{Told}
-use Rattle.gev_live.specs.LiveRun.{Numbers}
-use Rattle.live_lanes.specs.LanesRun.{RunsLanes}
+use Rattle.gev_live.specs.declared.numbers.Numbers.{Numbers}
+use Rattle.gev_live.specs.LanesRun.{RunsLanes}
 use Rattle.live_promises.specs.LanesPromises.{KeepsLanesPromises}
 
 -- Each live run with lanes keeps its promises.

@@ -22,11 +22,11 @@ use Rattle.client_machine.specs.Times.{SEND_LIMIT}
 use Rattle.client_machine.specs.Machine.{new_client}
 use Rattle.gev_live.specs.Acquirers.{handed_out}
 use Rattle.gev_live.specs.Told.{Told, live_config, reader_side}
-use Rattle.gev_live.specs.LiveRun.{Numbers}
+use Rattle.gev_live.specs.declared.numbers.Numbers.{Numbers}
 use Rattle.run_promises.specs.Headline.{Acquirer, is_acquirer, IsBlockOf, KeepsHeadline, HoldsUnder}
 use Rattle.live_promises.specs.Promises.{packets_among, KeepsNothing}
-use Rattle.live_lanes.specs.Parts.{LanesShare}
-use Rattle.live_lanes.specs.LanesRun.{LanesRun, RunsLanes}
+use Rattle.gev_live.specs.LanesParts.{LanesShare}
+use Rattle.gev_live.specs.LanesRun.{LanesRun, RunsLanes}
 use Rattle.live_promises.specs.LanesCauses.{HasCauses}
 
 -- The lanes, each with what its machine was told: the inputs of the cells that it served, and the stop at their end.

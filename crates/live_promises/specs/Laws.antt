@@ -5,7 +5,8 @@ use Rattle.board_machine.specs.Histories.{Run}
 use Rattle.gev_links.specs.Links.{Address}
 use Rattle.gev_status.specs.declared.status.Status.{Status}
 use Rattle.gev_live.specs.Told.{Told}
-use Rattle.gev_live.specs.LiveRun.{Numbers, RunsLive}
+use Rattle.gev_live.specs.declared.numbers.Numbers.{Numbers}
+use Rattle.gev_live.specs.LiveRun.{RunsLive}
 use Rattle.live_promises.specs.Promises.{KeepsLivePromises}
 
 abbrev pub LiveRunsKeepPromises : Type 0

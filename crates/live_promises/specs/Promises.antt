@@ -19,7 +19,8 @@ use Rattle.gev_status.specs.declared.status.Status.{Status}
 use Rattle.gev_acq.specs.Acquired.{inputs_in, answers_in}
 use Rattle.gev_live.specs.Acquirers.{handed_out}
 use Rattle.gev_live.specs.Told.{Told, live_config, reader_side}
-use Rattle.gev_live.specs.LiveRun.{Numbers, LiveRun, RunsLive}
+use Rattle.gev_live.specs.declared.numbers.Numbers.{Numbers}
+use Rattle.gev_live.specs.LiveRun.{LiveRun, RunsLive}
 use Rattle.run_promises.specs.Headline.{Acquirer, is_acquirer, KeepsHeadline, HoldsUnder}
 use Rattle.live_promises.specs.Causes.{HasCauses}
 

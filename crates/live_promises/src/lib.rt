@@ -2,7 +2,7 @@
 //! of its reader's end. The functions only carry their statements.
 //!
 //! `specs/Promises.antt` has the promises of one lane, over what each worker did (`gev_live`), and
-//! `specs/LanesPromises.antt` those of more, over what each worker and each lane did (`live_lanes`), with one
+//! `specs/LanesPromises.antt` those of more, over what each worker and each lane did, with one
 //! acquisition machine a lane. `specs/Moves.antt` has what is sent and heard over the control link, turn by turn,
 //! `specs/ClientCauses.antt` why a reader ended as its client did, and `specs/Causes.antt` and
 //! `specs/LanesCauses.antt` why the reader of a live run gave up or was refused.

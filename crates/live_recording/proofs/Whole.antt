@@ -34,7 +34,8 @@ use Rattle.gev_live.specs.History.{live_size}
 use Rattle.gev_live.specs.Endings.{is_told}
 use Rattle.mode_calls.specs.declared.mode.Mode.TheVariants.{OldestFirst}
 use Rattle.gev_live.specs.Acquirers.{DropsNothing}
-use Rattle.gev_live.specs.LiveRun.{Numbers, LiveRun}
+use Rattle.gev_live.specs.declared.numbers.Numbers.{Numbers}
+use Rattle.gev_live.specs.LiveRun.{LiveRun}
 use Rattle.gev_live.specs.Journal.{JournaledRun, RunsWithJournal}
 use Rattle.live_promises.specs.Promises.{KeepsRun}
 use Rattle.live_promises.proofs.Keeping.{live_runs_keep}

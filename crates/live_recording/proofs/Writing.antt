@@ -15,7 +15,8 @@ use Rattle.gev_record.specs.Writing.{noted, Writes}
 use Rattle.gev_acq.specs.declared.turn.Turn.{Turn}
 use Rattle.gev_live.specs.Told.{Told}
 use Rattle.gev_live.specs.Endings.{is_told}
-use Rattle.gev_live.specs.LiveRun.{Numbers, LiveRun}
+use Rattle.gev_live.specs.declared.numbers.Numbers.{Numbers}
+use Rattle.gev_live.specs.LiveRun.{LiveRun}
 use Rattle.live_recording.specs.Marks.{mark_of}
 use Rattle.live_recording.specs.Recorded.{Recorded, RecordsSo, answer_by, Finishes}
 

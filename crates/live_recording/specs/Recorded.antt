@@ -16,7 +16,8 @@ use Rattle.gev_acq.specs.declared.turn.Turn.{Turn}
 use Rattle.gev_acq.specs.Acquired.{answers_in}
 use Rattle.gev_live.specs.Told.{Told}
 use Rattle.gev_live.specs.Endings.{is_told, FailsLast}
-use Rattle.gev_live.specs.LiveRun.{Numbers, LiveRun, NeverRan}
+use Rattle.gev_live.specs.declared.numbers.Numbers.{Numbers}
+use Rattle.gev_live.specs.LiveRun.{LiveRun, NeverRan}
 use Rattle.live_promises.specs.Promises.{KeepsRun, KeepsNothing}
 use Rattle.live_recording.specs.Marks.{marks_in, mark_of}
 use Rattle.live_recording.specs.Replayed.{ReplaysFills}

@@ -18,7 +18,7 @@ use crate::nowhere::Nowhere;
 use buffer_words::{Board, Pass};
 use gev_acq::Turn;
 use gev_links::{Clock, Gate, Link, ShortLink, Sink};
-use gev_live::{Ends, live_with_journal};
+use gev_live::{Ends, Numbers, live_with_journal};
 use gev_record::{RecordEnd, Tape, write_script};
 use gev_status::Status;
 use mode_calls::Mode;
@@ -158,7 +158,7 @@ pub fn record_over<
     ensures table { pass.new.table ≡ pass.old.table }
     ensures hands { SameHands pass.old pass.new }
     ensures alone { IsAlone (After pass.new.seen) 0 }
-    ensures records { RecordsLive (record { seed = seed; frames = frames; buffers = buffers; turns = turns; mode = Mode.OldestFirst }) (L.address ends.camera) (L.address ends.stream.inner) result.0
+    ensures records { RecordsLive (record { seed = seed; frames = frames; buffers = buffers; lanes = 1; turns = turns; mode = Mode.OldestFirst }) (L.address ends.camera) (L.address ends.stream.inner) result.0
         (record {
           camera = wire (L.received ends.camera) (L.sent ends.camera) (L.faults ends.camera);
           stream = wire (L.received ends.stream.inner) (L.sent ends.stream.inner) (L.faults ends.stream.inner);
@@ -183,20 +183,23 @@ pub fn record_over<
     ensures writes_steady { result.0 ≢ Status.WriteFault → K.faults sink.new ≡ K.faults sink.old }
 {
     let mut nowhere = Nowhere::new(alloc);
+    let numbers = Numbers {
+        seed,
+        frames,
+        buffers,
+        lanes: 1,
+        turns,
+        mode: Mode::OldestFirst,
+    };
     let (lived, ends, journal) = live_with_journal(
         rt,
         alloc,
         board,
         pass,
-        seed,
-        frames,
-        buffers,
-        1,
-        turns,
+        numbers,
         ends,
         gate,
         &mut nowhere,
-        Mode::OldestFirst,
     );
     pass.witness();
     ends.stream.witness();

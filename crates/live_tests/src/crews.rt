@@ -13,7 +13,7 @@ use gev_control::AcqEnd;
 use gev_lanes::{LaneEnds, Lanes};
 use gev_links::{MemoryClock, MemoryLink, OpenGate};
 use gev_types::{NoMemory, Peer};
-use lane_crew::{LaneTools, LanesDone, lanes_parts_stay, read_by_lanes};
+use lane_crew::{Host, LaneTools, LanesReader, lanes_parts_stay, read_by_lanes};
 use live_crew::Worked;
 use mode_calls::Mode;
 use std::alloc::Global;
@@ -85,37 +85,28 @@ fn read_blocks<R: Threads + Wait + Sync>(
     let (lanes, reader, ends) = Lanes::new(alloc, count)?;
     let tools = make_tools(alloc, &board, &mut host, &lanes, ends)?;
     let pass = board.split(&mut host);
-    let Worked { pass, done } = read_by_lanes(
-        rt,
-        &board,
-        pass,
-        &lanes,
+    let mine = LanesReader {
+        lanes,
         reader,
         tools,
-        Client::new(),
-        MemoryLink::new(alloc, STREAM, PACKETS, &[], &[], 0)?,
-        MemoryLink::new(alloc, HOST, answers, &[], &[], 9)?,
-        MemoryClock::new(&[]),
-        &OpenGate,
-        CAMERA,
-        STREAM,
-        6,
-        Mode::OldestFirst,
-    );
-    let LanesDone {
-        client: _,
-        stream: _,
-        control,
-        clock: _,
-        counts: _,
-        shed: _,
-        end,
-    } = done;
+        host: Host {
+            stream: MemoryLink::new(alloc, STREAM, PACKETS, &[], &[], 0)?,
+            control: MemoryLink::new(alloc, HOST, answers, &[], &[], 9)?,
+            clock: MemoryClock::new(&[]),
+            client: Client::new(),
+        },
+        camera: CAMERA,
+        own: STREAM,
+        turns: 6,
+        mode: Mode::OldestFirst,
+    };
+    let Worked { pass, done } = read_by_lanes(rt, alloc, &board, pass, &OpenGate, mine);
+    let control = done.host.control;
     board.join(&mut host, pass);
     let first = next_block(rt, &board, &mut host);
     let second = next_block(rt, &board, &mut host);
     Ok((
-        end,
+        done.end,
         control.sent().len(),
         first.min(second),
         first.max(second),

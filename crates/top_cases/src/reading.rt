@@ -4,7 +4,7 @@ use crate::running::list;
 use clap::builder::ValueParser;
 use clap::error::ErrorKind;
 use clap::{Arg, ArgMatches, Command, Error};
-use gev_top::read_errand;
+use gev_top::{Command as Plain, Errand, LiveNumbers, read_errand};
 use std::alloc::{AllocError, Global};
 use std::io;
 
@@ -43,9 +43,28 @@ const RECORD: [Number; 4] = [
     ("turns", 1, 100_000),
 ];
 
+/// What words ask for, of the commands that meet no camera on the network.
+#[derive(Clone, Copy, Debug, PartialEq, Eq)]
+enum Asked {
+    Plain(Plain),
+    Live(LiveNumbers),
+    Record(LiveNumbers),
+    Other,
+}
+
+/// What `read_errand` finds in the words.
+fn first_reading(words: &[String]) -> Result<Asked, u32> {
+    match read_errand(words)? {
+        Errand::Plain(command) => Ok(Asked::Plain(command)),
+        Errand::Live(numbers) => Ok(Asked::Live(numbers)),
+        Errand::Record(numbers) => Ok(Asked::Record(numbers)),
+        _ => Ok(Asked::Other),
+    }
+}
+
 /// Prints what both find in the words.
 pub(crate) fn print_readings(rt: &impl Print, alloc: Global, words: &[&str]) -> io::Result<()> {
-    let first = read_errand(list(alloc, words)?.as_slice());
+    let first = first_reading(list(alloc, words)?.as_slice());
     print!(rt; " = {first:?}; clap:")?;
     match found(alloc, words) {
         Ok(matches) => print_matches(rt, &matches),

@@ -4,7 +4,7 @@ use Rattle.gev_live.proofs.running.run_crew.Goals as goal
 
 pub returns-clause-ran : goal.returns-clause-ran
 returns-clause-ran g c =
-    let r = c.work_with_reader-watched.ensures.ran in (
+    let r = c.work_with_reader.ensures.ran in (
       record {
         one = r.one;
         two = r.two;
@@ -28,14 +28,14 @@ returns-clause-ran g c =
           actor = r.actor;
         };
         camera_works = r.did_first.1;
-        serves = serves_new _ _ _ _ _ _ _ _ _ c.requires.tools.camera_is r.did_first.0;
-        client = c.work_with_reader-watched.result.1.client;
-        journal = c.work_with_reader-watched.result.1.journal.items;
+        serves = serves_new _ _ _ _ _ _ _ _ _ c.requires.made.camera_is r.did_first.0;
+        client = c.work_with_reader.result.1.host.client;
+        journal = c.work_with_reader.result.1.journal.items;
         reader_works = r.did_second.1;
-        reads = reads_new _ _ _ _ _ _ _ _ _ _ _ _ _ _ _ _ _ _ _ c.requires.tools.config c.requires.tools.client_is c.requires.tools.unwritten r.did_second.0;
+        reads = reads_new _ _ _ _ _ _ _ _ _ _ _ _ _ _ _ _ _ _ _ _ _ c.requires.made.receiver_new.config c.peer-peer.ensures c.peer-own.ensures c.new.ensures.new c.requires.made.unwritten r.did_second.0;
         faults = r.did_second.2;
         application_works = r.did_third.1;
-        applies = applies_new _ _ _ _ _ _ _ _ _ c.requires.tools.no_lines r.did_third.0;
+        applies = applies_new _ _ _ _ _ _ _ _ _ c.new-2.ensures.items r.did_third.0;
         owned = r.owned;
         legal = r.legal;
       },

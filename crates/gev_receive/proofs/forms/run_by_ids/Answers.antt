@@ -1,18 +1,5 @@
-use Rattle.gev_receive.proofs.ByForm.{in_standard, in_extended}
+use Rattle.std.proofs.Common.{refl}
 use Rattle.gev_receive.proofs.forms.run_by_ids.Goals as goal
 
-pub returns-in-Standard : goal.returns-in-Standard
-returns-in-Standard g c = record {
-  runs = in_standard c.args.asked.leader.ids c.args.asked.settings.now c.args.asked.camera c.args.asked.leader c.args.asked.resends
-      (record { received = g.S.Link.received c.args.host.stream; heard = g.M.Link.received c.args.host.control; sent = g.M.Link.sent c.args.host.control; told = g.C.Clock.told c.args.host.clock; client = c.args.host.client })
-      (record { received = g.S.Link.received c.run_widened.result.1.stream; heard = g.M.Link.received c.run_widened.result.1.control; sent = g.M.Link.sent c.run_widened.result.1.control; told = g.C.Clock.told c.run_widened.result.1.clock; client = c.run_widened.result.1.client })
-      _ _ _ _ _ _ _ _ _ _ _ _ _ _ _ _ _ c.in-Standard.is c.run_widened.ensures.runs;
-}
-
-pub returns-in-Extended : goal.returns-in-Extended
-returns-in-Extended g c = record {
-  runs = in_extended c.args.asked.leader.ids c.args.asked.settings.now c.args.asked.camera c.args.asked.leader c.args.asked.resends
-      (record { received = g.S.Link.received c.args.host.stream; heard = g.M.Link.received c.args.host.control; sent = g.M.Link.sent c.args.host.control; told = g.C.Clock.told c.args.host.clock; client = c.args.host.client })
-      (record { received = g.S.Link.received c.run_asking.result.1.stream; heard = g.M.Link.received c.run_asking.result.1.control; sent = g.M.Link.sent c.run_asking.result.1.control; told = g.C.Clock.told c.run_asking.result.1.clock; client = c.run_asking.result.1.client })
-      _ _ _ _ _ _ _ _ _ _ _ _ _ _ _ _ _ c.in-Extended.is c.run_asking.ensures.runs;
-}
+pub returns-clause-runs : goal.returns-clause-runs
+returns-clause-runs g c = record { form_is = refl; runs = c.run_frames.ensures.runs }

@@ -1,4 +1,3 @@
-use Rattle.std.proofs.Common.{sym, subst}
 use Rattle.acq_core.specs.Receiver.{config_of, buffers, Stands}
 use Rattle.gev_acq.proofs.Joined.{alone_none}
 use Rattle.gev_receive.proofs.ReaderWork.{reads_to, no_backs}
@@ -9,9 +8,9 @@ read_turns-requires-clause-backs g c = no_backs c.args.pass.now (buffers c.begin
 
 pub returns-clause-reads : goal.returns-clause-reads
 returns-clause-reads g c =
-    reads_to c.args.words.mode (config_of c.args.acq.now) (config_of c.begin_receiver.new.acq) c.args.words.camera c.args.words.silence c.now-begin.result
+    reads_to c.args.words.mode (config_of c.args.acq.now) (config_of c.begin_receiver.new.acq) c.args.words.ids c.args.words.camera c.args.words.silence c.now-begin.result
     (Stands c.begin_receiver.new.acq) (Stands c.read_turns.new.acq)
-    _ _ _ _ _ _ _ _ _ _ _ c.read_turns.result c.args.pass.now c.read_turns.new.pass c.begin_receiver.ensures.stands c.now-begin.ensures.told
+    _ _ _ _ _ _ _ _ _ _ _ c.read_turns.result.refused c.read_turns.result.end c.args.pass.now c.read_turns.new.pass c.begin_receiver.ensures.stands c.now-begin.ensures.told
     c.begin_receiver.ensures.config c.read_turns.ensures.reads
 
 pub returns-clause-alone : goal.returns-clause-alone

@@ -9,24 +9,24 @@ use Rattle.lane_crew.specs.Tools.{AreMet, ends_in}
 use Rattle.lane_crew.proofs.crew.read_by_lanes.Goals as goal
 
 pub read_and_serve-served-requires-clause-kept : goal.read_and_serve-served-requires-clause-kept
-read_and_serve-served-requires-clause-kept g c = λ κs within. new_kept 0 c.args.lanes.now c.args.reader (ends_in c.args.tools.items) c.requires.new
+read_and_serve-served-requires-clause-kept g c = λ κs within. new_kept 0 c.args.mine.lanes c.args.mine.reader (ends_in c.args.mine.tools.items) c.requires.new
 
 pub bring_home-counts-requires-clause-back : goal.bring_home-counts-requires-clause-back
 bring_home-counts-requires-clause-back g c =
-    served_back c.args.mode (board_id c.args.board.now) c.args.lanes.now c.args.tools.items c.read_and_serve-served.result.0.items c.requires.ready
+    served_back c.args.mine.mode (board_id c.args.board.now) c.args.mine.lanes c.args.mine.tools.items c.read_and_serve-served.result.0.items c.requires.ready
     c.read_and_serve-served.ensures.served
 
 pub returns-clause-reads : goal.returns-clause-reads
 returns-clause-reads g c =
-    crew_reads c.args.mode c.args.camera c.args.own _ _ (board_id c.args.board.now) c.args.lanes.now c.args.reader c.read_and_serve-served.result.1.0.reader c.args.tools.items
-    c.read_and_serve-served.result.0.items c.args.turns c.read_and_serve-served.result.1.1 c.stop-stopped.result c.args.pass
+    crew_reads c.args.mine.mode c.args.mine.camera c.args.mine.own _ _ (board_id c.args.board.now) c.args.mine.lanes c.args.mine.reader c.read_and_serve-served.result.1.0.reader c.args.mine.tools.items
+    c.read_and_serve-served.result.0.items c.args.mine.turns c.read_and_serve-served.result.1.1 c.stop-stopped.result c.args.pass
     c.read_and_serve-served.result.1.0.pass c.bring_home-counts.new.pass c.stop-stopped.new.pass c.requires.new c.requires.ready
     c.read_and_serve-served.ensures.reads c.read_and_serve-served.ensures.served c.bring_home-counts.ensures.enters c.bring_home-counts.ensures.joined
     (subst (λ us. AreMet us c.read_and_serve-served.result.0.items) c.bring_home-counts.ensures.same c.bring_home-counts.ensures.met) c.stop-stopped.ensures.entry
 
 pub returns-clause-works : goal.returns-clause-works
 returns-clause-works g c =
-    crew_works c.args.mode c.args.camera c.args.own _ _ c.args.reader c.args.tools.items c.args.turns c.read_and_serve-served.result.1.1 c.args.pass
+    crew_works c.args.mine.mode c.args.mine.camera c.args.mine.own _ _ c.args.mine.reader c.args.mine.tools.items c.args.mine.turns c.read_and_serve-served.result.1.1 c.args.pass
     c.stop-stopped.new.pass (returns-clause-reads g c)
 
 pub returns-clause-back : goal.returns-clause-back

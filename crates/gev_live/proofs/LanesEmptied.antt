@@ -1,0 +1,267 @@
+-- Where the application found the run over, nothing is left in the output at the end.
+use Rattle.std.proofs.Common.{◌≡◌, ◌≢◌, ◌⊎◌, ℕ, zero, suc, ◌≤◌, ◌+◌, Bool, true, false, List, [], ◌∷◌, ◌++◌, Some, None, Ok, Err, refl, sym, ap, subst, ◌∙◌, inl, inr, append_assoc, arith}
+use Rattle.board_machine.specs.declared.events.Entry.{Entry}
+use Rattle.board_machine.specs.declared.events.Event.{Event}
+use Rattle.board_machine.specs.declared.events.Event.TheVariants.{LookOut, LookRun, Enrol, Grab, Claim, Fill, Take, Close, Start, Stop}
+use Rattle.board_machine.specs.declared.events.TakeEnd.TheVariants.{Taken, Empty, Closed}
+use Rattle.board_machine.specs.Machine.{Board, empty_board, entry, Meets, after_event, next}
+use Rattle.board_machine.specs.Histories.{Run, RunsFrom, own_of, after_from, After}
+use Rattle.board_machine.specs.Places.{times}
+use Rattle.board_machine.specs.Adding.{entries_of}
+use Rattle.board_machine.specs.Actors.{AllBy}
+use Rattle.board_machine.specs.Kinds.{HasNone, is_close, is_stop, is_filled}
+use Rattle.board_machine.proofs.Adding.{entries_of-append}
+use Rattle.board_machine.proofs.Places.{times-append}
+use Rattle.board_machine.proofs.Quiet.{none_front, none_rest, run_stays, output_stays}
+use Rattle.board_machine.proofs.Runs.{own_of-append, after-append, runs_rest}
+use Rattle.buffer_words.specs.Workers.{AreOf}
+use Rattle.mode_calls.specs.declared.mode.Mode.{Mode}
+use Rattle.buffer_words.proofs.Working.{are_of_entries}
+use Rattle.gev_apply.specs.Looks.{Looked}
+use Rattle.gev_apply.specs.Applied.{EndsStopped}
+use Rattle.gev_apply.specs.History.{LiveTakes}
+use Rattle.gev_apply.proofs.OfKind.{turns_are}
+use Rattle.live_crew.specs.Prepared.{Prepares}
+use Rattle.gev_live.specs.Kinds.{is_filling}
+use Rattle.gev_live.specs.History.{live_size}
+use Rattle.gev_live.proofs.Quiet.{is_beginning, beginning_are, never_closed}
+use Rattle.gev_live.proofs.Unstopped.{Unstopped, entries_unstopped, looks_unstopped}
+use Rattle.gev_live.proofs.Splitting.{PartsAt, parts_at, front_none, none_by, member_or, all_front, Behind, behind}
+use Rattle.gev_live.proofs.Looking.{LastLooked, stopped_looked}
+use Rattle.gev_live.specs.LanesHistory.{LanesCrew, workers_of, LanesHistory}
+use Rattle.gev_live.proofs.Stopping.{Within, within}
+
+-- ---- the board
+
+open_next : (b : Board) (k : ℕ) (event : Event) → b.closed ≡ false → is_close event ≡ false → (after_event b k event).closed ≡ false
+open_next b k Close open_was quiet = absurd (cc)
+open_next b k (Enrol i size (Ok g)) open_was quiet = open_was
+open_next b k (Enrol i size (Err w)) open_was quiet = open_was
+open_next b k (Grab i g (Ok done)) open_was quiet = open_was
+open_next b k (Grab i g (Err w)) open_was quiet = open_was
+open_next b k (Claim (Some i)) open_was quiet = open_was
+open_next b k (Claim None) open_was quiet = open_was
+open_next b k (Fill i f true) open_was quiet = open_was
+open_next b k (Fill i f false) open_was quiet = open_was
+open_next b k (Take (Taken i)) open_was quiet = open_was
+open_next b k (Take Empty) open_was quiet = open_was
+open_next b k (Take Closed) open_was quiet = open_was
+open_next b k (Start (Ok done)) open_was quiet = open_was
+open_next b k (Start (Err r)) open_was quiet = open_was
+open_next b k (Stop kill (Ok done)) open_was quiet = open_was
+open_next b k (Stop kill (Err r)) open_was quiet = open_was
+open_next b k _ open_was quiet = open_was
+
+open_from : (b : Board) (h : List Entry) → b.closed ≡ false → HasNone is_close h → (after_from b h).closed ≡ false
+open_from b [] open_was quiet = open_was
+open_from b (e ∷ h) open_was quiet = open_from (next b e) h (open_next b e.by e.event open_was quiet.0) quiet.1
+
+-- the run word after the beginning
+started_last : (es : List Event) (output : List ℕ) → (After (entries_of 0 (es ++ LookOut output false ∷ Start (Ok tt) ∷ []))).run ≡ 1
+started_last es output =
+    ap (λ l. (After l).run) (entries_of-append 0 es (LookOut output false ∷ Start (Ok tt) ∷ []))
+    ∙ ap (λ (b : Board). b.run) (after-append empty_board (entries_of 0 es) (entries_of 0 (LookOut output false ∷ Start (Ok tt) ∷ [])))
+
+started : (size buffers : ℕ) (prepared : List Event) → Prepares size buffers prepared → (After (entries_of 0 prepared)).run ≡ 1
+started size buffers prepared p =
+    ap (λ l. (After (entries_of 0 l)).run) (p.is ∙ ap (λ l. p.prepared ++ l) p.starts.is) ∙ started_last p.prepared p.starts.output
+
+found_empty : (b : Board) (n : ℕ) (found : Event) → (found ≡ Take Empty) ⊎ (found ≡ Take Closed) → Meets b n found → b.closed ≡ false → b.out ≡ []
+found_empty b n found (inl is) meets unclosed = (subst (Meets b n) is meets).1
+found_empty b n found (inr is) meets unclosed = let closed : b.closed ≡ true = subst (Meets b n) is meets in absurd (cc)
+
+found_unfilled : (found : Event) → (found ≡ Take Empty) ⊎ (found ≡ Take Closed) → is_filled found ≡ false
+found_unfilled found (inl is) = ap is_filled is
+found_unfilled found (inr is) = ap is_filled is
+
+filled_is : (event : Event) → is_filled event ≡ true → is_filling event ≡ true
+filled_is (Fill place filling true) is = refl
+filled_is _ is = absurd (cc)
+
+unfilled : (event : Event) → is_filling event ≡ false → is_filled event ≡ false
+unfilled event none = go (is_filled event) refl
+  where
+    go : (b : Bool) → is_filled event ≡ b → is_filled event ≡ false
+    go false is = is
+    go true is = let bad : is_filling event ≡ true = filled_is event is in absurd (cc)
+
+all_unfilled : (h : List Entry) → HasNone is_filling h → HasNone is_filled h
+all_unfilled [] none = tt
+all_unfilled (e ∷ h) none = (unfilled e.event none.0, all_unfilled h none.1)
+
+-- ---- the application's own entries
+
+own_shape : (n : ℕ) (first middle rest stops : List Event) (a b : Event)
+    → entries_of n ((first ++ a ∷ (middle ++ b ∷ rest)) ++ stops)
+    ≡ entries_of n first ++ entry n a ∷ (entries_of n middle ++ entry n b ∷ entries_of n (rest ++ stops))
+own_shape n first middle rest stops a b =
+    ap (entries_of n)
+    (append_assoc first (a ∷ (middle ++ b ∷ rest)) stops ∙ ap (λ l. first ++ a ∷ l) (append_assoc middle (b ∷ rest) stops))
+    ∙ (entries_of-append n first (a ∷ (middle ++ b ∷ (rest ++ stops)))
+    ∙ ap (λ l. entries_of n first ++ entry n a ∷ l) (entries_of-append n middle (b ∷ (rest ++ stops))))
+
+unstopped_front : (xs ys : List Event) → Unstopped (xs ++ ys) → Unstopped xs
+unstopped_front [] ys none = tt
+unstopped_front (x ∷ xs) ys none = (none.0, unstopped_front xs ys none.1)
+
+own_front : (kind : Event → Bool) (k : ℕ) (g l h : List Entry) → h ≡ g ++ l → HasNone kind (own_of k h) → HasNone kind (own_of k g)
+own_front kind k g l h is none =
+    none_front kind (own_of k g) (own_of k l) (subst (λ x. HasNone kind x) (ap (λ x. own_of k x) is ∙ own_of-append k g l) none)
+
+-- ---- the reader's own entries
+
+-- Before its last entry the acquisition's worker stops nothing.
+pub record StopsLast (r : ℕ) (h : List Entry) : Type 0 where
+  pub first : List Entry
+  pub last : Entry
+  pub own_is : own_of r h ≡ first ++ last ∷ []
+  pub none : HasNone is_stop first
+
+reader_front : (r : ℕ) (h g l : List Entry) → StopsLast r h → h ≡ g ++ l → own_of r l ≢ [] → HasNone is_stop (own_of r g)
+reader_front r h g l stops is some =
+    front_none is_stop (own_of r g) (own_of r l) stops.first stops.last (sym (own_of-append r g l) ∙ (sym (ap (λ x. own_of r x) is) ∙ stops.own_is)) some stops.none
+
+parted : (x y : ℕ) → 1 ≤ x + y → (1 ≤ x) ⊎ (1 ≤ y)
+parted zero y some = inr (omega (arith, some))
+parted (suc x) y some = inl (omega arith)
+
+-- one of the workers is a lane, or one of the three
+which : (i : ℕ) (k : LanesCrew) → 1 ≤ times i (0 ∷ workers_of k) → (i ≡ 0) ⊎ ((1 ≤ times i k.lanes) ⊎ ((i ≡ k.application) ⊎ ((i ≡ k.reader) ⊎ (i ≡ k.camera))))
+which i k member = first (member_or i 0 (workers_of k) member)
+  where
+    fourth : (i ≡ k.camera) ⊎ (1 ≤ times i []) → i ≡ k.camera
+    fourth (inl is) = is
+    fourth (inr none) = absurd (omega arith)
+
+    third : (i ≡ k.reader) ⊎ (1 ≤ times i (k.camera ∷ [])) → (i ≡ k.reader) ⊎ (i ≡ k.camera)
+    third (inl is) = inl is
+    third (inr more) = inr (fourth (member_or i k.camera [] more))
+
+    second : (i ≡ k.application) ⊎ (1 ≤ times i (k.reader ∷ k.camera ∷ [])) → (i ≡ k.application) ⊎ ((i ≡ k.reader) ⊎ (i ≡ k.camera))
+    second (inl is) = inl is
+    second (inr more) = inr (third (member_or i k.reader (k.camera ∷ []) more))
+
+    first : (i ≡ 0) ⊎ (1 ≤ times i (workers_of k)) → (i ≡ 0) ⊎ ((1 ≤ times i k.lanes) ⊎ ((i ≡ k.application) ⊎ ((i ≡ k.reader) ⊎ (i ≡ k.camera))))
+    first (inl is) = inl is
+    first (inr more) = inr (go (parted (times i k.lanes) (times i (k.application ∷ k.reader ∷ k.camera ∷ [])) (omega (arith, more, times-append i k.lanes (k.application ∷ k.reader ∷ k.camera ∷ [])))))
+      where
+        go : (1 ≤ times i k.lanes) ⊎ (1 ≤ times i (k.application ∷ k.reader ∷ k.camera ∷ [])) → (1 ≤ times i k.lanes) ⊎ ((i ≡ k.application) ⊎ ((i ≡ k.reader) ⊎ (i ≡ k.camera)))
+        go (inl lane) = inl lane
+        go (inr three) = inr (second (member_or i k.application (k.reader ∷ k.camera ∷ []) three))
+
+-- ---- the end
+
+pub emptied : (mode : Mode) (buffers : ℕ) (k : LanesCrew) (enough : Bool) (looked : List Looked) (h : List Entry) → LanesHistory mode buffers k h
+    → StopsLast k.reader h → LiveTakes k.application enough looked h → EndsStopped looked → HasNone is_stop (own_of k.camera h)
+    → HasNone is_stop (own_of 0 h) → ((i : ℕ) → 1 ≤ times i k.lanes → HasNone is_stop (own_of i h)) → (After h).out ≡ []
+emptied mode buffers k enough looked h history stops takes stopped camera host lanes = by_reader (own_of k.reader two.later) refl
+  where
+    n : ℕ
+    n = k.application
+
+    looks : LastLooked stopped.last.run takes.looked
+    looks = stopped_looked looked takes.looked stopped takes.looks
+
+    look : Entry
+    look = entry n (LookRun stopped.last.run)
+
+    found : Entry
+    found = entry n looks.found
+
+    rest : List Entry
+    rest = entries_of n (looks.rest ++ takes.stops)
+
+    own_is : own_of n h ≡ entries_of n looks.first ++ look ∷ (entries_of n looks.middle ++ found ∷ rest)
+    own_is =
+        takes.own
+        ∙ (ap (λ l. entries_of n (l ++ takes.stops)) looks.is
+        ∙ own_shape n looks.first looks.middle looks.rest takes.stops (LookRun stopped.last.run) looks.found)
+
+    one : PartsAt n h (entries_of n looks.first) look (entries_of n looks.middle ++ found ∷ rest)
+    one = parts_at n h (entries_of n looks.first) look (entries_of n looks.middle ++ found ∷ rest) own_is
+
+    two : PartsAt n one.later (entries_of n looks.middle) found rest
+    two = parts_at n one.later (entries_of n looks.middle) found rest one.after
+
+    front : List Entry
+    front = one.front ++ look ∷ two.front
+
+    whole : h ≡ front ++ found ∷ two.later
+    whole = one.is ∙ (ap (λ l. one.front ++ look ∷ l) two.is ∙ sym (append_assoc one.front (look ∷ two.front) (found ∷ two.later)))
+
+    unclosed : (After front).closed ≡ false
+    unclosed =
+        open_from empty_board front refl
+        (none_front is_close front (found ∷ two.later)
+        (subst (λ l. HasNone is_close l) whole
+        (never_closed live_size buffers history.prepared history.since h history.prepares history.begins history.kinds)))
+
+    runs : RunsFrom (After front) (found ∷ two.later)
+    runs = runs_rest empty_board front (found ∷ two.later) (subst (λ l. Run l) whole history.run)
+
+    empty_there : (After front).out ≡ []
+    empty_there = found_empty (After front) n looks.found looks.is_found runs.0.meets unclosed
+
+    beginning : AreOf is_beginning (entries_of 0 history.prepared)
+    beginning = are_of_entries is_beginning 0 history.prepared (beginning_are live_size buffers history.prepared history.prepares)
+
+    there : Behind (entries_of 0 history.prepared) history.since one.front look one.later
+    there = behind is_beginning (entries_of 0 history.prepared) history.since one.front look one.later beginning refl (sym history.begins ∙ one.is)
+
+    -- where the acquisition's worker did nothing more it had stopped the run, and nothing is filled behind that
+    quiet_end : own_of k.reader two.later ≡ [] → (After h).out ≡ []
+    quiet_end nothing =
+        ap (λ l. (After l).out) whole
+        ∙ output_stays front (found ∷ two.later) empty_there
+        (found_unfilled looks.found looks.is_found, all_unfilled two.later (none_rest is_filling behind_stop.front two.later (subst (λ l. HasNone is_filling l) behind_stop.is history.quiet)))
+      where
+        behind_stop : Within two.later history.after
+        behind_stop = within (front ++ found ∷ []) two.later history.before history.after (entry k.reader (Stop false history.answer))
+            (append_assoc front (found ∷ []) two.later ∙ (sym whole ∙ history.stopped)) nothing
+
+    -- nobody stopped the run before that look
+    turns_of : Unstopped takes.looked
+    turns_of = looks_unstopped takes.looked (turns_are looked takes.looked takes.looks)
+
+    application_front : HasNone is_stop (own_of n one.front)
+    application_front =
+        subst (λ l. HasNone is_stop l) (sym one.before)
+        (entries_unstopped n looks.first (unstopped_front looks.first _ (subst (λ l. Unstopped l) looks.is turns_of)))
+
+    reader_before : own_of k.reader two.later ≢ [] → HasNone is_stop (own_of k.reader one.front)
+    reader_before some =
+        own_front is_stop k.reader one.front (look ∷ (two.front ++ found ∷ [])) (front ++ found ∷ [])
+        (append_assoc one.front (look ∷ two.front) (found ∷ []))
+        (reader_front k.reader h (front ++ found ∷ []) two.later stops (whole ∙ sym (append_assoc front (found ∷ []) two.later)) some)
+
+    by_worker : (i : ℕ) → own_of k.reader two.later ≢ [] → 1 ≤ times i (0 ∷ workers_of k) → HasNone is_stop (own_of i one.front)
+    by_worker i some member = go (which i k member)
+      where
+        at : (j : ℕ) → i ≡ j → HasNone is_stop (own_of j one.front) → HasNone is_stop (own_of i one.front)
+        at j is none = subst (λ x. HasNone is_stop (own_of x one.front)) (sym is) none
+
+        go : (i ≡ 0) ⊎ ((1 ≤ times i k.lanes) ⊎ ((i ≡ k.application) ⊎ ((i ≡ k.reader) ⊎ (i ≡ k.camera)))) → HasNone is_stop (own_of i one.front)
+        go (inl is) = at 0 is (own_front is_stop 0 one.front (look ∷ one.later) h one.is host)
+        go (inr (inl lane)) = own_front is_stop i one.front (look ∷ one.later) h one.is (lanes i lane)
+        go (inr (inr (inl is))) = at k.application is application_front
+        go (inr (inr (inr (inl is)))) = at k.reader is (reader_before some)
+        go (inr (inr (inr (inr is)))) = at k.camera is (own_front is_stop k.camera one.front (look ∷ one.later) h one.is camera)
+
+    still_runs : own_of k.reader two.later ≢ [] → stopped.last.run ≡ 1
+    still_runs some = met ∙ (ap (λ l. (After l).run) there.front_is ∙ run_stays (entries_of 0 history.prepared) there.between (started live_size buffers history.prepared history.prepares) none)
+      where
+        none_before : HasNone is_stop one.front
+        none_before =
+            none_by is_stop (0 ∷ workers_of k) one.front
+            (all_front (0 ∷ workers_of k) one.front (look ∷ one.later) (subst (λ l. AllBy (0 ∷ workers_of k) l) one.is history.entries))
+            (λ i member. by_worker i some member)
+
+        none : HasNone is_stop there.between
+        none = none_rest is_stop (entries_of 0 history.prepared) there.between (subst (λ l. HasNone is_stop l) there.front_is none_before)
+
+        met : stopped.last.run ≡ (After one.front).run
+        met = (runs_rest empty_board one.front (look ∷ one.later) (subst (λ l. Run l) one.is history.run)).0.meets
+
+    by_reader : (l : List Entry) → own_of k.reader two.later ≡ l → (After h).out ≡ []
+    by_reader [] is = quiet_end is
+    by_reader (e ∷ l) is = absurd (stopped.over.stopped (still_runs (λ nothing. let bad : e ∷ l ≡ [] = sym is ∙ nothing in cc)))

@@ -1,0 +1,12 @@
+pub mod Backs
+pub mod Counted
+pub mod Errands
+pub mod Answered
+pub mod Addresses
+pub mod Replaying
+pub mod Promised
+pub mod Recorded
+pub mod Completing
+pub mod Faced
+pub mod Simulated
+pub mod Received

@@ -1,0 +1,186 @@
+//! A live run over ports.
+
+ghost use Rattle.std.specs.Prelude.{◌≡◌, ◌≢◌, ◌+◌, ◌≤◌, ℕ, [], ◌∷◌, None, IfSome};
+ghost use Rattle.board_machine.specs.Histories.{After};
+ghost use Rattle.board_machine.specs.Laws.{IsAlone};
+ghost use Rattle.gev_links.specs.Faults.{Rose};
+ghost use Rattle.gev_links.specs.Links.{IsBlank};
+ghost use Rattle.gev_links.specs.PortsState.{IsNew};
+ghost use Rattle.gev_program.specs.Bound.{AllToldOfThree, RaisesBy};
+ghost use Rattle.gev_top.specs.LiveWords.{IsInRange};
+ghost use Rattle.gev_top.specs.Completeness.{NoneRose, EndsLive};
+ghost use Rattle.buffer_words.specs.Boards.{board_id};
+ghost use Rattle.gev_program.specs.Runs.{GivesAllBack, IsBound, RunsOver, RunsNothing};
+
+use crate::binding::bind_three;
+use crate::returning::give_back;
+use crate::three_links::ThreeLinks;
+use buffer_words::{Board, Pass};
+use gev_links::{Gate, Ports, Sink};
+use gev_live::{Ends, live_over};
+use gev_status::Status;
+use gev_top::LiveNumbers;
+use std::alloc::Global;
+use std::sync::Wait;
+use std::thread::Threads;
+
+/// Gives a run's links and clocks back.
+pub(crate) fn give_ends<P: Ports>(ports: &mut P, ends: Ends<P::L, P::L, P::C>)
+    ensures links { AllToldOfThree (P.links ports.old) (P.links ports.new) (ends.camera ∷ ends.stream ∷ ends.control ∷ []) }
+    ensures clocks { AllToldOfThree (P.clocks ports.old) (P.clocks ports.new) (ends.camera_clock ∷ ends.host_clock ∷ ends.app_clock ∷ []) }
+    ensures binds { P.binds ports.new ≡ P.binds ports.old }
+    ensures bound { P.bound ports.new ≡ P.bound ports.old }
+    ensures faults { RaisesBy (P.L.faults ends.camera) (P.L.faults ends.stream) (P.L.faults ends.control) (P.faults ports.old) (P.faults ports.new) }
+{
+    let Ends {
+        camera,
+        stream,
+        control,
+        camera_clock,
+        host_clock,
+        app_clock,
+    } = ends;
+    let links = ThreeLinks {
+        camera,
+        stream,
+        control,
+    };
+    give_back(ports, links, camera_clock, host_clock, app_clock);
+}
+
+/// Takes three clocks of the ports, beside these links.
+pub(crate) fn with_clocks<P: Ports>(
+    ports: &mut P,
+    links: ThreeLinks<P::L>,
+) -> Ends<P::L, P::L, P::C>
+    ensures camera { result.camera ≡ links.camera }
+    ensures stream { result.stream ≡ links.stream }
+    ensures control { result.control ≡ links.control }
+    ensures camera_clock { IsBlank (P.C.told result.camera_clock) }
+    ensures host_clock { IsBlank (P.C.told result.host_clock) }
+    ensures app_clock { IsBlank (P.C.told result.app_clock) }
+    ensures binds { P.binds ports.new ≡ P.binds ports.old }
+    ensures bound { P.bound ports.new ≡ P.bound ports.old }
+    ensures links { P.links ports.new ≡ P.links ports.old }
+    ensures clocks { P.clocks ports.new ≡ P.clocks ports.old }
+    ensures faults { P.faults ports.new ≡ P.faults ports.old }
+{
+    let ThreeLinks {
+        camera,
+        stream,
+        control,
+    } = links;
+    let camera_clock = ports.clock();
+    let host_clock = ports.clock();
+    let app_clock = ports.clock();
+    Ends {
+        camera,
+        stream,
+        control,
+        camera_clock,
+        host_clock,
+        app_clock,
+    }
+}
+
+/// Runs over these links and clocks on a new board, and gives all back.
+fn run_over<R: Threads + Wait + Sync, K: Sink, P: Ports, G: Gate + Sync>(
+    rt: &R,
+    alloc: Global,
+    numbers: LiveNumbers,
+    ends: Ends<P::L, P::L, P::C>,
+    ports: &mut P,
+    gate: &G,
+    sink: &mut K,
+    kept: &mut Option<(Board, Pass)>,
+) -> Status
+    requires within { IsInRange numbers }
+    requires unkept { kept.old ≡ None }
+    requires camera { IsNew (P.L.received ends.camera) (P.L.sent ends.camera) (P.L.faults ends.camera) }
+    requires stream { IsNew (P.L.received ends.stream) (P.L.sent ends.stream) (P.L.faults ends.stream) }
+    requires control { IsNew (P.L.received ends.control) (P.L.sent ends.control) (P.L.faults ends.control) }
+    requires camera_clock { IsBlank (P.C.told ends.camera_clock) }
+    requires host_clock { IsBlank (P.C.told ends.host_clock) }
+    requires app_clock { IsBlank (P.C.told ends.app_clock) }
+    ensures live { IfSome kept.new (λ k. RunsOver P.L.received P.L.sent P.L.faults P.C.told numbers (P.L.address ends.camera) (P.L.address ends.stream) result (P.links ports.old) (P.links ports.new)
+        (P.clocks ports.old) (P.clocks ports.new) (K.written sink.old) (K.written sink.new) (K.faults sink.old) (K.faults sink.new) k.1.seen) }
+    ensures alone { IfSome kept.new (λ k. IsAlone (After k.1.seen) 0) }
+    ensures own { IfSome kept.new (λ k. k.1.table ≡ board_id k.0) }
+    ensures wanting { kept.new ≡ None → result ≡ Status.NoMemory }
+    ensures back { kept.new ≡ None → GivesAllBack P.L.received P.L.sent P.L.faults P.C.told (P.links ports.old) (P.links ports.new) (P.clocks ports.old) (P.clocks ports.new) }
+    ensures unwritten { kept.new ≡ None → K.written sink.new ≡ K.written sink.old }
+    ensures no_fault { kept.new ≡ None → K.faults sink.new ≡ K.faults sink.old }
+    ensures binds { P.binds ports.new ≡ P.binds ports.old }
+    ensures bound { P.bound ports.new ≡ P.bound ports.old }
+    ensures link_fault { result ≡ Status.LinkFault → Rose (P.faults ports.old) (P.faults ports.new) }
+    ensures links_steady { result ≢ Status.LinkFault → P.faults ports.new ≡ P.faults ports.old }
+    ensures writes_steady { result ≢ Status.WriteFault → K.faults sink.new ≡ K.faults sink.old }
+    ensures understood { (place : ℕ) → result ≢ Status.Usage place }
+    ensures complete { NoneRose (K.faults sink.old) (K.faults sink.new) → result ≢ Status.LinkFault → EndsLive result }
+{
+    match Board::new(alloc) {
+        Ok(made) => {
+            let (board, mut pass) = made;
+            let (status, ends) = live_over(
+                rt,
+                alloc,
+                &board,
+                &mut pass,
+                numbers.seed,
+                numbers.frames,
+                numbers.buffers,
+                numbers.lanes,
+                numbers.turns,
+                ends,
+                gate,
+                sink,
+                numbers.mode,
+            );
+            give_ends(ports, ends);
+            // All that the pass has seen is one run of the board.
+            pass.witness();
+            *kept = Some((board, pass));
+            status
+        }
+        Err(_) => {
+            give_ends(ports, ends);
+            Status::NoMemory
+        }
+    }
+}
+
+/// A live run with these numbers: binds three links, takes three clocks, makes the board and runs over them, and
+/// gives links and clocks back in the order in which they came. The run's board and the run's pass, which is over
+/// that board, are kept in `kept`, where a board was made.
+pub fn run_live<R: Threads + Wait + Sync, K: Sink, P: Ports, G: Gate + Sync>(
+    rt: &R,
+    alloc: Global,
+    numbers: LiveNumbers,
+    ports: &mut P,
+    gate: &G,
+    sink: &mut K,
+    kept: &mut Option<(Board, Pass)>,
+) -> Status
+    requires within { IsInRange numbers }
+    requires unkept { kept.old ≡ None }
+    ensures live { IfSome kept.new (λ k. IsBound (P.bound ports.old) (P.bound ports.new) (λ camera stream. RunsOver P.L.received P.L.sent P.L.faults P.C.told numbers camera stream result
+        (P.links ports.old) (P.links ports.new) (P.clocks ports.old) (P.clocks ports.new) (K.written sink.old) (K.written sink.new) (K.faults sink.old) (K.faults sink.new) k.1.seen)) }
+    ensures alone { IfSome kept.new (λ k. IsAlone (After k.1.seen) 0) }
+    ensures own { IfSome kept.new (λ k. k.1.table ≡ board_id k.0) }
+    ensures none { kept.new ≡ None → RunsNothing P.L.received P.L.sent P.L.faults P.C.told result (P.binds ports.old) (P.binds ports.new) (P.links ports.old) (P.links ports.new)
+        (P.clocks ports.old) (P.clocks ports.new) (K.written sink.old) (K.written sink.new) (K.faults sink.old) (K.faults sink.new) }
+    ensures binds { P.binds ports.new ≤ P.binds ports.old + 3 }
+    ensures link_fault { result ≡ Status.LinkFault → Rose (P.faults ports.old) (P.faults ports.new) }
+    ensures links_steady { result ≢ Status.LinkFault → P.faults ports.new ≡ P.faults ports.old }
+    ensures writes_steady { result ≢ Status.WriteFault → K.faults sink.new ≡ K.faults sink.old }
+    ensures understood { (place : ℕ) → result ≢ Status.Usage place }
+    ensures complete { NoneRose (K.faults sink.old) (K.faults sink.new) → result ≢ Status.LinkFault → EndsLive result }
+{
+    match bind_three(ports) {
+        Ok(links) => {
+            let ends = with_clocks(ports, links);
+            run_over(rt, alloc, numbers, ends, ports, gate, sink, kept)
+        }
+        Err(_) => Status::LinkFault,
+    }
+}

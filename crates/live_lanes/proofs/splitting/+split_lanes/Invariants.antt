@@ -1,5 +1,0 @@
-use Rattle.std.proofs.Common.{vec_len}
-use Rattle.live_lanes.proofs.splitting.+split_lanes.Given as goal
-
-abbrev pub decreases-split_lanes : goal.decreases-split_lanes
-decreases-split_lanes l = vec_len l.parts
