@@ -9,4 +9,7 @@
 
 mod laws;
 
-pub use laws::{frames_runs_keep_promises, leaving_makes_the_stop, runs_have_histories};
+pub use laws::{
+    frames_runs_keep_promises, leaving_makes_the_stop, receptions_keep_promises,
+    runs_have_histories,
+};
