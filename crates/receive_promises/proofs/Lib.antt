@@ -1,0 +1,11 @@
+pub mod Crew
+pub mod Histories
+pub mod Reading
+pub mod Idle
+pub mod Ending
+pub mod Telling
+pub mod Meaning
+pub mod Keeping
+pub mod Stopping
+pub mod Received
+pub mod Written
