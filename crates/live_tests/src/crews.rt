@@ -13,7 +13,7 @@ use gev_control::AcqEnd;
 use gev_lanes::{LaneEnds, Lanes};
 use gev_links::{MemoryClock, MemoryLink, OpenGate};
 use gev_types::{NoMemory, Peer};
-use lane_crew::{Host, LaneTools, LanesReader, lanes_parts_stay, read_by_lanes};
+use lane_crew::{Acquired, Host, LaneTools, LanesReader, lanes_parts_stay, read_by_lanes};
 use live_crew::Worked;
 use mode_calls::Mode;
 use std::alloc::Global;
@@ -85,13 +85,15 @@ fn read_blocks<R: Threads + Wait + Sync>(
     let (lanes, reader, ends) = Lanes::new(alloc, count)?;
     let tools = make_tools(alloc, &board, &mut host, &lanes, ends)?;
     let pass = board.split(&mut host);
+    let stream = MemoryLink::new(alloc, STREAM, PACKETS, &[], &[], 0)?;
+    let control = MemoryLink::new(alloc, HOST, answers, &[], &[], 9)?;
     let mine = LanesReader {
         lanes,
         reader,
         tools,
         host: Host {
-            stream: MemoryLink::new(alloc, STREAM, PACKETS, &[], &[], 0)?,
-            control: MemoryLink::new(alloc, HOST, answers, &[], &[], 9)?,
+            stream,
+            control,
             clock: MemoryClock::new(&[]),
             client: Client::new(),
         },
@@ -101,12 +103,24 @@ fn read_blocks<R: Threads + Wait + Sync>(
         mode: Mode::OldestFirst,
     };
     let Worked { pass, done } = read_by_lanes(rt, alloc, &board, pass, &OpenGate, mine);
-    let control = done.host.control;
+    let Acquired {
+        host: reader_host,
+        journal: _,
+        counts: _,
+        shed: _,
+        end,
+    } = done;
+    let Host {
+        stream: _,
+        control,
+        clock: _,
+        client: _,
+    } = reader_host;
     board.join(&mut host, pass);
     let first = next_block(rt, &board, &mut host);
     let second = next_block(rt, &board, &mut host);
     Ok((
-        done.end,
+        end,
         control.sent().len(),
         first.min(second),
         first.max(second),
