@@ -15,7 +15,7 @@ OF_CAMERA_SCRIPTS = ["camera"]
 OF_CAPTURES = ["streams", "capture 49152 1464 4096"]
 # Those that read nothing. Their numbers are drawn anew, and now and then a word is changed.
 OF_NOTHING = ["make 1 3 50 50 50", "soak 1 3 50 50 50", "soak 1 3 50 0 0 short", "live 1 2 2 1 3", "record 1 2 2 3", "description 127.83.9.9",
-              "simulate 127.83.9.9 until=stdin seed=1 rate=20 turns=3"]
+              "receive 127.83.9.9 2 packet=1500 set:0x0124=1 until=stdin", "simulate 127.83.9.9 until=stdin seed=1 rate=20 turns=3"]
 
 # How long one run may take, and all together, in seconds.
 RUN_SECONDS = 20
@@ -35,6 +35,7 @@ STATUSES = {
     "record": {0, 9, 10, 11},
     # no camera is there
     "description": {9},
+    "receive": {9},
     "simulate": {0},
 }
 
@@ -530,6 +531,12 @@ def judge_pictures(script, status, text, error):
     wants(status == 7 or at == len(text), "another number of pixels")
 
 
+def judge_reception(words, status, text, error):
+    """The last line, with pictures nothing: no camera is there."""
+    last = rf"receive frames={words[2].decode()} taken=0 complete=0 p=0 bytes=0 ids=none( [a-z]+=0){{9}}\n"
+    wants(re.fullmatch("" if b"as=pictures" in words else last, text), f"the text {text[:300]!r}")
+
+
 def judge_simulation(data, status, text, error):
     """The line of few turns: its input ends at once."""
     wants(re.fullmatch(r"simulate frames=0 turns=\d+\n", text), f"the text {text[:200]!r}")
@@ -546,6 +553,7 @@ JUDGES = {
     "soak": judge_run,
     "live": judge_run,
     "record": judge_record,
+    "receive": judge_reception,
     "simulate": judge_simulation,
 }
 
@@ -578,6 +586,8 @@ def judge(program, words, data):
     wants(status in STATUSES.get(first, ()) or status == 7, f"status {status} of `{first}`")
     if first in ("soak", "live"):
         data = int(words[4]) if first == "live" else 1
+    if first == "receive":
+        data = words
     of_all = first == "image" and words[1] == b"all"
     if first in JUDGES:
         judge_of = judge_pictures if of_all else JUDGES[first]
@@ -638,6 +648,12 @@ def any_words(draw):
         words[4] = b"%d" % draw.randrange(1, 5)
         if draw.random() < 0.7:
             words.append(b"%d" % draw.randrange(3))
+    if words[0] == b"receive":
+        numbers = ((b"packet", (575, 576, 9000, 9001)), (b"buffers", (0, 1, 15, 16)), (b"bytes", (0, 1, 67108864, 67108865)), (b"window", (0, 1, 4, 5)), (b"silence", (0, 1, 3600000)))
+        settings = [b"%s=%d" % (name, draw.choice(values)) for name, values in numbers]
+        settings += [b"%s=%s" % (name, draw.choice(values)) for name, values in ((b"as", (b"lines", b"pictures", b"counts", b"none")), (b"until", (b"stdin", b"frames")))]
+        settings += [b"%s:%s=%d" % (draw.choice([b"set", b"start", b"stop"]), draw.choice([b"0x124", b"292", b"0xA00", b"0x126"]), draw.getrandbits(32)) for _ in range(2)]
+        words[3:] = draw.sample(settings, draw.randrange(5))
     if words[0] == b"simulate":
         settings = [b"seed=%d" % draw.getrandbits(64), b"rate=%d" % draw.choice([3, 4, 20, 1000, 1001]), b"turns=%d" % draw.choice([0, 1, 3, 2**32 - 1, 2**32])]
         words[3:] = draw.sample(settings, draw.randrange(1, 4))

@@ -21,16 +21,33 @@ const PAYLOADS: u32 = 212;
 pub const ACKS: &str =
     "x000000830004000100000001,x000000830004000200000001,x000000830004000300000001,x000000830004000400000001";
 
-/// Puts what this names: `xBYTES` a datagram, `tBLOCK` a frame's trailer, `BLOCK` its packets, and `BLOCK.LOST` these
-/// without a payload.
-pub fn put_datagram(alloc: Global, packets: &mut Vec<Vec<u8>>, name: &str) -> Result<(), Wrong> {
+/// What a link hears in one receive: nothing, or bytes from the camera or from another address.
+#[derive(Drop)]
+pub enum Heard {
+    Nothing,
+    Camera(Vec<u8>),
+    Stranger(Vec<u8>),
+}
+
+/// Puts what this names: `xBYTES` a datagram, `sxBYTES` one of another address, `-TIMES` so many receives that get
+/// nothing, `tBLOCK` a frame's trailer, `BLOCK` its packets, and `BLOCK.LOST` these without a payload.
+pub fn put_datagram(alloc: Global, packets: &mut Vec<Heard>, name: &str) -> Result<(), Wrong> {
     if let Some(digits) = name.strip_prefix("x") {
-        let bytes = hex::decode(alloc, digits.as_bytes()).map_err(|_| Wrong::NotUnderstood)?;
-        packets.push(bytes)?;
+        packets.push(Heard::Camera(bytes_of(alloc, digits)?))?;
+        return Ok(());
+    }
+    if let Some(digits) = name.strip_prefix("sx") {
+        packets.push(Heard::Stranger(bytes_of(alloc, digits)?))?;
+        return Ok(());
+    }
+    if let Some(times) = name.strip_prefix("-") {
+        for _ in 0..block_of(times)? {
+            packets.push(Heard::Nothing)?;
+        }
         return Ok(());
     }
     if let Some(block) = name.strip_prefix("t") {
-        packets.push(trailer(alloc, block_of(block)?)?)?;
+        packets.push(Heard::Camera(trailer(alloc, block_of(block)?)?))?;
         return Ok(());
     }
     let (block, lost) = name.split_once(".").unwrap_or((name, "0"));
@@ -39,7 +56,12 @@ pub fn put_datagram(alloc: Global, packets: &mut Vec<Vec<u8>>, name: &str) -> Re
     Ok(())
 }
 
-/// The number of a block, or of a payload.
+/// The bytes of hexadecimal digits.
+fn bytes_of(alloc: Global, digits: &str) -> Result<Vec<u8>, Wrong> {
+    hex::decode(alloc, digits.as_bytes()).map_err(|_| Wrong::NotUnderstood)
+}
+
+/// The number of a block, of a payload or of receives.
 fn block_of(text: &str) -> Result<u64, Wrong> {
     text.parse::<u64>().map_err(|_| Wrong::NotUnderstood)
 }
@@ -77,12 +99,12 @@ fn trailer(alloc: Global, block: u64) -> Result<Vec<u8>, NoMemory> {
 /// Puts the packets of a frame of seed 1, without its payload `lost`; number 0 leaves none out.
 fn put_frame(
     alloc: Global,
-    packets: &mut Vec<Vec<u8>>,
+    packets: &mut Vec<Heard>,
     block: u64,
     lost: u64,
 ) -> Result<(), NoMemory> {
     let frame = frame_of(alloc, 1, block, SHAPE)?;
-    packets.push(leader(alloc, block)?)?;
+    packets.push(Heard::Camera(leader(alloc, block)?))?;
     let mut id = 0u32;
     for payload in frame.pixels.as_slice().chunks(PAYLOAD_SIZE) {
         id = id.saturating_add(1);
@@ -90,9 +112,9 @@ fn put_frame(
             let mut packet = Vec::new(alloc);
             put_header(&mut packet, 3, block, id)?;
             packet.extend_from_slice(payload)?;
-            packets.push(packet)?;
+            packets.push(Heard::Camera(packet))?;
         }
     }
-    packets.push(trailer(alloc, block)?)?;
+    packets.push(Heard::Camera(trailer(alloc, block)?))?;
     Ok(())
 }

@@ -1,19 +1,17 @@
 //! Cases of the program's call: each line of standard input is a command line with the ports that it runs over, and is
 //! written again with how the call ended; the lines of its report stand below.
 //!
-//! `WORDS / SETTINGS` calls `gevacq_top`, and `read WORDS` reads a command line, here and by `clap`.
+//! `WORDS / SETTINGS` calls `gevacq_top`. How the words of each command are read stands in `top_cases`.
 #![tactic(auto)]
 
 mod datagrams;
 mod outcome;
 mod pacing;
 mod running;
-mod second_reading;
 mod setting;
 
 use outcome::show;
 use running::run;
-use second_reading::both_read;
 use setting::{Setting, Wrong};
 use std::io;
 use std::sync::Wait;
@@ -30,12 +28,6 @@ fn main(rt: HostRuntime) -> io::Result<()> {
 fn answer<R: Threads + Wait + Sync>(rt: &HostRuntime, handles: &R, line: &str) -> io::Result<()> {
     if line.is_empty() || line.starts_with("#") {
         return println!(rt; "{line}");
-    }
-    if let Some(words) = line.strip_prefix("read ") {
-        return match both_read(rt.alloc(), words) {
-            Ok(found) => println!(rt; "{line} = {found}"),
-            Err(_) => println!(rt; "{line} = no memory"),
-        };
     }
     let (words, settings) = line.split_once(" /").unwrap_or((line, ""));
     match Setting::read(rt.alloc(), settings) {

@@ -3,6 +3,7 @@
 ghost use Rattle.std.specs.Prelude.{◌≡◌, IfSome};
 ghost use Rattle.buffer_words.specs.Boards.{board_id};
 
+use crate::datagrams::Heard;
 use crate::outcome::{Outcome, Sent};
 use crate::pacing::Pace;
 use crate::setting::{Fails, Setting};
@@ -16,6 +17,12 @@ use std::thread::Threads;
 
 const CAMERA: Peer = Peer {
     address: 0x7f00_0001,
+    port: 3956,
+};
+
+/// Another machine.
+const STRANGER: Peer = Peer {
+    address: 0x7f00_0002,
     port: 3956,
 };
 
@@ -45,7 +52,7 @@ pub fn run<R: Threads + Wait + Sync>(
 }
 
 /// The words of a text.
-pub fn word_list(alloc: Global, text: &str) -> Result<Vec<String>, NoMemory> {
+fn word_list(alloc: Global, text: &str) -> Result<Vec<String>, NoMemory> {
     let mut words = Vec::new(alloc);
     for word in text.split_whitespace() {
         words.push(String::from_str(alloc, word)?)?;
@@ -53,11 +60,15 @@ pub fn word_list(alloc: Global, text: &str) -> Result<Vec<String>, NoMemory> {
     Ok(words)
 }
 
-/// These packets as what a link hears from the camera.
-fn heard(alloc: Global, packets: &[Vec<u8>]) -> Result<Vec<Option<(&[u8], Peer)>>, NoMemory> {
+/// What a link hears, each with its sender.
+fn heard(alloc: Global, packets: &[Heard]) -> Result<Vec<Option<(&[u8], Peer)>>, NoMemory> {
     let mut all = Vec::new(alloc);
     for packet in packets {
-        all.push(Some((packet.as_slice(), CAMERA)))?;
+        all.push(match packet {
+            Heard::Nothing => None,
+            Heard::Camera(bytes) => Some((bytes.as_slice(), CAMERA)),
+            Heard::Stranger(bytes) => Some((bytes.as_slice(), STRANGER)),
+        })?;
     }
     Ok(all)
 }

@@ -1,6 +1,6 @@
 //! What a row says of the ports, the sink and the gate: `NAME=VALUE` for each, with lists parted by commas.
 
-use crate::datagrams::{ACKS, put_datagram};
+use crate::datagrams::{ACKS, Heard, put_datagram};
 use gev_types::NoMemory;
 use std::alloc::{AllocFailed, Global};
 
@@ -48,8 +48,8 @@ pub struct Fails {
 #[derive(Drop)]
 pub struct Setting {
     /// What the stream's link and the control link hear: nothing, and the acknowledges of the setup.
-    pub stream: Vec<Vec<u8>>,
-    pub control: Vec<Vec<u8>>,
+    pub stream: Vec<Heard>,
+    pub control: Vec<Heard>,
     /// The moments of the host's clock: without any it stands at 0.
     pub moments: Vec<u64>,
     pub fails: Fails,
@@ -106,6 +106,7 @@ impl Setting {
             "control" => self.control = datagrams(alloc, value)?,
             "again" => self.answer_again(alloc, value)?,
             "clock" => self.moments = moments(alloc, value)?,
+            "steps" => self.moments = steps(alloc, value)?,
             "bind" => self.fails.bind = only(value)?,
             "hear" => self.fails.hear = only(value)?,
             "answer" => self.fails.answer = only(value)?,
@@ -178,15 +179,30 @@ fn moments(alloc: Global, last: &str) -> Result<Vec<u64>, Wrong> {
     Ok(all)
 }
 
+/// Moments that rise by steps, `RISE*TIMES` for each with so many readings, from 0 on.
+fn steps(alloc: Global, list: &str) -> Result<Vec<u64>, Wrong> {
+    let mut all = Vec::new(alloc);
+    let mut moment = 0u64;
+    for step in list.split(',') {
+        let (rise, times) = step.split_once("*").ok_or(Wrong::NotUnderstood)?;
+        let rise = number(rise)?;
+        for _ in 0..number(times)? {
+            moment = moment.saturating_add(rise);
+            all.push(moment)?;
+        }
+    }
+    Ok(all)
+}
+
 /// Datagrams parted by commas; of an empty list none.
-fn datagrams(alloc: Global, list: &str) -> Result<Vec<Vec<u8>>, Wrong> {
+fn datagrams(alloc: Global, list: &str) -> Result<Vec<Heard>, Wrong> {
     let mut all = Vec::new(alloc);
     put_datagrams(alloc, &mut all, list)?;
     Ok(all)
 }
 
 /// Puts such datagrams.
-fn put_datagrams(alloc: Global, all: &mut Vec<Vec<u8>>, list: &str) -> Result<(), Wrong> {
+fn put_datagrams(alloc: Global, all: &mut Vec<Heard>, list: &str) -> Result<(), Wrong> {
     for name in list.split(',') {
         if !name.is_empty() {
             put_datagram(alloc, all, name)?;

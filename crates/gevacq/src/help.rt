@@ -64,6 +64,30 @@ gevacq description <camera>
     Writes the description of the camera's registers, as it lies in the camera at
     this address: mostly a zip file, else XML.
 
+gevacq receive <camera> <frames> [<word>..]
+    Takes control of the camera at this address, makes it send, and writes a line
+    for each image that is handed out; then it stops the camera, gives control
+    away, and writes a line of what was counted. Its words, in any order:
+      set:<register>=<value>     is written before the stream is opened
+      start:<register>=<value>   is written once it's open
+      stop:<register>=<value>    is written at the end
+      packet=<n>      packet size in bytes, 576 to 9000, else 1500
+      buffers=<n>     how many buffers, 1 to 15, else 8
+      bytes=<n>       bytes of each, 1 to 67108864, else those of the first image
+      mode=<n>        0 to 2, else 0: what gives way where buffers are few, as in `live`
+      window=<n>      open blocks at once, 1 to 4, else 4
+      timeout=<ms>    1 to 60000, else 200: a block of which nothing came for so
+                      long is given up
+      age=<ms>        1 to 60000, else 5: missing packets are asked for after so long
+      rounds=<n>      how often they are, 0 to 8, else 3
+      silence=<ms>    1 to 3600000, else 5000: ends where nothing came for so long
+      as=pictures     pictures in place of all lines; as=counts the last line alone;
+                      else as=lines
+      until=stdin     ends where standard input has ended too, else until=frames
+      progress=<ms>   100 to 60000: how it goes, on standard error, else 0 for no
+                      such lines
+    At most 64 registers are written, none that the program writes itself.
+
 gevacq simulate <address> [<word>..]
     Simulates a camera at this address of the machine: it answers a command a
     turn, sends an image a turn while its stream is open, and writes at last how
@@ -85,16 +109,19 @@ gevacq --version, gevacq -V
 <bytes>                     1 to 67108864
 <seed>                      0 to 18446744073709551615
 <frames>                    0 to 100000, of `live` and `record` 1 to 1000
+<frames> of `receive`       1 to 4294967295
 <loss>, <repeat>, <swap>    0 to 1000, of a thousand packets
 <buffers>                   1 to 15
 <lanes>                     1 to 4
 <turns>                     1 to 100000000, of `record` 1 to 100000
 <mode>                      0 to 2, and 0 where it isn't given
 <address>, <camera>         four numbers of 0 to 255, joined by dots
+<register>                  a multiple of 4, 0 to 4294967292
+<value>                     0 to 4294967295
 
-Numbers are decimal, without a sign and without a leading zero. The lines of
-scripts and reports, the wire formats and the exit statuses are described in
-docs/FORMATS.md.
+Numbers are decimal, without a sign and without a leading zero; registers and
+values may be hexadecimal too, as 0x0124. The lines of scripts and reports, the
+wire formats and the exit statuses are described in docs/FORMATS.md.
 ";
 
 /// A line for each command line, printed behind the text of words that weren't understood.
@@ -111,11 +138,12 @@ usage: gevacq live <seed> <frames> <buffers> <lanes> <turns> [<mode>]
 usage: gevacq record <seed> <frames> <buffers> <turns>
 usage: gevacq discover [<address>]
 usage: gevacq description <camera>
+usage: gevacq receive <camera> <frames> [<word>..]
 usage: gevacq simulate <address> [<word>..]
 ";
 
 /// An example of each command.
-const EXAMPLES: [(&str, &str); 13] = [
+const EXAMPLES: [(&str, &str); 14] = [
     ("replay", "./gevacq replay < examples/one_block.script"),
     (
         "explain",
@@ -139,6 +167,10 @@ const EXAMPLES: [(&str, &str); 13] = [
     (
         "description",
         "./gevacq description 192.168.10.7 > camera.zip",
+    ),
+    (
+        "receive",
+        "./gevacq receive 192.168.10.7 100 start:0x0124=1 stop:0x0124=0",
     ),
     ("simulate", "./gevacq simulate 127.0.0.1"),
 ];

@@ -15,7 +15,7 @@ pub struct Case<'x> {
     pub numbers: &'x [u64],
     /// The moments that the clock tells.
     pub moments: &'x [u64],
-    /// What the control link hears, or the camera's link.
+    /// What the control link hears.
     pub control: Heard<'x>,
     /// Which receives fail on that link, counted from 1.
     pub receives: &'x [u64],
@@ -23,8 +23,6 @@ pub struct Case<'x> {
     pub sends: &'x [u64],
     /// What the stream's link hears.
     pub stream: Heard<'x>,
-    /// Which receives fail on the stream's link.
-    pub losses: &'x [u64],
 }
 
 impl<'x> Case<'x> {

@@ -1,7 +1,5 @@
 //! The peers of a row, its links, and what was sent on them.
 
-ghost use Rattle.std.specs.Prelude.{◌≡◌, [], Some, IfOk};
-
 use crate::case::{Case, Heard};
 use anyhow::Result;
 use gev_links::{CountsFaults, MemoryLink};
@@ -78,18 +76,11 @@ pub fn print_takes(rt: &HostRuntime, report: &[u8]) -> Result<()> {
     Ok(())
 }
 
-/// The control link, or the camera's, at this address.
+/// The control link, at this address.
 pub fn control_link<'x>(
     alloc: Global,
     case: &Case<'x>,
     peer: Peer,
-) -> Result<MemoryLink<'x>, NoMemory>
-    ensures received { IfOk result (λ link. link.received ≡ Some []) }
-{
+) -> Result<MemoryLink<'x>, NoMemory> {
     MemoryLink::new(alloc, peer, case.control, case.receives, case.sends, ROOM)
-}
-
-/// The stream's link, on which nothing is sent.
-pub fn stream_link<'x>(alloc: Global, case: &Case<'x>) -> Result<MemoryLink<'x>, NoMemory> {
-    MemoryLink::new(alloc, STREAM, case.stream, case.losses, NONE, 0)
 }

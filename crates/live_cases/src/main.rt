@@ -1,31 +1,22 @@
-//! The rows of a live run's workers: what comes over links in memory and when, and what each worker made of it.
+//! The rows of live and of recorded runs, of tapes and of scripts: what comes over links in memory and when, and what became of
+//! it. The rows of each worker stand in `worker_cases`.
 //!
-//! A row is a word, and behind it up to seven fields: numbers; the moments of the clock; what the control link hears;
-//! which of its receives fail, and which of its sends; what the stream's link hears, and which of its receives fail.
+//! A row is a word, and behind it up to six fields: numbers; the moments of the clock; what the control link hears; which of
+//! its receives fail, and which of its sends, or the writes of a sink; and what the stream's link hears.
 //! A datagram is `0x` and its bytes, `-` is a receive that gets nothing, and a field that is `.` or left out is empty.
 #![tactic(auto)]
 
-mod acquiring;
-mod applying;
-mod board;
 mod case;
-mod controlling;
 mod frames;
-mod laws;
 mod links;
 mod living;
 mod meeting;
-mod ordering;
-mod pacing;
-mod reading;
 mod recording;
 mod scripts;
-mod serving;
 mod tapes;
-mod telling;
 
 use crate::case::{Case, Heard, datagrams, heard, numbers};
-use crate::links::{CAMERA, HOST};
+use crate::links::CAMERA;
 use anyhow::Result;
 use std::sync::Wait;
 use std::thread::Threads;
@@ -43,24 +34,18 @@ fn main(rt: HostRuntime) -> Result<()> {
     Ok(())
 }
 
-/// Prints the answer of a row. What a camera hears comes from the host, and all else from the camera.
+/// Prints the answer of a row. What is heard comes from the camera.
 fn answer<R: Threads + Wait + Sync>(rt: &HostRuntime, handles: &R, line: &str) -> Result<()> {
     let alloc = rt.alloc();
     let mut fields = line.split(' ');
     let word = fields.next().unwrap_or("");
-    let peer = if word == "serve" || word == "obey" {
-        HOST
-    } else {
-        CAMERA
-    };
     let numbers_of_row = numbers(alloc, fields.next())?;
     let moments = numbers(alloc, fields.next())?;
     let control = datagrams(alloc, fields.next())?;
     let receives = numbers(alloc, fields.next())?;
     let sends = numbers(alloc, fields.next())?;
     let stream = datagrams(alloc, fields.next())?;
-    let losses = numbers(alloc, fields.next())?;
-    let control_hears = heard(alloc, control.as_slice(), peer)?;
+    let control_hears = heard(alloc, control.as_slice(), CAMERA)?;
     let stream_hears = heard(alloc, stream.as_slice(), CAMERA)?;
     answer_over(
         rt,
@@ -72,7 +57,6 @@ fn answer<R: Threads + Wait + Sync>(rt: &HostRuntime, handles: &R, line: &str) -
         receives.as_slice(),
         sends.as_slice(),
         stream_hears.as_slice(),
-        losses.as_slice(),
     )
 }
 
@@ -87,7 +71,6 @@ fn answer_over<'x, R: Threads + Wait + Sync>(
     receives: &'x [u64],
     sends: &'x [u64],
     stream: Heard<'x>,
-    losses: &'x [u64],
 ) -> Result<()> {
     let case = Case {
         numbers,
@@ -96,57 +79,14 @@ fn answer_over<'x, R: Threads + Wait + Sync>(
         receives,
         sends,
         stream,
-        losses,
     };
-    if call_worker(rt, handles, word, &case)? || call_run(rt, handles, word, &case)? {
-        return Ok(());
+    match word {
+        "tape" => tapes::hear_some(rt, &case)?,
+        "script" => scripts::write_turns(rt, &case)?,
+        "live" => living::live(rt, handles, &case)?,
+        "record" => recording::record(rt, handles, &case)?,
+        "retake" => recording::retake(rt, handles, &case)?,
+        _ => print!(rt; "not understood")?,
     }
-    print!(rt; "not understood")?;
     Ok(())
-}
-
-/// Makes a call of one worker: whether the word is known.
-fn call_worker<R: Wait>(
-    rt: &HostRuntime,
-    handles: &R,
-    word: &str,
-    case: &Case<'_>,
-) -> Result<bool> {
-    match word {
-        "setup" => controlling::set_up(rt, handles, case)?,
-        "turn" => controlling::make_turn(rt, case)?,
-        "orders" => ordering::carry(rt, handles, case)?,
-        "through" => ordering::carry_through(rt, handles, case)?,
-        "beat" => ordering::tell_heartbeat(rt, case)?,
-        "sends" => controlling::send_some(rt, case)?,
-        "acquire" => acquiring::acquire_some(rt, handles, case)?,
-        "paces" => pacing::pace_some(rt, handles, case)?,
-        "served" => telling::serve_some(rt, handles, case)?,
-        "told" => telling::tell_one(rt, handles, case)?,
-        "serve" => serving::serve_some(rt, case)?,
-        "obey" => serving::obey_one(rt, case)?,
-        "apply" => applying::apply_some(rt, handles, case)?,
-        "read" => reading::read_some(rt, handles, case)?,
-        _ => return Ok(false),
-    }
-    Ok(true)
-}
-
-/// Makes a call of a run, of its tape or of its script: whether the word is known.
-fn call_run<R: Threads + Wait + Sync>(
-    rt: &HostRuntime,
-    handles: &R,
-    word: &str,
-    case: &Case<'_>,
-) -> Result<bool> {
-    match word {
-        "tape" => tapes::hear_some(rt, case)?,
-        "script" => scripts::write_turns(rt, case)?,
-        "live" => living::live(rt, handles, case)?,
-        "record" => recording::record(rt, handles, case)?,
-        "retake" => recording::retake(rt, handles, case)?,
-        "laws" => laws::call_all(rt)?,
-        _ => return Ok(false),
-    }
-    Ok(true)
 }

@@ -12,7 +12,7 @@ use std::alloc::{AllocError, Global};
 use std::sync::Wait;
 
 /// The limit of a send, in milliseconds.
-const SEND_LIMIT: u64 = 500;
+pub const SEND_LIMIT: u64 = 500;
 
 /// The fields of a row.
 #[derive(Drop)]
@@ -152,6 +152,11 @@ fn print_taken(rt: &HostRuntime, taken: Result<Taken, NotTaken>) -> Result<bool>
 /// How often the link failed, and what was sent.
 fn print_sent(rt: &HostRuntime, link: &MemoryLink<'_>) -> Result<()> {
     print!(rt; ", faults {}", link.fault_count())?;
+    print_link(rt, link)
+}
+
+/// What was sent on a link.
+pub fn print_link(rt: &HostRuntime, link: &MemoryLink<'_>) -> Result<()> {
     for sent in link.sent() {
         print!(rt;
             "\n  to {:x}:{} {}",

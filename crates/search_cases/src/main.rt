@@ -6,11 +6,15 @@
 //! link hears. A field that is `.` is empty. `simulate` has two more: its settings, and how many bytes standard input has.
 //! Of `control` they are the moments; the numbers of the receives and of the sends that fail; the packet size; the writes
 //! before the stream opens, those that start and those that stop the camera; the moments that the client is told before it's
-//! let go; and what the link hears.
+//! let go; and what the link hears. Of `leader` they are the moments; the numbers of the looks and receives of the stream
+//! that fail, and of the receives and the sends of the control link; the packet size; for how long it's waited; the input,
+//! of which each byte lasts for one look, or `-` where it isn't looked at; what the stream hears; and what the control link
+//! hears, from the acknowledge of a first command on.
 #![tactic(auto)]
 
 mod controlling; // cameras that are taken and let go
 mod datagrams; // what a link hears
+mod leading; // waits for a first leader
 mod ports; // ports in memory
 mod running; // whole commands
 mod simulating; // a simulated camera
@@ -43,6 +47,7 @@ fn answer<R: Wait>(rt: &HostRuntime, handles: &R, row: &str) -> Result<()> {
         "acknowledge" => telling::acknowledge(rt, rest),
         "discover" => running::discover_row(rt, handles, rest),
         "control" => controlling::control_row(rt, handles, rest),
+        "leader" => leading::leader_row(rt, handles, rest),
         "describe" => running::describe_row(rt, handles, rest),
         "simulate" => simulating::simulate_row(rt, handles, rest),
         _ => {

@@ -2,7 +2,9 @@
 
 use anyhow::Result;
 use camera_description::location_in;
-use camera_words::{address_in, read_description, read_discover, read_simulate};
+use camera_words::{
+    Settings, address_in, read_description, read_discover, read_receive, read_simulate,
+};
 use gvcp_discovery::{add_camera, add_count, read_discovery};
 use gvcp_wire::parse_ack;
 
@@ -24,6 +26,9 @@ pub fn words(rt: &HostRuntime, line: &str) -> Result<()> {
         own.push_str(word)?;
         all.push(own)?;
     }
+    if line.starts_with("receive") {
+        return receive_words(rt, all.as_slice());
+    }
     if line.starts_with("simulate") {
         return simulate_words(rt, all.as_slice());
     }
@@ -35,6 +40,42 @@ pub fn words(rt: &HostRuntime, line: &str) -> Result<()> {
     match said {
         Ok(address) => print!(rt; "{address:08x}")?,
         Err(place) => print!(rt; "not at {place}")?,
+    }
+    Ok(())
+}
+
+/// Those of `receive`.
+fn receive_words(rt: &HostRuntime, words: &[String]) -> Result<()> {
+    match read_receive(words) {
+        Ok(settings) => show_settings(rt, &settings),
+        Err(place) => {
+            print!(rt; "not at {place}")?;
+            Ok(())
+        }
+    }
+}
+
+/// What `receive` is asked for: the writes come last, each behind its stage.
+fn show_settings(rt: &HostRuntime, settings: &Settings) -> Result<()> {
+    print!(rt; "{} of {:08x}", settings.frames, settings.camera)?;
+    print!(rt; " packet {} buffers {}", settings.packet, settings.buffers)?;
+    match settings.bytes {
+        Some(bytes) => print!(rt; " bytes {bytes}")?,
+        None => print!(rt; " bytes of the first frame")?,
+    }
+    print!(rt; " mode {} window {}", settings.mode, settings.window)?;
+    print!(rt; " timeout {} age {}", settings.timeout, settings.age)?;
+    print!(rt; " rounds {} silence {}", settings.rounds, settings.silence)?;
+    print!(rt;
+        " as {:?} until input {}",
+        settings.output, settings.until_input_ends
+    )?;
+    print!(rt; " progress {}", settings.progress)?;
+    for write in settings.writes.as_slice() {
+        print!(rt;
+            " {:?} {:08x} {:08x}",
+            write.stage, write.register, write.value
+        )?;
     }
     Ok(())
 }

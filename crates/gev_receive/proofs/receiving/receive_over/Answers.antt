@@ -1,4 +1,5 @@
 use Rattle.std.proofs.Common.{refl, inl}
+use Rattle.gev_receive.proofs.Drops.{receives_still}
 use Rattle.gev_receive.proofs.MeetingLaws.{none_made, seen_same}
 use Rattle.gev_receive.proofs.Standing.{receives_stand}
 use Rattle.gev_receive.proofs.Over.{receives_over, link_failed, link_steady, write_failed, write_steady}
@@ -23,7 +24,7 @@ returns-clause-receives g c =
     c.receive_from-status.result.1.host_clock c.receive_from-status.result.1.app_clock c.receive_from-status.result.1.input_clock
     c.control_peer-camera.ensures c.in-Ok.ensures.bound c.give_back.ensures.bound c.in-Ok.ensures.links c.give_back.ensures.links
     c.bind_ends.ensures.clocks c.give_back.ensures.clocks c.in-Ok.ensures.control c.in-Ok.ensures.stream c.in-Ok.ensures.host_clock c.in-Ok.ensures.app_clock
-    (seen_same c.receive_from-status.new.kept) c.receive_from-status.ensures.receives
+    (seen_same c.receive_from-status.new.kept) (receives_still _ _ _ _ _ _ _ _ _ _ _ _ _ _ _ _ _ _ c.receive_from-status.ensures.receives c.tell_drops.ensures.written c.tell_drops.ensures.faults)
 
 pub returns-clause-answers : goal.returns-clause-answers
 returns-clause-answers g c =
@@ -44,9 +45,9 @@ returns-clause-link_steady g c =
 pub returns-clause-write_failed : goal.returns-clause-write_failed
 returns-clause-write_failed g c =
     write_failed c.receive_from-status.result.0 _ _ _ _ _ _
-    (receives_stand _ _ _ _ _ _ _ _ _ _ _ _ _ _ _ c.receive_from-status.result.0 c.receive_from-status.ensures.receives)
+    (receives_stand _ _ _ _ _ _ _ _ _ _ _ _ _ _ _ c.receive_from-status.result.0 (receives_still _ _ _ _ _ _ _ _ _ _ _ _ _ _ _ _ _ _ c.receive_from-status.ensures.receives c.tell_drops.ensures.written c.tell_drops.ensures.faults))
 
 pub returns-clause-write_steady : goal.returns-clause-write_steady
 returns-clause-write_steady g c =
     write_steady c.receive_from-status.result.0 _ _ _ _ _ _
-    (receives_stand _ _ _ _ _ _ _ _ _ _ _ _ _ _ _ c.receive_from-status.result.0 c.receive_from-status.ensures.receives)
+    (receives_stand _ _ _ _ _ _ _ _ _ _ _ _ _ _ _ c.receive_from-status.result.0 (receives_still _ _ _ _ _ _ _ _ _ _ _ _ _ _ _ _ _ _ c.receive_from-status.ensures.receives c.tell_drops.ensures.written c.tell_drops.ensures.faults))

@@ -3,7 +3,7 @@ use Rattle.acq_core.specs.Receiver.{buffers}
 use Rattle.acq_core.specs.Waiting.{waiting_fills, waiting_requests}
 use Rattle.buffer_words.specs.Boards.{board_id}
 use Rattle.gev_acq.specs.Buffers.{Backs}
-use Rattle.live_cases.proofs.pacing.take_turns.Given as goal
+use Rattle.worker_cases.proofs.pacing.take_turns.Given as goal
 
 abbrev pub invariant-loop-turn : goal.invariant-loop-turn
 invariant-loop-turn g l = record {

@@ -1,0 +1,82 @@
+//! The peers of a row, its links, and what was sent on them.
+
+ghost use Rattle.std.specs.Prelude.{◌≡◌, [], Some, IfOk};
+
+use crate::case::Case;
+use anyhow::Result;
+use gev_links::{CountsFaults, MemoryLink};
+use gev_types::{NoMemory, Peer};
+use std::alloc::Global;
+
+/// The camera's control channel.
+pub const CAMERA: Peer = Peer {
+    address: 0x7f00_0001,
+    port: 3956,
+};
+
+/// The host's control channel.
+pub const HOST: Peer = Peer {
+    address: 0x7f00_0001,
+    port: 1,
+};
+
+/// The host's link for the stream.
+pub const STREAM: Peer = Peer {
+    address: 0x7f00_0001,
+    port: 49_152,
+};
+
+/// How many datagrams a link keeps of what is sent.
+const ROOM: usize = 20;
+
+/// Datagrams of longer ones are printed by their length.
+const SHOWN: usize = 32;
+
+/// No numbers, as of sends that fail.
+const NONE: &[u64] = &[];
+
+/// Prints how often a link failed, and what was sent on it: to whom, and the bytes or how many they are.
+pub fn print_sent(rt: &HostRuntime, link: &MemoryLink<'_>) -> Result<()> {
+    print!(rt; "\n  faults {}", link.fault_count())?;
+    for sent in link.sent() {
+        print!(rt; "\n  to {:x}:{} ", sent.0.address, sent.0.port)?;
+        print_bytes(rt, sent.1.as_slice())?;
+    }
+    Ok(())
+}
+
+/// Prints a datagram, or how long it is.
+pub fn print_bytes(rt: &HostRuntime, bytes: &[u8]) -> Result<()> {
+    if bytes.len() <= SHOWN {
+        print!(rt; "0x{}", hex::encode(rt.alloc(), bytes)?.as_str())?;
+    } else {
+        print!(rt; "{} bytes", bytes.len())?;
+    }
+    Ok(())
+}
+
+/// Prints a text, each of its lines on a line of its own.
+pub fn print_text(rt: &HostRuntime, text: &[u8]) -> Result<()> {
+    for line in text.split(|byte| *byte == b'\n') {
+        if !line.is_empty() {
+            print!(rt; "\n  {}", str::from_utf8(line)?)?;
+        }
+    }
+    Ok(())
+}
+
+/// The control link, or the camera's, at this address.
+pub fn control_link<'x>(
+    alloc: Global,
+    case: &Case<'x>,
+    peer: Peer,
+) -> Result<MemoryLink<'x>, NoMemory>
+    ensures received { IfOk result (λ link. link.received ≡ Some []) }
+{
+    MemoryLink::new(alloc, peer, case.control, case.receives, case.sends, ROOM)
+}
+
+/// The stream's link, on which nothing is sent.
+pub fn stream_link<'x>(alloc: Global, case: &Case<'x>) -> Result<MemoryLink<'x>, NoMemory> {
+    MemoryLink::new(alloc, STREAM, case.stream, case.losses, NONE, 0)
+}

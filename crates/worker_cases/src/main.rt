@@ -1,0 +1,140 @@
+//! The rows of a live run's workers: what comes over links in memory and when, and what each worker made of it.
+//!
+//! A row is a word, and behind it up to seven fields: numbers; the moments of the clock; what the control link hears;
+//! which of its receives fail, and which of its sends; what the stream's link hears, and which of its receives fail.
+//! A datagram is `0x` and its bytes, `-` is a receive that gets nothing, and a field that is `.` or left out is empty.
+#![tactic(auto)]
+
+mod acquiring;
+mod applying;
+mod board;
+mod case;
+mod controlling;
+mod laws;
+mod links;
+mod ordering;
+mod pacing;
+mod reading;
+mod serving;
+mod telling;
+
+use crate::case::{Case, Heard, datagrams, heard, numbers};
+use crate::links::{CAMERA, HOST};
+use anyhow::Result;
+use std::sync::Wait;
+
+fn main(rt: HostRuntime) -> Result<()> {
+    for line in rt.lines(rt.alloc()) {
+        let line = line?;
+        print!(rt; "{}", line.as_str())?;
+        if !line.as_str().is_empty() && !line.as_str().starts_with('#') {
+            print!(rt; " = ")?;
+            answer(&rt, &rt, line.as_str())?;
+        }
+        println!(rt)?;
+    }
+    Ok(())
+}
+
+/// Prints the answer of a row. What a camera hears comes from the host, and all else from the camera.
+fn answer<R: Wait>(rt: &HostRuntime, handles: &R, line: &str) -> Result<()> {
+    let alloc = rt.alloc();
+    let mut fields = line.split(' ');
+    let word = fields.next().unwrap_or("");
+    let peer = if word == "serve" || word == "obey" {
+        HOST
+    } else {
+        CAMERA
+    };
+    let numbers_of_row = numbers(alloc, fields.next())?;
+    let moments = numbers(alloc, fields.next())?;
+    let control = datagrams(alloc, fields.next())?;
+    let receives = numbers(alloc, fields.next())?;
+    let sends = numbers(alloc, fields.next())?;
+    let stream = datagrams(alloc, fields.next())?;
+    let losses = numbers(alloc, fields.next())?;
+    let control_hears = heard(alloc, control.as_slice(), peer)?;
+    let stream_hears = heard(alloc, stream.as_slice(), CAMERA)?;
+    answer_over(
+        rt,
+        handles,
+        word,
+        numbers_of_row.as_slice(),
+        moments.as_slice(),
+        control_hears.as_slice(),
+        receives.as_slice(),
+        sends.as_slice(),
+        stream_hears.as_slice(),
+        losses.as_slice(),
+    )
+}
+
+/// The same, by the row's fields.
+fn answer_over<'x, R: Wait>(
+    rt: &HostRuntime,
+    handles: &R,
+    word: &str,
+    numbers: &'x [u64],
+    moments: &'x [u64],
+    control: Heard<'x>,
+    receives: &'x [u64],
+    sends: &'x [u64],
+    stream: Heard<'x>,
+    losses: &'x [u64],
+) -> Result<()> {
+    let case = Case {
+        numbers,
+        moments,
+        control,
+        receives,
+        sends,
+        stream,
+        losses,
+    };
+    if call_control(rt, handles, word, &case)? || call_worker(rt, handles, word, &case)? {
+        return Ok(());
+    }
+    print!(rt; "not understood")?;
+    Ok(())
+}
+
+/// Makes a call of the control part, or of the laws: whether the word is known.
+fn call_control<R: Wait>(
+    rt: &HostRuntime,
+    handles: &R,
+    word: &str,
+    case: &Case<'_>,
+) -> Result<bool> {
+    match word {
+        "setup" => controlling::set_up(rt, handles, case)?,
+        "turn" => controlling::make_turn(rt, case)?,
+        "orders" => ordering::carry(rt, handles, case)?,
+        "through" => ordering::carry_through(rt, handles, case)?,
+        "beat" => ordering::tell_heartbeat(rt, case)?,
+        "sends" => controlling::send_some(rt, case)?,
+        "laws" => laws::call_all(rt)?,
+        _ => return Ok(false),
+    }
+    Ok(true)
+}
+
+/// Makes a call of a worker: whether the word is known.
+fn call_worker<R: Wait>(
+    rt: &HostRuntime,
+    handles: &R,
+    word: &str,
+    case: &Case<'_>,
+) -> Result<bool> {
+    match word {
+        "acquire" => acquiring::acquire_some(rt, handles, case)?,
+        "paces" => pacing::pace_some(rt, handles, case)?,
+        "served" => telling::serve_some(rt, handles, case)?,
+        "told" => telling::tell_one(rt, handles, case)?,
+        "serve" => serving::serve_some(rt, case)?,
+        "obey" => serving::obey_one(rt, case)?,
+        "apply" => applying::apply_some(rt, handles, case)?,
+        "read" => reading::read_some(rt, handles, case)?,
+        _ => return Ok(false),
+    }
+    Ok(true)
+}
