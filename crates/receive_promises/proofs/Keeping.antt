@@ -1,5 +1,5 @@
 -- Each run over a camera's frames keeps its promises.
-use Rattle.std.proofs.Common.{◌≡◌, inl, inr, ℕ, ◌≤◌, Bool, true, false, List, [], ◌∷◌, ◌++◌, Option, refl, sym, ap, subst, arith, eq-eqb, ne_eqb}
+use Rattle.std.proofs.Common.{◌≡◌, inl, inr, ℕ, ◌≤◌, Bool, true, false, List, [], ◌∷◌, ◌++◌, Option, Some, refl, sym, ap, subst, ◌∙◌, arith, eq-eqb, ne_eqb}
 use Rattle.std.specs.List.{AllByRecursion}
 use Rattle.board_machine.specs.declared.events.Entry.{Entry}
 use Rattle.board_machine.specs.declared.events.Event.{Event}
@@ -19,8 +19,13 @@ use Rattle.buffer_words.specs.Workers.{AreEvents, OnlyBy}
 use Rattle.mode_calls.specs.declared.mode.Mode.{Mode}
 use Rattle.mode_calls.specs.Dropped.{handed_out_items}
 use Rattle.script_trace.proofs.Handing.{taken_all}
-use Rattle.gev_links.specs.Links.{Address}
-use Rattle.gev_acq.specs.Turns.{Outside}
+use Rattle.gev_links.specs.Links.{Address, Answer}
+use Rattle.gev_links.specs.Moments.{TellsEach}
+use Rattle.gev_acq.specs.Turns.{Turned, Outside}
+use Rattle.gev_acq.specs.Acquired.{answers_in}
+use Rattle.packet_requests.specs.declared.id_mode.IdMode.{IdMode}
+use Rattle.camera_reader.specs.Hearing.{Arrival, answers_of, heard_as}
+use Rattle.std.proofs.lemmas.List.{append_cancel_left}
 use Rattle.gev_live.specs.Kinds.{is_filling, is_taking}
 use Rattle.gev_live.specs.Acquirers.{handed_out, takers}
 use Rattle.gev_live.proofs.Quiet.{is_beginning, beginning_are}
@@ -92,6 +97,17 @@ reader_account mode size buffers k a h its history handed =
     (application_free a k.application (subst (λ r. times k.application (k.application ∷ r ∷ []) ≤ 1) its (history.apart k.application)))
     (reader_acquires a) handed
 
+-- ---- what was heard
+
+-- what is told since is all that arrived
+heard_since : (ids : IdMode) (old answers : List Answer) (received received_after : Option (List Answer)) (made : List Turned) (arrivals : List Arrival) → received ≡ Some old → received_after ≡ Some (old ++ answers)
+    → TellsEach received received_after (answers_of arrivals) → answers_in made ≡ heard_as ids (answers_of arrivals) → answers_in made ≡ heard_as ids answers
+heard_since ids old answers received received_after made arrivals before behind tells heard =
+    heard ∙ ap (heard_as ids) (sym (append_cancel_left old answers (answers_of arrivals) told))
+  where
+    told : old ++ answers ≡ old ++ answers_of arrivals
+    told = subst (λ (r : Option (List Answer)). TellsEach (Some old) r (answers_of arrivals)) behind (subst (λ (r : Option (List Answer)). TellsEach r received_after (answers_of arrivals)) before tells)
+
 -- ---- a run
 
 module _ (settings : Settings) (camera : Address) (leader : FirstLeader) (resends : Bool) (o n : Outside) (stream stream_after control control_after : ℕ)
@@ -121,6 +137,7 @@ module _ (settings : Settings) (camera : Address) (leader : FirstLeader) (resend
         (alone_acquires (reader_of run) h alone);
     account = reader_account (mode_of settings.mode) (buffer_size settings leader) settings.buffers run.crew (reader_of run) h refl run.history run.application_part.all;
     handed = handed;
+    heard = λ old answers before behind. heard_since leader.ids old answers o.received n.received run.reader_part.made run.reader_part.on.arrivals before behind run.reader_part.on.received run.reader_part.on.hears.heard;
     framed = λ frames sent.
         all_weaker (IsRetired c told) (HoldsUnder frames c told) (λ x r. blocks_frames frames c told x r (inputs_sent frames c.p run.reader_part.made sent)) (handed_items h) handed;
     p_told = ap (λ (x : ReceiveCounts). x.p) run.counts_are;

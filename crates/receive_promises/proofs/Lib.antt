@@ -7,3 +7,5 @@ pub mod Telling
 pub mod Meaning
 pub mod Keeping
 pub mod Stopping
+pub mod Received
+pub mod Written

@@ -25,6 +25,7 @@ use Rattle.buffer_words.specs.Workers.{AreOf, AreEvents}
 use Rattle.buffer_words.proofs.Working.{are_of_entries}
 use Rattle.mode_calls.specs.declared.mode.Mode.{Mode}
 use Rattle.gev_links.specs.Links.{Address}
+use Rattle.packet_requests.specs.declared.id_mode.IdMode.{IdMode}
 use Rattle.gev_acq.specs.Filling.{laid_unless}
 use Rattle.gev_acq.specs.Serving.{Serves}
 use Rattle.gev_acq.specs.Claims.{claims_in, met_by, claims_by}
@@ -52,10 +53,10 @@ own_entered s t events none e =
     ∙ (ap (λ l. own_of s.number l) e.seen
     ∙ (own_of-append s.number s.seen e.between ∙ (ap (λ l. l ++ own_of s.number e.between) none ∙ e.own)))
 
-pub part_stays : (mode : Mode) (c : AcqConfig) (camera : Address) (silence : ℕ) (o n : Outside) (counts : Counts) (end : ReaderEnd) (s t : Token)
-    (reads : ReadsFrames mode c camera silence o n counts end s t) (h : List Entry) → own s ≡ [] → IsPrefix t.seen h → own_of s.number h ≡ own t
+pub part_stays : (mode : Mode) (c : AcqConfig) (ids : IdMode) (camera : Address) (silence : ℕ) (o n : Outside) (counts : Counts) (end : ReaderEnd) (s t : Token)
+    (reads : ReadsFrames mode c ids camera silence o n counts end s t) (h : List Entry) → own s ≡ [] → IsPrefix t.seen h → own_of s.number h ≡ own t
     → CameraReading mode c s.number end reads.begin reads.made h
-part_stays mode c camera silence o n counts end s t reads h none front whole = record {
+part_stays mode c ids camera silence o n counts end s t reads h none front whole = record {
   turned = reads.turned;
   turns = reads.on.serves;
   last = reads.last;

@@ -102,7 +102,7 @@ module _ (settings : Settings) (camera : Address) (leader : FirstLeader) (resend
   own_a = home_own r.begin r.ran.one a r.ran.worked_a r.ran.two r.ran.home u.seen r.ran.first first_in r.ran.ended_run
 
   reading : CameraReading mode c a.number r.read r.ran.did_first.0.begin r.ran.did_first.0.made u.seen
-  reading = part_stays mode c camera settings.silence o n r.counted r.read a r.ran.worked_a r.ran.did_first.0 u.seen r.ran.first.new
+  reading = part_stays mode c leader.ids camera settings.silence o n r.counted r.read a r.ran.worked_a r.ran.did_first.0 u.seen r.ran.first.new
       (home_prefix r.begin r.ran.one a r.ran.worked_a r.ran.two r.ran.home u.seen r.ran.first first_in) own_a
 
   strict : HasNone is_fill_refused (own r.ran.worked_a) → AreOf (is_strict_readers mode) (own r.ran.worked_a)
@@ -152,6 +152,7 @@ module _ (settings : Settings) (camera : Address) (leader : FirstLeader) (resend
     read = r.read;
     reader_part = record {
       begin = r.ran.did_first.0.begin;
+      refused = r.ran.did_first.0.refused;
       made = r.ran.did_first.0.made;
       turned = r.ran.did_first.0.turned;
       last = r.ran.did_first.0.last;

@@ -22,7 +22,7 @@ use Rattle.gev_status.specs.declared.status.Status.{Status}
 use Rattle.receive_lines.specs.declared.receive_counts.ReceiveCounts.{ReceiveCounts}
 use Rattle.gev_receive.specs.Answers.{reader_status, handed_status, weightier}
 use Rattle.gev_receive.specs.Starting.{config_of, mode_of, buffer_size, leader_counts, with_counts}
-use Rattle.gev_receive.specs.Reader.{inputs_from}
+use Rattle.gev_receive.specs.Reader.{inputs_from, with_refused}
 use Rattle.gev_receive.specs.Frames.{Pair, FramesHistory, CameraReader, FramesApplication}
 
 -- Reader and application ran, and ended so. Buffers have one size, and blocks are received as the words and the first
@@ -33,7 +33,7 @@ pub record FramesRun (settings : Settings) (camera : Address) (leader : FirstLea
   pub crew : Pair
   pub history : FramesHistory (mode_of settings.mode) (buffer_size settings leader) settings.buffers crew h
   pub read : ReaderEnd
-  pub reader_part : CameraReader (mode_of settings.mode) (config_of settings leader resends) camera settings.silence (buffer_size settings leader) o n crew.reader read h
+  pub reader_part : CameraReader (mode_of settings.mode) (config_of settings leader resends) leader.ids camera settings.silence (buffer_size settings leader) o n crew.reader read h
   pub reader_faults : FaultsOf (is_fault read) stream stream_after control control_after
   pub handed : HandedOut
   pub application_part : FramesApplication (mode_of settings.mode) settings.output settings.frames crew.application handed app app_after written written_after faults faults_after
@@ -41,7 +41,7 @@ pub record FramesRun (settings : Settings) (camera : Address) (leader : FirstLea
   pub dropped : Drops input left
   pub unmissed : misses_after ≡ misses
   pub counted : Counts
-  pub counted_is : counted ≡ capped (AfterInputs (config_of settings leader resends) (inputs_from reader_part.begin reader_part.made ++ stop ∷ [])).counts
+  pub counted_is : counted ≡ with_refused (capped (AfterInputs (config_of settings leader resends) (inputs_from reader_part.begin reader_part.made ++ stop ∷ [])).counts) reader_part.refused
   pub answered : answer ≡ weightier (handed_status handed.end) (reader_status read settings.frames handed.taken)
   pub counts_are : counts ≡ with_counts (leader_counts settings leader) handed.taken handed.complete counted
   -- where the application found the run over no buffer is left in the output

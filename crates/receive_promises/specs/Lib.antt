@@ -3,3 +3,5 @@ pub mod Meaning
 pub mod Promises
 pub mod Stopping
 pub mod Laws
+pub mod Received
+pub mod Written

@@ -2,6 +2,7 @@
 
 ghost use Rattle.receive_promises.specs.Laws.{RunsHaveHistories, FramesRunsKeepPromises};
 ghost use Rattle.receive_promises.specs.Stopping.{LeavingMakesTheStop};
+ghost use Rattle.receive_promises.specs.Written.{ReceptionsKeepPromises};
 
 /// Where reader and application ran, the board's history has one owner of each buffer at every step, and each of the
 /// two did its part of it.
@@ -19,4 +20,12 @@ pub fn frames_runs_keep_promises()
 /// had no answer, or the heartbeat that was waited for told lost control.
 pub fn leaving_makes_the_stop()
     ensures { LeavingMakesTheStop }
+{}
+
+/// Each whole run keeps its promises. Where reader and application ran they kept the headline, and where the camera wasn't
+/// taken, or no leader came, no buffer was filled or taken. The stop was made of a camera that was taken, or was held, and
+/// hadn't let its controller go. And what was written are the texts of the buffers that the application took, and the last
+/// line, all of it where the answer has that line.
+pub fn receptions_keep_promises()
+    ensures { ReceptionsKeepPromises }
 {}
