@@ -6,8 +6,8 @@ ghost use Rattle.board_machine.specs.Laws.{IsAlone};
 ghost use Rattle.buffer_words.specs.Boards.{board_id};
 ghost use Rattle.camera_words.specs.Receiving.{IsInRange};
 ghost use Rattle.gev_links.specs.Faults.{Rose};
-ghost use Rattle.gev_receive.specs.Receives.{ReceivesOver};
 ghost use Rattle.gev_top.specs.Completeness.{NoneRose, EndsReception};
+ghost use Rattle.receive_promises.specs.Over.{ReceivesSo};
 
 use buffer_words::{Board, Pass};
 use camera_words::Settings;
@@ -41,7 +41,7 @@ where
     P::L: PeekLink,
     requires within { IsInRange settings.now }
     requires unkept { kept.old ≡ None }
-    ensures receives { ReceivesOver P.L.received P.L.sent P.L.faults P.C.told settings.now result (P.bound ports.old) (P.bound ports.new)
+    ensures receives { ReceivesSo P.L.received P.L.sent P.L.faults P.C.told settings.now result (P.bound ports.old) (P.bound ports.new)
         (P.links ports.old) (P.links ports.new) (P.clocks ports.old) (P.clocks ports.new) (S.left source.new)
         (K.written sink.old) (K.written sink.new) (K.faults sink.old) (K.faults sink.new) (option_map (λ k. k.1.seen) kept.new) }
     ensures alone { IfSome kept.new (λ k. IsAlone (After k.1.seen) 0) }

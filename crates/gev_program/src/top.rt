@@ -19,7 +19,7 @@ ghost use Rattle.gev_program.specs.Runs.{IsBound, RunsOver, RecordsOver, RunsNot
 ghost use Rattle.gev_program.specs.Cameras.{DiscoversOver, DescribesOver};
 ghost use Rattle.gev_program.specs.Simulation.{SimulatesSo};
 ghost use Rattle.gev_program.specs.Reception.{WritesSteady};
-ghost use Rattle.gev_receive.specs.Receives.{ReceivesOver};
+ghost use Rattle.receive_promises.specs.Over.{ReceivesSo};
 ghost use Rattle.camera_words.specs.declared.settings.Settings.{Settings};
 ghost use Rattle.camera_words.specs.declared.simulate_words.SimulateWords.{SimulateWords};
 ghost use Rattle.gev_program.specs.Replayed.{ReplaysByHeadline};
@@ -143,7 +143,7 @@ where
     // which both came back, and what was written is what was handed out. Where a board was made its pass is kept, which is
     // alone and has seen the run's whole history.
     ensures receives { (asked : Settings) → errand_of (map (λ word. string_bytes word) words.now) ≡ Ok (errands.Receive asked)
-        → ReceivesOver P.L.received P.L.sent P.L.faults P.C.told asked result (P.bound ports.old) (P.bound ports.new)
+        → ReceivesSo P.L.received P.L.sent P.L.faults P.C.told asked result (P.bound ports.old) (P.bound ports.new)
         (P.links ports.old) (P.links ports.new) (P.clocks ports.old) (P.clocks ports.new) (S.left source.new)
         (K.written sink.old) (K.written sink.new) (K.faults sink.old) (K.faults sink.new) (option_map (λ k. k.1.seen) kept.new) }
 
@@ -238,7 +238,7 @@ where
 
     // The frames of a camera.
     ensures receives { (asked : Settings) → errand ≡ (errands.Receive asked)
-        → ReceivesOver P.L.received P.L.sent P.L.faults P.C.told asked result (P.bound ports.old) (P.bound ports.new)
+        → ReceivesSo P.L.received P.L.sent P.L.faults P.C.told asked result (P.bound ports.old) (P.bound ports.new)
         (P.links ports.old) (P.links ports.new) (P.clocks ports.old) (P.clocks ports.new) (S.left source.new)
         (K.written sink.old) (K.written sink.new) (K.faults sink.old) (K.faults sink.new) (option_map (λ k. k.1.seen) kept.new) }
 

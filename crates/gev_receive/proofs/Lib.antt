@@ -7,4 +7,4 @@ pub mod Standing
 pub mod Bound
 pub mod MeetingLaws
 pub mod Over
-pub mod Drops
+pub mod Still

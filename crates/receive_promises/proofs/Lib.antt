@@ -9,3 +9,4 @@ pub mod Keeping
 pub mod Stopping
 pub mod Received
 pub mod Written
+pub mod Over

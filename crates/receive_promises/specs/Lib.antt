@@ -5,3 +5,4 @@ pub mod Stopping
 pub mod Laws
 pub mod Received
 pub mod Written
+pub mod Over

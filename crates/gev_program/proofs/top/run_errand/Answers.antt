@@ -3,7 +3,7 @@ use Rattle.std.proofs.Common.{sym, ◌∙◌, option_map, subst}
 use Rattle.camera_words.specs.declared.settings.Settings.{Settings}
 use Rattle.camera_words.specs.declared.simulate_words.SimulateWords.{SimulateWords}
 use Rattle.gev_top.specs.declared.command.Command.TheVariants as commands
-use Rattle.gev_receive.specs.Receives.{ReceivesOver}
+use Rattle.receive_promises.specs.Over.{ReceivesSo}
 use Rattle.gev_program.specs.Cameras.{DiscoversOver, DescribesOver}
 use Rattle.gev_program.specs.Simulation.{SimulatesSo}
 use Rattle.gev_program.proofs.Errands.{command_is, discover_is, description_is, never_links}
@@ -68,7 +68,7 @@ pub returns-in-Receive-clause-receives : goal.returns-in-Receive-clause-receives
 returns-in-Receive-clause-receives g c =
     λ asked is.
     subst
-    (λ (words : Settings). ReceivesOver g.P.L.Link.received g.P.L.Link.sent g.P.L.Link.faults g.P.C.Clock.told words c.run_receive.result
+    (λ (words : Settings). ReceivesSo g.P.L.Link.received g.P.L.Link.sent g.P.L.Link.faults g.P.C.Clock.told words c.run_receive.result
     (g.P.Ports.bound c.args.ports.now) (g.P.Ports.bound c.run_receive.new.ports) (g.P.Ports.links c.args.ports.now) (g.P.Ports.links c.run_receive.new.ports)
     (g.P.Ports.clocks c.args.ports.now) (g.P.Ports.clocks c.run_receive.new.ports) (g.S.Source.left c.run_receive.new.source)
     (g.K.Sink.written c.args.sink.now) (g.K.Sink.written c.run_receive.new.sink) (g.K.Sink.faults c.args.sink.now) (g.K.Sink.faults c.run_receive.new.sink)

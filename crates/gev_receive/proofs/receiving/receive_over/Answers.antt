@@ -1,5 +1,5 @@
 use Rattle.std.proofs.Common.{refl, inl}
-use Rattle.gev_receive.proofs.Drops.{receives_still}
+use Rattle.gev_receive.proofs.Still.{receives_still}
 use Rattle.gev_receive.proofs.MeetingLaws.{none_made, seen_same}
 use Rattle.gev_receive.proofs.Standing.{receives_stand}
 use Rattle.gev_receive.proofs.Over.{receives_over, link_failed, link_steady, write_failed, write_steady}
