@@ -16,7 +16,7 @@ use Rattle.live_promises.proofs.Accounts.{none_handed}
 use Rattle.gev_receive.specs.Answers.{control_status, is_lost}
 use Rattle.gev_receive.specs.Starting.{writes_at}
 use Rattle.gev_receive.specs.Frames.{NeverRan, RanFrames, Runs}
-use Rattle.gev_receive.specs.Receives.{control_part, outside_of, Streams, unled, undrawn, streamed, LeavesUnless, LeavesHeld, MeetsNot, MeetsAndStreams, Meets}
+use Rattle.gev_receive.specs.Receives.{control_part, outside_of, Streams, unled, undrawn, streamed, LeavesUnless, LeavesHeld, Meets}
 use Rattle.receive_promises.specs.Received.{KeepsNothing, KeepsRun, KeepsStream, StopsUnless, StopsHeld, KeepsMeeting}
 use Rattle.receive_promises.proofs.Telling.{frames_run}
 use Rattle.receive_promises.proofs.Keeping.{frames_keep}

@@ -1,5 +1,5 @@
 -- What a whole run of `receive` wrote.
-use Rattle.std.proofs.Common.{◌≡◌, inl, inr, ℕ, ◌==◌, ◌≤◌, Bool, true, false, List, [], ◌∷◌, ◌++◌, Option, Result, Ok, Err, refl, sym, ap, subst, ◌∙◌, append_assoc}
+use Rattle.std.proofs.Common.{◌≡◌, inl, inr, ℕ, ◌==◌, Bool, true, false, List, [], ◌++◌, Option, Result, Ok, Err, refl, sym, ap, subst, ◌∙◌, append_assoc}
 use Rattle.std.specs.Prelude.{nat_le, nat_lt}
 use Rattle.std.proofs.lemmas.Bool.{cond_both}
 use Rattle.std.proofs.lemmas.List.{append-nil}
@@ -28,8 +28,8 @@ use Rattle.gev_status.specs.declared.status.Status.{Status}
 use Rattle.gev_status.specs.declared.status.Status.TheVariants as status
 use Rattle.receive_lines.specs.declared.receive_counts.ReceiveCounts.{ReceiveCounts}
 use Rattle.gev_receive.specs.Answers.{control_status, leader_status, reader_status, handed_status, leave_status, rank, weightier, is_lost, is_told}
-use Rattle.gev_receive.specs.Ending.{has_last, WritesLast, wrote, failed, lacked, EndsWith}
-use Rattle.gev_receive.specs.Receives.{control_part, Streams, unled, undrawn, streamed, Meets, Receives}
+use Rattle.gev_receive.specs.Ending.{has_last, wrote, failed, lacked, EndsWith}
+use Rattle.gev_receive.specs.Receives.{control_part, Streams, unled, undrawn, streamed, Meets}
 use Rattle.receive_promises.specs.Meaning.{is_written, WritesTexts}
 use Rattle.receive_promises.specs.Received.{KeepsStream, StopsUnless, StopsHeld, KeepsMeeting}
 use Rattle.receive_promises.specs.Written.{lent_by_stream, lent_by_meeting, last_if, WritesRun, ReceptionsKeepPromises}

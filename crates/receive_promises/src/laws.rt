@@ -22,8 +22,10 @@ pub fn leaving_makes_the_stop()
     ensures { LeavingMakesTheStop }
 {}
 
-/// Each whole run keeps its promises: where reader and application ran they kept the headline, and else no buffer was
-/// filled or taken; and the stop was made of a camera that was taken, or was held, and hadn't let its controller go.
+/// Each whole run keeps its promises. Where reader and application ran they kept the headline, and where the camera wasn't
+/// taken, or no leader came, no buffer was filled or taken. The stop was made of a camera that was taken, or was held, and
+/// hadn't let its controller go. And what was written are the texts of the buffers that the application took, and the last
+/// line, all of it where the answer has that line.
 pub fn receptions_keep_promises()
     ensures { ReceptionsKeepPromises }
 {}

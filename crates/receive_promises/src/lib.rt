@@ -2,9 +2,10 @@
 //! of a live run, what its answer means, what it wrote, and that its stop is made. The functions only carry their
 //! statements.
 //!
-//! `specs/FramesRun.antt` has the run by the whole history of its board, `specs/Promises.antt` what it keeps, over what
-//! each worker did (`gev_receive`), `specs/Meaning.antt` what its answer says and what was written, and
-//! `specs/Stopping.antt` the stop by which a camera is let go. There is no code that runs.
+//! `specs/FramesRun.antt` has the frames' part by the whole history of its board, `specs/Promises.antt` what it keeps,
+//! over what each worker did (`gev_receive`), and `specs/Meaning.antt` what its answer says and what was written.
+//! `specs/Stopping.antt` has the stop by which a camera is let go, `specs/Received.antt` the buffers and the stop of a
+//! whole run, and `specs/Written.antt` its lines. There is no code that runs.
 #![tactic(auto)]
 
 mod laws;
