@@ -92,3 +92,23 @@ fn a_look_at_standard_input_comes_back(rt: HostRuntime) {
     let ended = source.has_ended();
     assert!(rt; !ended || source.has_ended());
 }
+
+// A link that nobody receives from has its room full at last, and what the system drops then is told of this link alone.
+#[test]
+fn what_the_system_drops_is_told(rt: HostRuntime) -> Result<(), Fail> {
+    let mut ports = RealPorts::new(&rt);
+    let (mut there, _) = ports.bind()?;
+    let (here, own) = ports.bind()?;
+    let before = ports.drops(&here);
+    assert!(rt; before.is_some_and(|told| told.datagrams == 0 && told.socket_bytes > 0));
+    let room = before.map_or(0, |told| told.socket_bytes);
+    let datagram = [1u8; 8000];
+    for _ in 0..room / 8000 + 3 {
+        there.send(own, &datagram)?;
+    }
+    assert!(rt; ports.drops(&here).is_some_and(|told| told.datagrams > 0));
+    assert!(rt; ports.drops(&there).is_some_and(|told| told.datagrams == 0));
+    ports.unbind(there);
+    ports.unbind(here);
+    Ok(())
+}
