@@ -17,6 +17,7 @@ mod pacing;
 mod reading;
 mod serving;
 mod telling;
+mod turning;
 
 use crate::case::{Case, Heard, datagrams, heard, numbers};
 use crate::links::{CAMERA, HOST};
@@ -130,6 +131,7 @@ fn call_worker<R: Wait>(
         "paces" => pacing::pace_some(rt, handles, case)?,
         "served" => telling::serve_some(rt, handles, case)?,
         "told" => telling::tell_one(rt, handles, case)?,
+        "turns" => turning::read_some(rt, handles, case)?,
         "serve" => serving::serve_some(rt, case)?,
         "obey" => serving::obey_one(rt, case)?,
         "apply" => applying::apply_some(rt, handles, case)?,

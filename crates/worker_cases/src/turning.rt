@@ -1,0 +1,117 @@
+//! The turns of the reader of a camera's stream, with standard identifiers or extended ones, and the stop of its receiver.
+
+ghost use Rattle.std.specs.Prelude.{◌≡◌, [], IfOk};
+ghost use Rattle.acq_core.specs.Receiver.{buffers};
+ghost use Rattle.acq_core.specs.Waiting.{waiting_fills, waiting_requests};
+ghost use Rattle.buffer_words.specs.Boards.{board_id};
+ghost use Rattle.gev_acq.specs.Buffers.{Backs};
+
+use crate::board::{new_board, print_all};
+use crate::case::Case;
+use crate::links::{CAMERA, HOST, control_link, print_sent, stream_link};
+use acq_core::{Acq, AcqConfig};
+use anyhow::Result;
+use buffer_words::{Board, Pass};
+use camera_reader::{ReaderWords, read_turns, tell_begin};
+use control_client::Client;
+use gev_acq::drain;
+use gev_links::{Clock, MemoryClock, OpenGate};
+use gev_types::NoMemory;
+use mode_calls::Mode;
+use packet_requests::IdMode;
+use std::alloc::Global;
+use std::sync::Wait;
+
+/// A receiver that asks for missing packets once, 50 ms after the last one, and retires a block 200 ms after it.
+fn new_receiver(alloc: Global) -> Result<Acq, NoMemory>
+    ensures fills { IfOk result (λ acq. waiting_fills acq ≡ []) }
+    ensures requests { IfOk result (λ acq. waiting_requests acq ≡ []) }
+    ensures buffers { IfOk result (λ acq. buffers acq ≡ []) }
+{
+    Acq::new(
+        alloc,
+        AcqConfig {
+            p: 528,
+            window: 1,
+            timeout: 200,
+            age: 50,
+            rounds: 1,
+        },
+    )
+}
+
+/// Numbers are whether the stream's identifiers are extended, after how many milliseconds a camera is silent, and the moment
+/// before the first turn. How the reader ended, the moment that is read next, what was sent, and what waits.
+pub fn read_some<R: Wait>(rt: &HostRuntime, handles: &R, case: &Case<'_>) -> Result<()> {
+    let (board, mut pass) = new_board(rt.alloc())?;
+    let mut acq = new_receiver(rt.alloc())?;
+    read_over(rt, handles, case, &board, &mut pass, &mut acq)?;
+    drain(handles, &board, &mut pass, &mut acq, Mode::OldestFirst);
+    print_all(rt, handles, &board, &mut pass)
+}
+
+/// The same over this board and receiver, up to what waits.
+fn read_over<R: Wait>(
+    rt: &HostRuntime,
+    handles: &R,
+    case: &Case<'_>,
+    board: &Board,
+    pass: &mut Pass,
+    acq: &mut Acq,
+) -> Result<()>
+    requires table { pass.old.table ≡ board_id board.now }
+    requires fills { waiting_fills acq.old ≡ [] }
+    requires requests { waiting_requests acq.old ≡ [] }
+    requires backs { Backs pass.old (buffers acq.old) }
+    ensures table { pass.new.table ≡ pass.old.table }
+    ensures fills { waiting_fills acq.new ≡ [] }
+    ensures requests { waiting_requests acq.new ≡ [] }
+    ensures backs { Backs pass.new (buffers acq.new) }
+{
+    let ids = if case.number(0) == 1 {
+        IdMode::Extended
+    } else {
+        IdMode::Standard
+    };
+    let words = ReaderWords {
+        camera: CAMERA,
+        ids,
+        silence: case.number(1),
+        mode: Mode::OldestFirst,
+    };
+    let mut client = Client::with_limit(500);
+    let mut stream = stream_link(rt.alloc(), case)?;
+    let mut control = control_link(rt.alloc(), case, HOST)?;
+    let mut clock = MemoryClock::new(case.moments);
+    let begin = case.number(2);
+    tell_begin(
+        handles,
+        board,
+        pass,
+        acq,
+        &mut control,
+        &OpenGate,
+        words,
+        begin,
+    );
+    let done = read_turns(
+        handles,
+        board,
+        pass,
+        acq,
+        &mut client,
+        &mut stream,
+        &mut control,
+        &mut clock,
+        &OpenGate,
+        words,
+        begin,
+    );
+    print!(rt;
+        "{:?} refused {} next {}",
+        done.end,
+        done.refused,
+        clock.now()
+    )?;
+    print_sent(rt, &control)
+}
