@@ -1,5 +1,5 @@
 -- How a run over a camera's frames ends.
-use Rattle.std.proofs.Common.{◌≡◌, ◌≢◌, ◌≤◌, ℕ, refl, sym, ◌∙◌, arith}
+use Rattle.std.proofs.Common.{◌≡◌, ◌≢◌, ◌≤◌, ℕ, List, Option, refl, sym, ◌∙◌, subst, arith}
 use Rattle.gev_links.specs.Faults.{Rose}
 use Rattle.gev_status.specs.declared.status.Status.{Status}
 use Rattle.gev_status.specs.declared.status.Status.TheVariants.{Done, Usage, BadScript, ReadFault, WriteFault, LinkFault, NoMemory, NoAnswer, Refused, TurnsSpent, BadCapture, NoPicture, Silent, Controlled, NoDescription, ControlLost, NoDatagram, RefusedAt}
@@ -7,7 +7,7 @@ use Rattle.camera_words.specs.declared.settings.Settings.{Settings}
 use Rattle.gev_receive.specs.Answers.{rank}
 use Rattle.gev_top.specs.declared.errand.Errand.{Errand}
 use Rattle.gev_top.specs.declared.errand.Errand.TheVariants.{Receive}
-use Rattle.gev_top.specs.Completeness.{NoneRose, EndsReception}
+use Rattle.gev_top.specs.Completeness.{NoneRose, EndsReception, CompletesErrand}
 
 too_many : 10 ≤ 9 → ⊥
 too_many few = omega (arith, few)
@@ -55,3 +55,7 @@ receive_ends (NoDatagram port) links links_after writes writes_after few failed 
 
 pub receive_is : (made asked : Settings) (errand : Errand) → errand ≡ Receive made → errand ≡ Receive asked → made ≡ asked
 receive_is made asked errand a b = let e : Receive made ≡ Receive asked = sym a ∙ b in cc
+
+-- the frames of a camera are asked for
+pub receive_completes : (made : Settings) (asked : Errand) (answer : Status) (left : Option (List ℕ)) → Receive made ≡ asked → EndsReception answer → CompletesErrand asked left answer
+receive_completes made asked answer left is ends = subst (λ (errand : Errand). CompletesErrand errand left answer) is ends

@@ -6,7 +6,7 @@ use Rattle.gev_program.proofs.reception.run_receive.Goals as goal
 pub returns-clause-receives : goal.returns-clause-receives
 returns-clause-receives g c =
     receives_so g.P.L.Link.received g.P.L.Link.sent g.P.L.Link.faults g.P.C.Clock.told c.args.settings.now c.receive_over.result _ _ _ _ _ _ _ _ _ _ _ _
-    c.requires.within.window.1 c.receive_over.ensures.receives
+    c.requires.within.window.0 c.receive_over.ensures.receives
 
 pub returns-clause-binds : goal.returns-clause-binds
 returns-clause-binds g c = omega (arith, c.receive_over.ensures.binds)

@@ -8,7 +8,7 @@ use Rattle.gev_program.specs.Cameras.{DiscoversOver, DescribesOver}
 use Rattle.gev_program.specs.Simulation.{SimulatesSo}
 use Rattle.gev_program.proofs.Errands.{command_is, discover_is, description_is, never_links}
 use Rattle.gev_program.proofs.Simulated.{simulate_is}
-use Rattle.gev_program.proofs.Received.{receive_is}
+use Rattle.gev_program.proofs.Received.{receive_is, receive_completes}
 use Rattle.gev_program.proofs.Replaying.{replay_headline, explain_headline}
 use Rattle.gev_program.proofs.Completing.{plain_completes}
 use Rattle.gev_program.proofs.top.run_errand.Goals as goal
@@ -75,3 +75,8 @@ returns-in-Receive-clause-receives g c =
     (option_map (λ k. k.1.seen) c.run_receive.new.kept))
     (receive_is c.in-Receive.settings asked c.args.errand c.in-Receive.is is)
     c.run_receive.ensures.receives
+
+pub returns-in-Receive-clause-complete : goal.returns-in-Receive-clause-complete
+returns-in-Receive-clause-complete g c =
+    λ asked is none none_written none_failed.
+    receive_completes c.in-Receive.settings asked c.run_receive.result _ (sym c.in-Receive.is ∙ is) (c.run_receive.ensures.complete none_written none_failed)
