@@ -1,5 +1,7 @@
 //! The peers of a row, its links, and what was sent on them.
 
+ghost use Rattle.std.specs.Prelude.{◌≡◌, [], Some, IfOk};
+
 use crate::case::{Case, Heard};
 use anyhow::Result;
 use gev_links::{CountsFaults, MemoryLink};
@@ -81,6 +83,8 @@ pub fn control_link<'x>(
     alloc: Global,
     case: &Case<'x>,
     peer: Peer,
-) -> Result<MemoryLink<'x>, NoMemory> {
+) -> Result<MemoryLink<'x>, NoMemory>
+    ensures received { IfOk result (λ link. link.received ≡ Some []) }
+{
     MemoryLink::new(alloc, peer, case.control, case.receives, case.sends, ROOM)
 }
