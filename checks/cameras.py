@@ -333,47 +333,65 @@ kill $!
 """
 
 
-def check_aravis():
-    """Aravis' fake camera, in a network of its own. Answers why it isn't run, or nothing."""
+def with_aravis(script, seconds, judge):
+    """Runs this shell script, which starts Aravis' fake camera, in a network of its own, for so many seconds at most; its words are a
+    folder and PROGRAM. Then `judge` judges what it left there, by a function that reads a file of the folder, none as no bytes.
+    Answers why it isn't run, or nothing."""
     for tool in ("arv-fake-gv-camera-0.8", "unshare", "ip"):
         if not shutil.which(tool):
             return "there is no " + tool
     if os.geteuid() != 0 or subprocess.run(["unshare", "-n", "true"], capture_output=True).returncode:
         return "a network of its own can't be made here"
     with tempfile.TemporaryDirectory() as here:
-        subprocess.run(["unshare", "-n", "sh", "-c", ARAVIS, "sh", here, os.path.abspath(PROGRAM)], timeout=60)
-        with open(here + "/said") as it:
-            said = it.read()
-        with open(here + "/lines") as it:
-            lines = it.read().split("\n")
-        with open(here + "/description", "rb") as it:
-            description = it.read()
+        subprocess.run(["unshare", "-n", "sh", "-c", script, "sh", here, os.path.abspath(PROGRAM)], timeout=seconds)
+
+        def read(name):
+            if not os.path.exists(here + "/" + name):
+                return b""
+            with open(here + "/" + name, "rb") as it:
+                return it.read()
+
+        judge(read)
+    return ""
+
+
+def judge_aravis(read):
+    """What `discover` and `description` wrote of that camera."""
+    said, lines, description = read("said").decode(), read("lines").decode().split("\n"), read("description")
     if said or len(lines) != 3 or not lines[0].startswith("camera 127.0.0.1 ") or lines[1] != "end cameras=1":
         note("Aravis' fake camera", "%r, %r" % (said, lines))
     if not (description.startswith(b"<?xml") and description.rstrip(b"\0 \n\r").endswith(b">")):
         note("Aravis' fake camera", "a description of %d bytes, which begins with %r" % (len(description), description[:40]))
-    return ""
 
 
-def main():
+# ---- all of it
+
+
+def run_all(name, address, camera, checks, aravis, passed):
+    """Runs these checks, and then the one of Aravis' fake camera, where `camera` makes a camera at this address; prints what
+    differs, or what passed. Answers the exit status. `name` is what is checked."""
     try:
-        Camera("127.83.1.1", lambda command: []).end()
+        camera(address).end()
     except OSError as error:
-        print("checks/cameras: skipped, since port %d of 127.83.1.1 can't be bound: %s" % (PORT, error))
+        print("checks/cameras: %s: skipped, since port %d of %s can't be bound: %s" % (name, PORT, address, error))
         return 0
-    check_words()
-    check_discover()
-    check_description()
-    check_simulate()
-    check_interrupts()
-    why = check_aravis()
+    for check in checks:
+        check()
+    why = aravis()
     if why:
-        print("checks/cameras: Aravis' fake camera is skipped, since " + why)
+        print("checks/cameras: %s: Aravis' fake camera is skipped, since %s" % (name, why))
     for fault in faults:
         print(fault, file=sys.stderr)
     if not faults:
-        print("checks/cameras: discover, description and simulate answer as they have to")
+        print("checks/cameras: " + passed)
     return 1 if faults else 0
+
+
+def main():
+    checks = (check_words, check_discover, check_description, check_simulate, check_interrupts)
+    aravis = lambda: with_aravis(ARAVIS, 60, judge_aravis)
+    passed = "discover, description and simulate answer as they have to"
+    return run_all("discover, description and simulate", "127.83.1.1", lambda address: Camera(address, lambda command: []), checks, aravis, passed)
 
 
 if __name__ == "__main__":

@@ -8,17 +8,15 @@ import hashlib
 import os
 import re
 import select
-import shutil
 import signal
 import socket
 import struct
 import subprocess
 import sys
-import tempfile
 import threading
 import time
 
-from cameras import CCP, PORT, PROGRAM, READREG, SCDA0, SCP0, SCPS0, WRITEREG, acknowledge, as_by_default, faults, note, simulated
+from cameras import CCP, PORT, PROGRAM, READREG, SCDA0, SCP0, SCPS0, WRITEREG, acknowledge, as_by_default, note, run_all, simulated, with_aravis
 
 CAPABILITY, START = 0x0934, 0x0124
 WIDTH, HEIGHT, MONO8 = 64, 48, 0x01080001
@@ -310,47 +308,22 @@ kill $camera
 """
 
 
-def check_aravis():
-    """Aravis' fake camera, in a network of its own: 100 whole images, with the digests of a capture of the same packets
-    where tcpdump is there. Answers why it isn't run, or nothing."""
-    for tool in ("arv-fake-gv-camera-0.8", "unshare", "ip"):
-        if not shutil.which(tool):
-            return "there is no " + tool
-    if os.geteuid() != 0 or subprocess.run(["unshare", "-n", "true"], capture_output=True).returncode:
-        return "a network of its own can't be made here"
+def judge_aravis(read):
+    """100 whole images of that camera, with the digests of a capture of the same packets where tcpdump is there."""
     case = "Aravis' fake camera"
-    with tempfile.TemporaryDirectory() as here:
-        subprocess.run(["unshare", "-n", "sh", "-c", ARAVIS, "sh", here, os.path.abspath(PROGRAM)], timeout=120)
-        read = lambda name: open(here + "/" + name).read() if os.path.exists(here + "/" + name) else ""
-        wants(case, "status", (read("status"), read("said")), ("0\n", ""))
-        lines = re.findall(r"^take \d+\.\d+ block=(\d+) complete=1 .* sha256=([0-9a-f]{64}) ", read("lines"), re.M)
-        wants(case, "whole images", len(lines), 100)
-        replayed = re.findall(r"^take \d+\.\d+ block=(\d+) complete=1 .* sha256=([0-9a-f]{64})$", read("replayed"), re.M)
-        if replayed:
-            # (images of which the capture lacks a packet stand in it as incomplete)
-            wants(case, "images that differ from the capture's", [it for it in replayed if it[0] in dict(lines) and it not in lines], [])
-    return ""
+    wants(case, "status", (read("status"), read("said")), (b"0\n", b""))
+    lines = re.findall(r"^take \d+\.\d+ block=(\d+) complete=1 .* sha256=([0-9a-f]{64}) ", read("lines").decode(), re.M)
+    wants(case, "whole images", len(lines), 100)
+    replayed = re.findall(r"^take \d+\.\d+ block=(\d+) complete=1 .* sha256=([0-9a-f]{64})$", read("replayed").decode(), re.M)
+    if replayed:
+        # (images of which the capture lacks a packet stand in it as incomplete)
+        wants(case, "images that differ from the capture's", [it for it in replayed if it[0] in dict(lines) and it not in lines], [])
 
 
 def main():
-    try:
-        Sender("127.83.4.1").end()
-    except OSError as error:
-        print("checks/cameras: receive is skipped, since port %d of 127.83.4.1 can't be bound: %s" % (PORT, error))
-        return 0
-    check_two_processes()
-    check_ends()
-    check_steps()
-    check_pipes()
-    check_interrupts()
-    why = check_aravis()
-    if why:
-        print("checks/cameras: Aravis' fake camera is skipped for receive, since " + why)
-    for fault in faults:
-        print(fault, file=sys.stderr)
-    if not faults:
-        print("checks/cameras: receive takes whole images of cameras, and stops them however it ends")
-    return 1 if faults else 0
+    checks = (check_two_processes, check_ends, check_steps, check_pipes, check_interrupts)
+    aravis = lambda: with_aravis(ARAVIS, 120, judge_aravis)
+    return run_all("receive", "127.83.4.1", Sender, checks, aravis, "receive takes whole images of cameras, and stops them however it ends")
 
 
 if __name__ == "__main__":
