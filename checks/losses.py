@@ -23,16 +23,16 @@ LEADER, TRAILER = "leader", "trailer"
 WANTED = """\
 stream 192.168.1.10:50001 192.168.1.2:49152 ids=extended datagrams=40 payload=1000 leaders=8 width=60 height=50 pixel=0x01080001 bytes=3000 first=1 last=10 ms=1000
 images=9 complete=4 incomplete=5 leader=1 small=0 trailer=2 payloads=3 short=0 absent=1 missing=7 late=1 repeat=1
-@40 block=2 cause=displaced why=payloads missing=1 ids=2
-@120 block=4 cause=displaced why=leader missing=1 ids=0
-@160 block=5 cause=displaced why=trailer missing=1 ids=4
+@40 block=2 cause=displaced why=payloads missing=1 ids=2 image=2
+@120 block=4 cause=displaced why=leader missing=1 ids=0 image=4
+@160 block=5 cause=displaced why=trailer missing=1 ids=4 image=5
 @240 blocks=6 absent
-@280 block=8 cause=old why=payloads missing=1 ids=3 late=3
-@1000 block=10 cause=stopped why=trailer,payloads missing=3 ids=2-4 (the capture may end within it)
+@280 block=8 cause=old why=payloads missing=1 ids=3 late=3 image=7
+@1000 block=10 cause=stopped why=trailer,payloads missing=3 ids=2-4 image=9 (the capture may end within it)
 stream 192.168.1.11:50002 192.168.1.2:49153 ids=standard datagrams=17 payload=600 leaders=5 width=40 height=30 pixel=0x01080001 bytes=1200 first=65534 last=3 ms=160
 images=5 complete=3 incomplete=2 leader=0 small=0 trailer=0 payloads=2 short=0 absent=0 missing=3 late=0 repeat=0
-@50 block=65535 cause=displaced why=payloads missing=1 ids=2
-@130 block=65537[2] cause=stopped why=payloads missing=2 ids=1-2
+@50 block=65535 cause=displaced why=payloads missing=1 ids=2 image=2
+@130 block=65537[2] cause=stopped why=payloads missing=2 ids=1-2 image=4
 warning: the capture itself dropped 3 packets: so many of those that are missing here may have come
 6 packets of 5 images and 1 whole image aren't in the capture, and 1 packet came when the image was done: see (a) in docs/LOST_FRAMES.md, since the capture itself dropped 3 packets.
 """
@@ -59,7 +59,7 @@ No packet is missing of the images that are told here; the warnings say of what 
 WHOLE = """\
 stream 192.168.1.10:50001 192.168.1.2:49152 ids=extended datagrams=7 payload=1000 leaders=2 width=60 height=50 pixel=0x01080001 bytes=3000 first=1 last=2 ms=40
 images=2 complete=1 incomplete=1 leader=0 small=0 trailer=1 payloads=1 short=0 absent=0 missing=3 late=0 repeat=0
-@40 block=2 cause=stopped why=trailer,payloads missing=3 ids=2-4 (the capture may end within it)
+@40 block=2 cause=stopped why=trailer,payloads missing=3 ids=2-4 image=2 (the capture may end within it)
 All packets of all images are in the capture, but for what may lie before its begin or behind its end: what the application lacks was lost behind it: see (b) in docs/LOST_FRAMES.md.
 """
 
@@ -67,7 +67,7 @@ All packets of all images are in the capture, but for what may lie before its be
 HELD = """\
 stream 192.168.1.10:50001 192.168.1.2:49152 ids=extended datagrams=10 payload=1000 leaders=2 width=60 height=50 pixel=0x01080001 bytes=3000 first=1 last=2 ms=600
 images=2 complete=1 incomplete=1 leader=0 small=0 trailer=0 payloads=1 short=0 absent=0 missing=1 late=1 repeat=0
-@0 block=1 cause=old why=payloads missing=1 ids=3 late=3
+@0 block=1 cause=old why=payloads missing=1 ids=3 late=3 image=1
 warning: the capture itself dropped 5 packets: so many of those that are missing here may have come
 No packet was lost of the images that are told here, but 1 packet came when the image was done; the warnings say of what nothing is told.
 """
@@ -150,7 +150,7 @@ def run(program, words, data):
 
 
 def figures(program, path):
-    """Of each stream of a capture, the counts by the notes of `explain`."""
+    """Of each stream of a capture, its line, the counts by the notes of `explain`, and the numbers of incomplete images by the replay."""
     with open(path, "rb") as file:
         data = file.read()
     found = []
@@ -158,8 +158,15 @@ def figures(program, path):
         if line.startswith("stream "):
             port, payload, size = re.search(r":(\d+) ids=.* payload=(\d+) .* bytes=(\d+)", line).groups()
             script = run(program, ["capture", port, payload, size], data)
-            found.append((line, figures_of(run(program, ["explain"], script).decode())))
+            numbers = numbers_of(run(program, ["replay"], script).decode())
+            found.append((line, figures_of(run(program, ["explain"], script).decode()), numbers))
     return found
+
+
+def numbers_of(report):
+    """Of each buffer that is taken and isn't whole, its block, and how many are taken up to it."""
+    takes = re.findall(r"^take \S+ block=(\d+) complete=([01]) ", report, re.M)
+    return {(block, str(number)) for number, (block, complete) in enumerate(takes, 1) if complete == "0"}
 
 
 def figures_of(text):
@@ -245,11 +252,15 @@ class Check:
         self.wants(path, 1, "", f"losses: {path}: No such file or directory\n")
 
     def counts(self, path):
-        """Compares the counts with those of the notes; gives how many streams there are."""
-        lines, wanted = tell(path)[1].splitlines(), figures(self.program, path)
-        for line, counts in wanted:
-            if line not in lines or lines[lines.index(line) + 1] != counts:
+        """Compares the counts with those of the notes, and the numbers of images with the replay's; gives how many streams there are."""
+        text, wanted = tell(path)[1], figures(self.program, path)
+        for line, counts, numbers in wanted:
+            if f"{line}\n{counts}\n" not in text:
                 self.faults.append(f"{path}: explain counts {counts} of {line}")
+                continue
+            told = text.split(f"{line}\n")[1].split("\nstream ")[0]
+            if set(re.findall(r" block=(\d+)\S* cause=.* image=(\d+)", told)) != numbers:
+                self.faults.append(f"{path}: the replay has other numbers of the incomplete images of {line}")
         return len(wanted)
 
 
