@@ -10,6 +10,7 @@ mod asking; // the lanes' requests, to the camera
 mod ending; // the end, to the lanes
 mod hearing; // a datagram, to its lane
 mod laws; // laws of what is brought to a lane, as contracts
+mod lent; // what is lent to the reader
 mod reading; // all turns
 mod ticking; // the moment, to the lanes
 mod turning; // one turn

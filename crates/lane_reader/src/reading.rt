@@ -9,6 +9,7 @@ ghost use Rattle.gev_lanes.specs.Sides.{AreReadersOf, AreKept};
 ghost use Rattle.lane_reader.specs.Reads.{ReadsTurns, ReadsLanes};
 
 use crate::ending::end_lanes;
+use crate::lent::Lent;
 use crate::turning::read_turn;
 use buffer_words::{Board, Pass};
 use control_client::Client;
@@ -28,10 +29,7 @@ fn read_turns<R: Wait, L: Link, M: Link, C: Clock>(
     pass: &mut Pass,
     lanes: &Lanes,
     reader: &mut ReaderEnds,
-    client: &mut Client,
-    stream: &mut L,
-    control: &mut M,
-    clock: &mut C,
+    lent: &mut Lent<'_, '_, '_, '_, L, M, C>,
     camera: Peer,
     turns: u64,
 ) -> AcqEnd
@@ -40,10 +38,14 @@ fn read_turns<R: Wait, L: Link, M: Link, C: Clock>(
     requires some { 0 < length lanes.now }
     ensures reader { AreReadersOf lanes.now reader.new }
     ensures reads { ReadsTurns (length lanes.now) camera
-        (record { received = L.received stream.old; heard = M.received control.old; sent = M.sent control.old; told = C.told clock.old; client = client.old })
-        (record { received = L.received stream.new; heard = M.received control.new; sent = M.sent control.new; told = C.told clock.new; client = client.new })
+        (record { received = L.received lent.old.stream.now; heard = M.received lent.old.control.now; sent = M.sent lent.old.control.now; told = C.told lent.old.clock.now; client = lent.old.client.now })
+        (record { received = L.received lent.new.stream.now; heard = M.received lent.new.control.now; sent = M.sent lent.new.control.now; told = C.told lent.new.clock.now; client = lent.new.client.now })
         turns result reader.old reader.new pass.old pass.new }
-    ensures faults { FaultsOf (is_fault_end result) (L.faults stream.old) (L.faults stream.new) (M.faults control.old) (M.faults control.new) }
+    ensures faults { FaultsOf (is_fault_end result) (L.faults lent.old.stream.now) (L.faults lent.new.stream.now) (M.faults lent.old.control.now) (M.faults lent.new.control.now) }
+    ensures same_stream { lent.new.stream.ghost_name ≡ lent.old.stream.ghost_name }
+    ensures same_control { lent.new.control.ghost_name ≡ lent.old.control.ghost_name }
+    ensures same_clock { lent.new.clock.ghost_name ≡ lent.old.clock.ghost_name }
+    ensures same_client { lent.new.client.ghost_name ≡ lent.old.client.ghost_name }
     ensures table { pass.new.table ≡ pass.old.table }
     ensures hands { SameHands pass.old pass.new }
 {
@@ -53,9 +55,7 @@ fn read_turns<R: Wait, L: Link, M: Link, C: Clock>(
         if run != 1 {
             return AcqEnd::Stopped;
         }
-        let end = read_turn(
-            rt, lanes, reader, client, stream, control, clock, camera, &mut out,
-        );
+        let end = read_turn(rt, lanes, reader, lent, camera, &mut out);
         match end {
             TurnEnd::GoesOn => {}
             TurnEnd::Fault => return AcqEnd::Fault,
@@ -101,9 +101,13 @@ pub fn read_lanes<R: Wait, L: Link, M: Link, C: Clock>(
     ensures table { pass.new.table ≡ pass.old.table }
     ensures hands { SameHands pass.old pass.new }
 {
-    let end = read_turns(
-        rt, board, pass, lanes, reader, client, stream, control, clock, camera, turns,
-    );
+    let mut lent = Lent {
+        stream,
+        control,
+        clock,
+        client,
+    };
+    let end = read_turns(rt, board, pass, lanes, reader, &mut lent, camera, turns);
     end_lanes(rt, lanes, reader);
     end
 }

@@ -9,8 +9,8 @@ ghost use Rattle.lane_reader.specs.Turned.{TakesOne};
 
 use crate::asking::ask_lanes;
 use crate::hearing::bring_received;
+use crate::lent::Lent;
 use crate::ticking::tick_lanes;
-use control_client::Client;
 use gev_control::{TurnEnd, client_turn};
 use gev_lanes::{Lanes, ReaderEnds};
 use gev_links::{Clock, Failed, Link};
@@ -32,10 +32,7 @@ pub(crate) fn read_turn<R: Wait, L: Link, M: Link, C: Clock>(
     rt: &R,
     lanes: &Lanes,
     reader: &mut ReaderEnds,
-    client: &mut Client,
-    stream: &mut L,
-    control: &mut M,
-    clock: &mut C,
+    lent: &mut Lent<'_, '_, '_, '_, L, M, C>,
     camera: Peer,
     out: &mut [u8],
 ) -> TurnEnd
@@ -44,16 +41,20 @@ pub(crate) fn read_turn<R: Wait, L: Link, M: Link, C: Clock>(
     requires room { length out.old ≡ receive_room }
     ensures reader { AreReadersOf lanes.now reader.new }
     ensures takes { TakesOne (length lanes.now) camera
-        (record { received = L.received stream.old; heard = M.received control.old; sent = M.sent control.old; told = C.told clock.old; client = client.old })
-        (record { received = L.received stream.new; heard = M.received control.new; sent = M.sent control.new; told = C.told clock.new; client = client.new })
+        (record { received = L.received lent.old.stream.now; heard = M.received lent.old.control.now; sent = M.sent lent.old.control.now; told = C.told lent.old.clock.now; client = lent.old.client.now })
+        (record { received = L.received lent.new.stream.now; heard = M.received lent.new.control.now; sent = M.sent lent.new.control.now; told = C.told lent.new.clock.now; client = lent.new.client.now })
         result reader.old reader.new }
-    ensures faults { FaultsOf (is_fault result) (L.faults stream.old) (L.faults stream.new) (M.faults control.old) (M.faults control.new) }
+    ensures faults { FaultsOf (is_fault result) (L.faults lent.old.stream.now) (L.faults lent.new.stream.now) (M.faults lent.old.control.now) (M.faults lent.new.control.now) }
+    ensures same_stream { lent.new.stream.ghost_name ≡ lent.old.stream.ghost_name }
+    ensures same_control { lent.new.control.ghost_name ≡ lent.old.control.ghost_name }
+    ensures same_clock { lent.new.clock.ghost_name ≡ lent.old.clock.ghost_name }
+    ensures same_client { lent.new.client.ghost_name ≡ lent.old.client.ghost_name }
 {
-    let received = stream.recv(out);
-    let moment = clock.now();
+    let received = lent.stream.recv(out);
+    let moment = lent.clock.now();
     let lost = has_failed(&received);
     bring_received(rt, lanes, reader, moment, received, out);
     tick_lanes(rt, lanes, reader, moment);
-    let failed = ask_lanes(rt, lanes, reader, control, camera, lost);
-    client_turn(client, control, camera, moment, failed, out)
+    let failed = ask_lanes(rt, lanes, reader, lent.control, camera, lost);
+    client_turn(lent.client, lent.control, camera, moment, failed, out)
 }

@@ -10,6 +10,10 @@ turns-init g c = record {
   reader = c.requires.reader;
   stream_count = refl;
   control_count = refl;
+  same_stream = refl;
+  same_control = refl;
+  same_clock = refl;
+  same_client = refl;
   table = refl;
   hands = hands_self _;
 }
@@ -72,6 +76,10 @@ turns-preserved g c =
       reader = c.read_turn-end.ensures.reader;
       stream_count = stay.0 ∙ c.turns.invariant.stream_count;
       control_count = stay.1 ∙ c.turns.invariant.control_count;
+      same_stream = c.read_turn-end.ensures.same_stream ∙ c.turns.invariant.same_stream;
+      same_control = c.read_turn-end.ensures.same_control ∙ c.turns.invariant.same_control;
+      same_clock = c.read_turn-end.ensures.same_clock ∙ c.turns.invariant.same_clock;
+      same_client = c.read_turn-end.ensures.same_client ∙ c.turns.invariant.same_client;
       table = c.look_run-run.ensures.entry.table ∙ c.turns.invariant.table;
       hands = hands_then c.args.pass.now c.turns.pass c.look_run-run.new.pass c.turns.invariant.hands c.look_run-run.ensures.hands;
     }
