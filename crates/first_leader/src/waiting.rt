@@ -26,31 +26,39 @@ const RECEIVE_ROOM: usize = 9000;
 // How many milliseconds at least lie between two looks whether the input has ended.
 const INPUT_PAUSE: u64 = 100;
 
+// A wait for a leader.
+#[derive(Clone, Copy)]
+struct LeaderWait {
+    // the camera's control port
+    camera: Peer,
+    patience: Patience,
+    // the moment at which it began, in milliseconds
+    begin: u64,
+}
+
 // The part of a turn behind its look: how the wait ended, if it did.
 fn pass_time<M: Link, C: Clock>(
     client: &mut Client,
     control: &mut M,
     clock: &mut C,
-    camera: Peer,
-    patience: Patience,
-    begin: u64,
+    wait: LeaderWait,
     pace: &mut Pace,
     out: &mut [u8],
 ) -> Option<NoLeader>
     requires room { length out.old ≡ receive_room }
-    ensures passes { PassesTime camera patience begin pace.old pace.new
+    ensures passes { PassesTime wait.camera wait.patience wait.begin pace.old pace.new
         (C.told clock.old) (C.told clock.new) client.old client.new (M.received control.old) (M.received control.new)
         (M.sent control.old) (M.sent control.new) result }
     ensures fails { Fails false (none_in_fault result) (M.faults control.old) (M.faults control.new) }
 {
     let moment = clock.now();
-    match keep_control(client, control, camera, moment, out) {
+    match keep_control(client, control, wait.camera, moment, out) {
         Some(cause) => Some(NoLeader::Ended(cause)),
         None => {
-            if is_over(patience.silence, begin, *pace, moment) {
+            if is_over(wait.patience.silence, wait.begin, *pace, moment) {
                 return Some(NoLeader::Silent);
             }
-            *pace = next_pace(patience.silence, *pace, moment);
+            *pace = next_pace(wait.patience.silence, *pace, moment);
             None
         }
     }
@@ -62,22 +70,20 @@ fn wait_once<L: PeekLink, M: Link, C: Clock>(
     stream: &mut L,
     control: &mut M,
     clock: &mut C,
-    camera: Peer,
-    patience: Patience,
-    begin: u64,
+    wait: LeaderWait,
     pace: &mut Pace,
     out: &mut [u8],
 ) -> Option<Result<FirstLeader, NoLeader>>
     requires room { length out.old ≡ receive_room }
-    ensures makes { MakesTurn camera patience begin pace.old pace.new
+    ensures makes { MakesTurn wait.camera wait.patience wait.begin pace.old pace.new
         (record { received = L.received stream.old; heard = M.received control.old; sent = M.sent control.old; told = C.told clock.old; client = client.old })
         (record { received = L.received stream.new; heard = M.received control.new; sent = M.sent control.new; told = C.told clock.new; client = client.new })
         result }
     ensures faults { FaultsOf (ends_in_fault result) (L.faults stream.old) (L.faults stream.new) (M.faults control.old) (M.faults control.new) }
 {
-    match look(stream, camera, patience.packet_size, out) {
+    match look(stream, wait.camera, wait.patience.packet_size, out) {
         Ok(Some(leader)) => Some(Ok(leader)),
-        Ok(None) => match pass_time(client, control, clock, camera, patience, begin, pace, out) {
+        Ok(None) => match pass_time(client, control, clock, wait, pace, out) {
             Some(why) => Some(Err(why)),
             None => None,
         },
@@ -130,10 +136,13 @@ pub fn await_leader<R: Wait, L: PeekLink, M: Link, C: Clock, S: Source>(
         spared: false,
     };
     let mut looked = begin;
+    let wait = LeaderWait {
+        camera,
+        patience,
+        begin,
+    };
     'turns: for _ in rt.forever() {
-        match wait_once(
-            client, stream, control, clock, camera, patience, begin, &mut pace, &mut out,
-        ) {
+        match wait_once(client, stream, control, clock, wait, &mut pace, &mut out) {
             Some(end) => return end,
             None => {}
         }

@@ -8,7 +8,7 @@ invariant-turns g l = record {
   first : Option (List ℕ);
   begun : Tells (g.C.Clock.told l.fn.clock) first l.begin;
   waits :
-      Waits l.camera l.patience.silence l.begin
+      Waits l.fn.camera l.patience.silence l.begin
       (record { received = g.L.Link.received l.fn.stream; heard = g.M.Link.received l.fn.control; sent = g.M.Link.sent l.fn.control; told = first; client = l.fn.client })
       l.pace
       (record { received = g.L.Link.received l.stream; heard = g.M.Link.received l.control; sent = g.M.Link.sent l.control; told = g.C.Clock.told l.clock; client = l.client });
