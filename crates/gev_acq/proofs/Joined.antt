@@ -23,7 +23,7 @@ use Rattle.gev_acq.specs.declared.turn.Turn.{Turn}
 use Rattle.gev_acq.specs.Buffers.{HoldsAlone}
 use Rattle.gev_acq.specs.Claims.{Claims, ServesOn}
 use Rattle.gev_acq.specs.Turns.{Outside}
-use Rattle.gev_acq.specs.Acquired.{inputs_in, heards_in, sends_in, moments_in, LooksLast, Acquires}
+use Rattle.gev_acq.specs.Acquired.{inputs_in, answers_in, heards_in, sends_in, moments_in, LooksLast, Acquires}
 use Rattle.gev_acq.proofs.Owning.{ClaimNothing, claims_none, claims_then}
 use Rattle.acquisition_machine.specs.Blocks.{Given}
 use Rattle.gev_acq.specs.Reads.{IsSetUp, EndsAfter, LastLook, ReadsTurns, Reads}
@@ -41,11 +41,11 @@ setup_is camera stream o n end up = record {
 }
 
 -- the setup ended before the turns
-pub ends_early : (mode : Mode) (c : AcqConfig) (camera stream : Address) (New : List Input → Type 0) (r h k : Option (List Answer)) (w v : Option (List (Address × List ℕ))) (d b : Option (List ℕ)) (s u : Client)
-    (journal : List Turn) (turns : ℕ) (end : AcqEnd) (t : Token) → EndsAfter end end turns [] → LastLook end [] → New []
+pub ends_early : (mode : Mode) (c : AcqConfig) (camera stream : Address) (New : List Input → Type 0) (r y h k : Option (List Answer)) (w v : Option (List (Address × List ℕ))) (d b : Option (List ℕ)) (s u : Client)
+    (journal : List Turn) (turns : ℕ) (end : AcqEnd) (t : Token) → EndsAfter end end turns [] → LastLook end [] → New [] → y ≡ r
     → SetsUp camera stream (record { heard = h; sent = w; told = d; client = s }) (record { heard = k; sent = v; told = b; client = u }) end
-    → ReadsTurns mode c camera stream New (record { received = r; heard = h; sent = w; told = d; client = s }) (record { received = r; heard = k; sent = v; told = b; client = u }) journal journal turns end t t
-ends_early mode c camera stream New r h k w v d b s u journal turns end t ends looks new up = record {
+    → ReadsTurns mode c camera stream New (record { received = r; heard = h; sent = w; told = d; client = s }) (record { received = y; heard = k; sent = v; told = b; client = u }) journal journal turns end t t
+ends_early mode c camera stream New r y h k w v d b s u journal turns end t ends looks new same up = record {
   made = [];
   turned = [];
   last = [];
@@ -62,7 +62,7 @@ ends_early mode c camera stream New r h k w v d b s u journal turns end t ends l
     entries = [];
     notes = tt;
     journal_is = sym (append-nil journal);
-    received = tells_none r;
+    received = subst (λ (z : Option (List Answer)). TellsEach r z []) (sym same) (tells_none r);
     heard = subst (TellsEach h k) (sym (append-nil (setup_heards made))) up.heard;
     sent = subst (λ l. Adds w v (addressed camera l)) (sym (append-nil (setup_sent stream (set_up s 0) made))) up.sent;
     told = subst (TellsEach d b) (sym (append-nil (setup_moments made))) up.told;
@@ -102,12 +102,12 @@ claims_on : (mode : Mode) (is : List Input) (s t u : Token) → t.number ≡ s.n
 claims_on mode is s t u number first second = subst (λ l. Claims mode l s u) (append-nil is) (claims_then mode is [] s t u number first second)
 
 -- the camera was set up, and then the turns were made
-pub then_turns : (mode : Mode) (c : AcqConfig) (camera stream : Address) (Old New : List Input → Type 0) (r m h k l : Option (List Answer)) (w v x : Option (List (Address × List ℕ))) (d b e : Option (List ℕ)) (s u z : Client)
-    (journal journal_after : List Turn) (turns : ℕ) (end : AcqEnd) (p q : Token) → Old []
+pub then_turns : (mode : Mode) (c : AcqConfig) (camera stream : Address) (Old New : List Input → Type 0) (r y m h k l : Option (List Answer)) (w v x : Option (List (Address × List ℕ))) (d b e : Option (List ℕ)) (s u z : Client)
+    (journal journal_after : List Turn) (turns : ℕ) (end : AcqEnd) (p q : Token) → Old [] → y ≡ r
     → SetsUp camera stream (record { heard = h; sent = w; told = d; client = s }) (record { heard = k; sent = v; told = b; client = u }) how.Stopped
-    → Acquires mode c camera Old New (record { received = r; heard = k; sent = v; told = b; client = u }) (record { received = m; heard = l; sent = x; told = e; client = z }) journal journal_after turns end p q
+    → Acquires mode c camera Old New (record { received = y; heard = k; sent = v; told = b; client = u }) (record { received = m; heard = l; sent = x; told = e; client = z }) journal journal_after turns end p q
     → ReadsTurns mode c camera stream New (record { received = r; heard = h; sent = w; told = d; client = s }) (record { received = m; heard = l; sent = x; told = e; client = z }) journal journal_after turns end p q
-then_turns mode c camera stream Old New r m h k l w v x d b e s u z journal journal_after turns end p q new up acquires = record {
+then_turns mode c camera stream Old New r y m h k l w v x d b e s u z journal journal_after turns end p q new same up acquires = record {
   made = acquires.made;
   turned = acquires.on.events;
   last = look.last;
@@ -124,7 +124,7 @@ then_turns mode c camera stream Old New r m h k l w v x d b e s u z journal jour
     entries = acquires.entries;
     notes = acquires.on.notes [] new;
     journal_is = acquires.journal_is;
-    received = acquires.on.received;
+    received = subst (λ (z : Option (List Answer)). TellsEach z m (answers_in acquires.made)) same acquires.on.received;
     heard = tells_then h k l (setup_heards made) (heards_in acquires.made) up.heard acquires.on.heard;
     sent = added_then camera w v x (setup_sent stream (set_up s 0) made) (sends_in acquires.made) up.sent acquires.on.sent;
     told = tells_then d b e (setup_moments made) (moments_in acquires.made) up.told acquires.on.told;

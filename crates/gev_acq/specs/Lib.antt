@@ -7,6 +7,7 @@ pub mod Heard
 pub mod Receiving
 pub mod Turning
 pub mod Turns
+pub mod Hosts
 pub mod Reading
 pub mod Acquired
 pub mod Moments

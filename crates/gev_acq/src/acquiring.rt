@@ -9,6 +9,7 @@ ghost use Rattle.gev_acq.specs.Buffers.{Backs, HoldsAlone};
 ghost use Rattle.gev_acq.specs.Reading.{FaultsOf};
 ghost use Rattle.gev_acq.specs.Acquired.{Acquires};
 
+use crate::lent::Lent;
 use crate::moments::HostMoments;
 use crate::reader_turn::turn_once;
 use crate::turn::Turn;
@@ -71,21 +72,15 @@ pub fn acquire<R: Wait, L: Link, M: Link, C: Clock, G: Gate>(
         if run != 1 {
             return AcqEnd::Stopped;
         }
-        let (turn, end) = turn_once(
-            rt,
-            board,
-            pass,
-            acq,
-            client,
-            stream,
-            control,
-            clock,
-            gate,
+        let lent = Lent {
+            client: &mut *client,
+            stream: &mut *stream,
+            control: &mut *control,
+            clock: &mut *clock,
+            out: &mut out,
             camera,
-            &mut out,
-            &mut moments,
-            mode,
-        );
+        };
+        let (turn, end) = turn_once(rt, board, pass, acq, lent, gate, &mut moments, mode);
         journal.push_reserved(turn);
         match end {
             TurnEnd::GoesOn => {}

@@ -6,14 +6,16 @@
 //! acts on the shared board, and `specs/History.antt` its part in the whole history.
 #![tactic(auto)]
 
+mod acquired; // what the worker gives back
 mod acquiring; // all turns of the reader
 mod claiming; // a buffer for a new block, by the mode
 mod draining; // the stop of the receiver
 mod filling; // buffers of blocks that retired, by the mode
 mod heard; // what became of a datagram
+mod host; // links, clock and client as one
 mod laws; // laws of the reader's turns, as contracts
+mod lent; // what a turn is lent of the outside
 mod moments; // which moment the receiver is told
-mod read_done; // what the worker gives back
 mod reader_laws; // laws of the worker's part in the history
 mod reader_turn; // one turn, and its control part
 mod reading; // the worker: setup, turns, stop
@@ -22,22 +24,24 @@ mod sending; // the requests of a turn
 mod turn; // a turn's entry in the journal
 mod turning; // what a turn does to the receiver
 
+pub use acquired::Acquired;
 pub use acquiring::acquire;
 pub use draining::{drain, retire_all};
 pub use filling::fill_all;
 pub use gev_control::{AcqEnd, TurnEnd};
 pub use heard::Heard;
+pub use host::Host;
 pub use laws::{
     client_goes_through_turns, own_tells_moments, paced_cuts_steps, paced_tells_its_clock,
     readers_fill_the_retired, served_fills_are_retired, turns_fill_the_retired,
 };
+pub use lent::Lent;
 pub use moments::{HostMoments, Moments, Paced};
-pub use read_done::ReadDone;
 pub use reader_laws::{
     readers_claim_one_size, readers_fills_are_retired, readers_lay_nothing, readers_part_stays,
 };
 pub use reader_turn::turn_once;
-pub use reading::read;
+pub use reading::{Reader, read};
 pub use receiving::receive;
 pub use turn::Turn;
 pub use turning::serve_turn;

@@ -1,6 +1,6 @@
 //! One turn of the reader, after its look at the run word.
 
-ghost use Rattle.std.specs.Prelude.{◌≡◌, ◌≤◌, [], length, IfOk, IfSome};
+ghost use Rattle.std.specs.Prelude.{◌≡◌, ◌≤◌, [], length, IfOk, IfSome, option_map};
 ghost use Rattle.acq_core.specs.Receiver.{config_of, buffers, Stands};
 ghost use Rattle.acq_core.specs.Waiting.{waiting_fills, waiting_requests};
 ghost use Rattle.buffer_words.specs.Boards.{board_id};
@@ -8,17 +8,15 @@ ghost use Rattle.gev_links.specs.Links.{answer_of, receive_room};
 ghost use Rattle.gev_acq.specs.Buffers.{Backs, HoldsAlone};
 ghost use Rattle.gev_control.specs.Controlled.{is_fault};
 ghost use Rattle.gev_acq.specs.Reading.{is_lost, has_come as comes, FaultsOf};
-ghost use Rattle.gev_acq.specs.Turning.{ServesTurn};
 ghost use Rattle.gev_acq.specs.Turns.{bytes_in, TakesOne};
 
-use crate::heard::Heard;
+use crate::lent::Lent;
 use crate::moments::Moments;
 use crate::sending::send_requests;
 use crate::turn::Turn;
 use crate::turning::serve_turn;
 use acq_core::Acq;
 use buffer_words::{Board, Pass};
-use control_client::Client;
 use gev_control::{TurnEnd, client_turn};
 use gev_links::{Clock, Failed, Gate, Link};
 use gev_types::Peer;
@@ -45,69 +43,33 @@ fn has_come(received: &Result<Option<(usize, Peer)>, Failed>) -> bool
     }
 }
 
-/// What a turn does to the receiver, by the answer of the receive into `out`.
-fn serve_received<R: Wait, G: Gate>(
-    rt: &R,
-    board: &Board,
-    pass: &mut Pass,
-    acq: &mut Acq,
-    gate: &G,
-    received: Result<Option<(usize, Peer)>, Failed>,
-    out: &[u8],
-    moment: u64,
-    mode: Mode,
-) -> Heard
-    requires table { pass.old.table ≡ board_id board.now }
-    requires fills { waiting_fills acq.old ≡ [] }
-    requires requests { waiting_requests acq.old ≡ [] }
-    requires backs { Backs pass.old (buffers acq.old) }
+/// The bytes that came, by the answer of a receive into `out`.
+fn bytes_of(received: Result<Option<(usize, Peer)>, Failed>, out: &[u8]) -> Option<&[u8]>
     requires count { IfOk received (λ came. IfSome came (λ datagram. datagram.0 ≤ length out.now)) }
-    ensures serves { ServesTurn mode (config_of acq.old) (Stands acq.old) (Stands acq.new) (bytes_in (answer_of received out.now)) moment result
-        (waiting_requests acq.new) pass.old pass.new }
-    ensures table { pass.new.table ≡ pass.old.table }
-    ensures config { config_of acq.new ≡ config_of acq.old }
-    ensures fills { waiting_fills acq.new ≡ [] }
-    ensures backs { Backs pass.new (buffers acq.new) }
-    ensures alone { HoldsAlone pass.old (buffers acq.old) → HoldsAlone pass.new (buffers acq.new) }
+    ensures { option_map (λ bytes. bytes.now) result ≡ bytes_in (answer_of received out.now) }
 {
     match received {
         Ok(came) => match came {
-            Some((count, _)) => {
-                serve_turn(
-                    rt,
-                    board,
-                    pass,
-                    acq,
-                    gate,
-                    Some(&out[..count]),
-                    moment,
-                    mode,
-                )
-            }
-            None => serve_turn(rt, board, pass, acq, gate, None, moment, mode),
+            Some((count, _)) => Some(&out[..count]),
+            None => None,
         },
-        Err(_) => serve_turn(rt, board, pass, acq, gate, None, moment, mode),
+        Err(_) => None,
     }
 }
 
 /// One turn of the reader: its entry for the journal, and how it ended.
 ///
-/// It receives once on `stream` and reads the clock once: the turn's moment, in milliseconds. The receiver is given the
-/// datagram that came, if one did, and then the moment that `moments` says, and is served by the mode. The requests that
-/// the moment brought are sent on `control`, and the client has its part there, with the turn's own moment. After a
-/// receive or a send that failed the turn sends and receives nothing more. `out` is the room of a receive.
+/// It receives once on the link of the stream and reads the clock once: the turn's moment, in milliseconds. The receiver is
+/// given the datagram that came, if one did, and then the moment that `moments` says, and is served by the mode. The requests
+/// that the moment brought are sent on the control link, and the client has its part there, with the turn's own moment. After
+/// a receive or a send that failed the turn sends and receives nothing more.
 pub fn turn_once<R: Wait, L: Link, M: Link, C: Clock, G: Gate, P: Moments>(
     rt: &R,
     board: &Board,
     pass: &mut Pass,
     acq: &mut Acq,
-    client: &mut Client,
-    stream: &mut L,
-    control: &mut M,
-    clock: &mut C,
+    lent: Lent<'_, L, M, C>,
     gate: &G,
-    camera: Peer,
-    out: &mut [u8],
     moments: &mut P,
     mode: Mode,
 ) -> (Turn, TurnEnd)
@@ -115,12 +77,12 @@ pub fn turn_once<R: Wait, L: Link, M: Link, C: Clock, G: Gate, P: Moments>(
     requires fills { waiting_fills acq.old ≡ [] }
     requires requests { waiting_requests acq.old ≡ [] }
     requires backs { Backs pass.old (buffers acq.old) }
-    requires room { length out.old ≡ receive_room }
-    ensures takes { TakesOne mode (config_of acq.old) camera (Stands acq.old) (Stands acq.new) (λ moment told. P.says moments.old moment told moments.new)
-        (record { received = L.received stream.old; heard = M.received control.old; sent = M.sent control.old; told = C.told clock.old; client = client.old })
-        (record { received = L.received stream.new; heard = M.received control.new; sent = M.sent control.new; told = C.told clock.new; client = client.new })
+    requires room { length lent.out.now ≡ receive_room }
+    ensures takes { TakesOne mode (config_of acq.old) lent.entry.camera (Stands acq.old) (Stands acq.new) (λ moment told. P.says moments.old moment told moments.new)
+        (record { received = L.received lent.entry.stream.now; heard = M.received lent.entry.control.now; sent = M.sent lent.entry.control.now; told = C.told lent.entry.clock.now; client = lent.entry.client.now })
+        (record { received = L.received lent.exit.1.0.now; heard = M.received lent.exit.1.1.0.now; sent = M.sent lent.exit.1.1.0.now; told = C.told lent.exit.1.1.1.0.now; client = lent.exit.0.now })
         result.0 result.1 pass.old pass.new }
-    ensures faults { FaultsOf (is_fault result.1) (L.faults stream.old) (L.faults stream.new) (M.faults control.old) (M.faults control.new) }
+    ensures faults { FaultsOf (is_fault result.1) (L.faults lent.entry.stream.now) (L.faults lent.exit.1.0.now) (M.faults lent.entry.control.now) (M.faults lent.exit.1.1.0.now) }
     ensures table { pass.new.table ≡ pass.old.table }
     ensures config { config_of acq.new ≡ config_of acq.old }
     ensures fills { waiting_fills acq.new ≡ [] }
@@ -128,12 +90,21 @@ pub fn turn_once<R: Wait, L: Link, M: Link, C: Clock, G: Gate, P: Moments>(
     ensures backs { Backs pass.new (buffers acq.new) }
     ensures alone { HoldsAlone pass.old (buffers acq.old) → HoldsAlone pass.new (buffers acq.new) }
 {
+    let Lent {
+        client,
+        stream,
+        control,
+        clock,
+        out,
+        camera,
+    } = lent;
     let received = stream.recv(out);
     let moment = clock.now();
     let told = moments.tell(moment);
     let lost = has_failed(&received);
     let datagram = has_come(&received);
-    let heard = serve_received(rt, board, pass, acq, gate, received, out, told, mode);
+    let bytes = bytes_of(received, out);
+    let heard = serve_turn(rt, board, pass, acq, gate, bytes, told, mode);
     let failed = send_requests(acq, control, camera, lost);
     let end = client_turn(client, control, camera, moment, failed, out);
     let turn = Turn {

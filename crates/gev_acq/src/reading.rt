@@ -11,63 +11,84 @@ ghost use Rattle.live_crew.specs.Crews.{ComesBack};
 ghost use Rattle.gev_control.specs.Ends.{is_fault_end};
 ghost use Rattle.gev_acq.specs.Buffers.{Backs, HoldsAlone};
 ghost use Rattle.gev_acq.specs.Reading.{FaultsOf};
+ghost use Rattle.gev_acq.specs.Hosts.{outside_of};
 ghost use Rattle.gev_acq.specs.Kinds.{is_readers};
 ghost use Rattle.gev_acq.specs.Reads.{ReadsTurns, Reads};
 
+use crate::acquired::Acquired;
 use crate::acquiring::acquire;
 use crate::draining::drain;
-use crate::read_done::ReadDone;
+use crate::host::Host;
 use crate::turn::Turn;
 use acq_core::Acq;
 use buffer_words::{Board, Pass};
-use control_client::Client;
-use gev_control::{AcqEnd, setup};
+use gev_control::AcqEnd;
 use gev_links::{Clock, Gate, Link};
 use gev_types::Peer;
 use live_crew::Worked;
 use mode_calls::Mode;
 use std::sync::Wait;
 
+/// The reader of a run, by what it works with.
+#[derive(Drop)]
+pub struct Reader<S, M, C> {
+    /// The receiver of the stream.
+    pub acq: Acq,
+    /// The links, the clock and the client.
+    pub host: Host<S, M, C>,
+    /// The camera.
+    pub camera: Peer,
+    /// Where the camera is to send its stream.
+    pub own: Peer,
+    /// Where the turns are noted.
+    pub journal: Vec<Turn>,
+    /// The most turns.
+    pub turns: u64,
+    /// What a new block does with buffers that wait for the application.
+    pub mode: Mode,
+}
+
 /// Sets the camera up, and makes the reader's turns where that was done.
 fn read_turns<R: Wait, S: Link, M: Link, C: Clock, G: Gate>(
     rt: &R,
     board: &Board,
     pass: &mut Pass,
-    acq: &mut Acq,
-    client: &mut Client,
-    stream: &mut S,
-    control: &mut M,
-    clock: &mut C,
     gate: &G,
-    camera: Peer,
-    own: Peer,
-    journal: &mut Vec<Turn>,
-    turns: u64,
-    mode: Mode,
+    reader: &mut Reader<S, M, C>,
 ) -> AcqEnd
     requires table { pass.old.table ≡ board_id board.now }
-    requires new { Stands acq.old [] }
-    requires client { HasSubmittedNone client.old }
-    requires fills { waiting_fills acq.old ≡ [] }
-    requires requests { waiting_requests acq.old ≡ [] }
-    requires backs { Backs pass.old (buffers acq.old) }
-    requires room { vec_len journal.old + turns ≤ vec_capacity journal.old }
-    ensures reads { ReadsTurns mode (config_of acq.old) camera own (Stands acq.new)
-        (record { received = S.received stream.old; heard = M.received control.old; sent = M.sent control.old; told = C.told clock.old; client = client.old })
-        (record { received = S.received stream.new; heard = M.received control.new; sent = M.sent control.new; told = C.told clock.new; client = client.new })
-        journal.old.items journal.new.items turns result pass.old pass.new }
-    ensures faults { FaultsOf (is_fault_end result) (S.faults stream.old) (S.faults stream.new) (M.faults control.old) (M.faults control.new) }
+    requires new { Stands reader.old.acq [] }
+    requires client { HasSubmittedNone reader.old.host.client }
+    requires fills { waiting_fills reader.old.acq ≡ [] }
+    requires requests { waiting_requests reader.old.acq ≡ [] }
+    requires backs { Backs pass.old (buffers reader.old.acq) }
+    requires room { vec_len reader.old.journal + reader.old.turns ≤ vec_capacity reader.old.journal }
+    ensures reads { ReadsTurns reader.old.mode (config_of reader.old.acq) reader.old.camera reader.old.own (Stands reader.new.acq)
+        (outside_of S.received M.received M.sent C.told reader.old.host) (outside_of S.received M.received M.sent C.told reader.new.host)
+        reader.old.journal.items reader.new.journal.items reader.old.turns result pass.old pass.new }
+    ensures faults { FaultsOf (is_fault_end result) (S.faults reader.old.host.stream) (S.faults reader.new.host.stream) (M.faults reader.old.host.control) (M.faults reader.new.host.control) }
     ensures table { pass.new.table ≡ pass.old.table }
-    ensures config { config_of acq.new ≡ config_of acq.old }
-    ensures fills { waiting_fills acq.new ≡ [] }
-    ensures requests { waiting_requests acq.new ≡ [] }
-    ensures backs { Backs pass.new (buffers acq.new) }
-    ensures alone { HoldsAlone pass.old (buffers acq.old) → HoldsAlone pass.new (buffers acq.new) }
+    ensures config { config_of reader.new.acq ≡ config_of reader.old.acq }
+    ensures fills { waiting_fills reader.new.acq ≡ [] }
+    ensures requests { waiting_requests reader.new.acq ≡ [] }
+    ensures backs { Backs pass.new (buffers reader.new.acq) }
+    ensures alone { HoldsAlone pass.old (buffers reader.old.acq) → HoldsAlone pass.new (buffers reader.new.acq) }
 {
-    match setup(rt, client, control, clock, camera, own) {
+    match reader.host.set_up(rt, reader.camera, reader.own) {
         AcqEnd::Stopped => acquire(
-            rt, board, pass, acq, client, stream, control, clock, gate, camera, journal, turns,
-            mode,
+            rt,
+            board,
+            pass,
+            &mut reader.acq,
+            &mut reader.host.client,
+            &mut reader.host.stream,
+            &mut reader.host.control,
+            &mut reader.host.clock,
+            gate,
+            reader.camera,
+            &mut reader.journal,
+            reader.turns,
+            reader.mode,
         ),
         AcqEnd::Spent => AcqEnd::Spent,
         AcqEnd::Fault => AcqEnd::Fault,
@@ -76,68 +97,49 @@ fn read_turns<R: Wait, S: Link, M: Link, C: Clock, G: Gate>(
     }
 }
 
-/// The reader of a live run, with what it works on by value: sets the camera at the peer `camera` up to send its
-/// stream to `own`, makes at most `turns` turns where that was done, and in every case stops the receiver, fills
-/// what retires, and stops the acquisition.
+/// The reader of a live run: sets its camera up to send the stream to it, makes at most the asked number of turns where
+/// that was done, and in every case stops the receiver, fills what retires, and stops the acquisition.
 pub fn read<R: Wait, S: Link, M: Link, C: Clock, G: Gate>(
     rt: &R,
     board: &Board,
     mut pass: Pass,
-    mut acq: Acq,
-    mut client: Client,
-    mut stream: S,
-    mut control: M,
-    mut clock: C,
     gate: &G,
-    camera: Peer,
-    own: Peer,
-    mut journal: Vec<Turn>,
-    turns: u64,
-    mode: Mode,
-) -> Worked<ReadDone<S, M, C>>
+    mut reader: Reader<S, M, C>,
+) -> Worked<Acquired<S, M, C>>
     requires table { pass.table ≡ board_id board.now }
     requires hands { IsEmptyHanded pass }
-    requires new { Stands acq [] }
-    requires client { HasSubmittedNone client }
-    requires fills { waiting_fills acq ≡ [] }
-    requires requests { waiting_requests acq ≡ [] }
-    requires buffers { buffers acq ≡ [] }
-    requires room { vec_len journal + turns ≤ vec_capacity journal }
-    ensures reads { Reads mode (config_of acq) camera own
-        (record { received = S.received stream; heard = M.received control; sent = M.sent control; told = C.told clock; client = client })
-        (record { received = S.received result.done.stream; heard = M.received result.done.control; sent = M.sent result.done.control; told = C.told result.done.clock; client = result.done.client })
-        journal.items result.done.journal.items turns result.done.end pass result.pass }
-    ensures works { Works (is_readers mode) pass result.pass }
+    requires new { Stands reader.acq [] }
+    requires client { HasSubmittedNone reader.host.client }
+    requires fills { waiting_fills reader.acq ≡ [] }
+    requires requests { waiting_requests reader.acq ≡ [] }
+    requires buffers { buffers reader.acq ≡ [] }
+    requires room { vec_len reader.journal + reader.turns ≤ vec_capacity reader.journal }
+    ensures reads { Reads reader.mode (config_of reader.acq) reader.camera reader.own (outside_of S.received M.received M.sent C.told reader.host)
+        (outside_of S.received M.received M.sent C.told result.done.host) reader.journal.items result.done.journal.items reader.turns result.done.end pass result.pass }
+    ensures works { Works (is_readers reader.mode) pass result.pass }
     ensures back { ComesBack pass result.pass }
-    ensures faults { FaultsOf (is_fault_end result.done.end) (S.faults stream) (S.faults result.done.stream) (M.faults control) (M.faults result.done.control) }
+    ensures faults { FaultsOf (is_fault_end result.done.end) (S.faults reader.host.stream) (S.faults result.done.host.stream) (M.faults reader.host.control) (M.faults result.done.host.control) }
 {
-    let end = read_turns(
-        rt,
-        board,
-        &mut pass,
-        &mut acq,
-        &mut client,
-        &mut stream,
-        &mut control,
-        &mut clock,
-        gate,
-        camera,
-        own,
-        &mut journal,
-        turns,
-        mode,
-    );
+    let mode = reader.mode;
+    let end = read_turns(rt, board, &mut pass, gate, &mut reader);
+    let Reader {
+        mut acq,
+        host,
+        camera: _,
+        own: _,
+        journal,
+        turns: _,
+        mode: _,
+    } = reader;
     drain(rt, board, &mut pass, &mut acq, mode);
     let _stopped = board.stop(&mut pass, false);
     Worked {
         pass,
-        done: ReadDone {
-            client,
-            stream,
-            control,
-            clock,
+        done: Acquired {
+            host,
             journal,
             counts: acq.counts(),
+            shed: None,
             end,
         },
     }

@@ -11,7 +11,7 @@ use Rattle.gev_acq.specs.declared.turn.Turn.{Turn}
 use Rattle.gev_serve.specs.Wires.{Wire, wire}
 use Rattle.gev_links.specs.Links.{Address, Answer}
 use Rattle.gev_acq.specs.Turns.{Outside}
-use Rattle.lane_crew.specs.declared.acquired.Acquired.{Acquired}
+use Rattle.gev_acq.specs.declared.acquired.Acquired.{Acquired}
 use Rattle.gev_serve.specs.declared.working.CameraDone.{CameraDone}
 use Rattle.gev_apply.specs.declared.working.ApplicationDone.{ApplicationDone}
 use Rattle.gev_live.specs.declared.ends.Ends.{Ends}

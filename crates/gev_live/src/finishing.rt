@@ -8,7 +8,7 @@ ghost use Rattle.gev_live.specs.Endings.{taken_of, read_status, application_stat
 use crate::counting::{Tally, tell_counts};
 use crate::ends::Ends;
 use crate::numbers::Numbers;
-use gev_acq::Turn;
+use gev_acq::{Acquired, Host, Turn};
 use gev_apply::ApplicationDone;
 use gev_control::AcqEnd;
 use gev_links::{Sink, write_all};
@@ -16,7 +16,6 @@ use gev_report::line_live;
 use gev_serve::{CameraDone, ServeEnd};
 use gev_status::Status;
 use gev_types::NoMemory;
-use lane_crew::{Acquired, Host};
 use std::alloc::Global;
 
 // The answer by the reader's end, where no link failed and memory was there.

@@ -15,7 +15,6 @@ mod lanes_reading; // a reader with lanes acquires
 mod lanes_running; // the workers of a run with lanes
 mod live; // a run over links and clocks that are handed in
 mod numbers; // what is asked of a run
-mod reader; // a reader as a worker, by one value
 mod reading; // a reader acquires
 mod running; // the workers of a run with one lane
 mod tools; // what the workers begin with

@@ -14,18 +14,17 @@ ghost use Rattle.gev_serve.specs.Work.{ServesAndStops};
 ghost use Rattle.gev_apply.specs.Kinds.{is_applications};
 ghost use Rattle.gev_apply.specs.Work.{AppliesAndStops};
 ghost use Rattle.gev_control.specs.Ends.{is_fault_end};
-ghost use Rattle.lane_crew.specs.Hosts.{outside_of};
+ghost use Rattle.gev_acq.specs.Hosts.{outside_of};
 ghost use Rattle.gev_acq.specs.Reading.{FaultsOf};
 ghost use Rattle.gev_acq.specs.Kinds.{is_readers};
 ghost use Rattle.gev_acq.specs.Reads.{Reads};
 
 use crate::crew::{ApplicationSide, CameraSide, work_crew};
-use crate::reader::{Reader, read_alone};
 use buffer_words::{Board, Pass};
+use gev_acq::{Acquired, Reader, read};
 use gev_apply::ApplicationDone;
 use gev_links::{Clock, Gate, Link};
 use gev_serve::CameraDone;
-use lane_crew::Acquired;
 use live_crew::Worked;
 use std::alloc::Global;
 use std::sync::Wait;
@@ -79,7 +78,7 @@ pub(crate) fn work_with_reader<
                 × Works (is_readers reader.mode) given result.pass
                 × FaultsOf (is_fault_end result.done.end) (S.faults reader.host.stream) (S.faults result.done.host.stream) (L.faults reader.host.control) (L.faults result.done.host.control)
                 × ComesBack given result.pass }
-        { read_alone(rt, board, given, gate, reader) },
+        { read(rt, board, given, gate, reader) },
         taker,
     )
 }

@@ -6,4 +6,3 @@ pub mod Reader
 pub mod Did
 pub mod Crew
 pub mod Laws
-pub mod Hosts

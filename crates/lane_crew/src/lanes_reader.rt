@@ -1,6 +1,6 @@
-use crate::host::Host;
 use crate::lane_tools::LaneTools;
 use buffer_words::Pass;
+use gev_acq::Host;
 use gev_lanes::{Lanes, ReaderEnds};
 use gev_types::Peer;
 use mode_calls::Mode;

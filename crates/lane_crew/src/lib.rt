@@ -7,11 +7,9 @@
 //! the shared board.
 #![tactic(auto)]
 
-mod acquired; // what the worker that acquires gives back
 mod cell_serving; // one cell
 mod crew; // reader and lanes as threads, and the stop
 mod homing; // passes are joined, and queues' ends meet
-mod host; // a reader's links, clock and client
 mod lane_running; // all cells of a lane
 mod lane_tools; // what the thread of a lane works with
 mod lanes_reader; // what reader and lanes work with
@@ -21,9 +19,7 @@ mod reading; // the reader, from the setup to its end
 mod serving; // the lanes as threads
 mod summing; // what all lanes counted
 
-pub use acquired::Acquired;
 pub use crew::read_by_lanes;
-pub use host::Host;
 pub use lane_running::lane;
 pub use lane_tools::LaneTools;
 pub use lanes_reader::LanesReader;

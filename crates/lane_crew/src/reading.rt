@@ -6,7 +6,7 @@ ghost use Rattle.buffer_words.specs.Boards.{board_id};
 ghost use Rattle.buffer_words.specs.Passes.{SameHands};
 ghost use Rattle.gev_control.specs.Ends.{is_fault_end};
 ghost use Rattle.gev_acq.specs.Reading.{FaultsOf};
-ghost use Rattle.lane_crew.specs.Hosts.{outside_of};
+ghost use Rattle.gev_acq.specs.Hosts.{outside_of};
 ghost use Rattle.gev_lanes.specs.Sides.{AreReadersOf, AreKept};
 ghost use Rattle.lane_reader.specs.LanesTurns.{EndsEach};
 ghost use Rattle.lane_crew.specs.Reader.{ReadsAll};

@@ -13,7 +13,7 @@ use acq_core::{Acq, AcqConfig};
 use anyhow::Result;
 use buffer_words::{Board, Pass};
 use control_client::Client;
-use gev_acq::{HostMoments, Moments, Paced, drain, turn_once};
+use gev_acq::{Host, HostMoments, Lent, Moments, Paced, drain, turn_once};
 use gev_links::{MemoryClock, MemoryLink, OpenGate};
 use gev_types::NoMemory;
 use mode_calls::Mode;
@@ -21,15 +21,6 @@ use std::alloc::Global;
 use std::sync::Wait;
 
 const MODE: Mode = Mode::OldestFirst;
-
-/// What a reader has beside its receiver.
-#[derive(Drop)]
-struct Reader<'x> {
-    client: Client,
-    stream: MemoryLink<'x>,
-    control: MemoryLink<'x>,
-    clock: MemoryClock<'x>,
-}
 
 /// A receiver that retires a block which got no new packet for 200 ms, and asks for none again.
 fn new_receiver(alloc: Global) -> Result<Acq, NoMemory>
@@ -68,24 +59,16 @@ fn take_turns<R: Wait, P: Moments>(
     let (board, mut pass) = new_board(rt.alloc())?;
     let mut acq = new_receiver(rt.alloc())?;
     acq.tell_ends();
-    let mut reader = Reader {
-        client: Client::new(),
+    let mut host = Host {
         stream: stream_link(rt.alloc(), case)?,
         control: control_link(rt.alloc(), case, HOST)?,
         clock: MemoryClock::new(case.moments),
+        client: Client::new(),
     };
     let turns = case.number(2);
     print!(rt; "{turns} turns")?;
     for _turn in 0..turns {
-        take_turn(
-            rt,
-            handles,
-            &board,
-            &mut pass,
-            &mut acq,
-            &mut reader,
-            moments,
-        )?;
+        take_turn(rt, handles, &board, &mut pass, &mut acq, &mut host, moments)?;
     }
     drain(handles, &board, &mut pass, &mut acq, MODE);
     print_all(rt, handles, &board, &mut pass)
@@ -98,7 +81,7 @@ fn take_turn<R: Wait, P: Moments>(
     board: &Board,
     pass: &mut Pass,
     acq: &mut Acq,
-    reader: &mut Reader<'_>,
+    host: &mut Host<MemoryLink<'_>, MemoryLink<'_>, MemoryClock<'_>>,
     moments: &mut P,
 ) -> Result<()>
     requires table { pass.old.table ≡ board_id board.now }
@@ -111,21 +94,15 @@ fn take_turn<R: Wait, P: Moments>(
     ensures backs { Backs pass.new (buffers acq.new) }
 {
     let mut out = [0; 9000];
-    let (turn, end) = turn_once(
-        handles,
-        board,
-        pass,
-        acq,
-        &mut reader.client,
-        &mut reader.stream,
-        &mut reader.control,
-        &mut reader.clock,
-        &OpenGate,
-        CAMERA,
-        &mut out,
-        moments,
-        MODE,
-    );
+    let lent = Lent {
+        client: &mut host.client,
+        stream: &mut host.stream,
+        control: &mut host.control,
+        clock: &mut host.clock,
+        out: &mut out,
+        camera: CAMERA,
+    };
+    let (turn, end) = turn_once(handles, board, pass, acq, lent, &OpenGate, moments, MODE);
     if turn.datagram {
         print!(rt; "\n  {turn:?} {end:?}")?;
     }

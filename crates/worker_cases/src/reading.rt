@@ -11,7 +11,7 @@ use crate::links::{CAMERA, HOST, STREAM, control_link, print_sent, stream_link};
 use anyhow::Result;
 use buffer_words::{Board, Pass};
 use control_client::Client;
-use gev_acq::{AcqEnd, ReadDone, read};
+use gev_acq::{AcqEnd, Acquired, Host, Reader, read};
 use gev_links::{MemoryClock, MemoryLink, OpenGate};
 use live_crew::Worked;
 use mode_calls::Mode;
@@ -38,32 +38,30 @@ fn read_over<R: Wait>(
     let stream = stream_link(rt.alloc(), case)?;
     let control = control_link(rt.alloc(), case, HOST)?;
     let journal = Vec::with_capacity(rt.alloc(), 3)?;
-    let Worked { mut pass, done } = read(
-        handles,
-        board,
-        pass,
+    let reader = Reader {
         acq,
-        Client::new(),
-        stream,
-        control,
-        MemoryClock::new(case.moments),
-        &OpenGate,
-        CAMERA,
-        STREAM,
+        host: Host {
+            stream,
+            control,
+            clock: MemoryClock::new(case.moments),
+            client: Client::new(),
+        },
+        camera: CAMERA,
+        own: STREAM,
         journal,
-        3,
-        Mode::OldestFirst,
-    );
-    let ReadDone {
-        client: _,
-        stream: _,
-        control,
-        clock: _,
+        turns: 3,
+        mode: Mode::OldestFirst,
+    };
+    let Worked { mut pass, done } = read(handles, board, pass, &OpenGate, reader);
+    let Acquired {
+        host,
         journal,
         counts: _,
+        shed: _,
         end,
     } = done;
-    print_done(rt, handles, board, &mut pass, end, journal.len(), &control)
+    let turns = journal.len();
+    print_done(rt, handles, board, &mut pass, end, turns, &host.control)
 }
 
 /// Prints how the reader ended, and what waits.

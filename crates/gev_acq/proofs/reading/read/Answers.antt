@@ -9,18 +9,18 @@ use Rattle.gev_acq.proofs.reading.read.Goals as goal
 
 pub returns-clause-reads : goal.returns-clause-reads
 returns-clause-reads g c =
-    reads_all c.args.mode (config_of c.args.acq) (config_of c.read_turns-end.new.acq) c.args.camera c.args.own (Stands c.read_turns-end.new.acq) (Stands c.drain.new.acq)
-    _ _ c.args.journal.items c.read_turns-end.new.journal.items c.args.turns c.read_turns-end.result c.stop-stopped.result c.args.pass
+    reads_all c.args.reader.mode (config_of c.args.reader.acq) (config_of c.read_turns-end.new.reader.acq) c.args.reader.camera c.args.reader.own (Stands c.read_turns-end.new.reader.acq) (Stands c.drain.new.acq)
+    _ _ c.args.reader.journal.items c.read_turns-end.new.reader.journal.items c.args.reader.turns c.read_turns-end.result c.stop-stopped.result c.args.pass
     c.read_turns-end.new.pass c.drain.new.pass c.stop-stopped.new.pass c.read_turns-end.ensures.reads c.read_turns-end.ensures.config
     c.drain.ensures.serves c.stop-stopped.ensures.entry
 
 pub returns-clause-works : goal.returns-clause-works
 returns-clause-works g c =
-    reads_work c.args.mode (config_of c.args.acq) c.args.camera c.args.own _ _ c.args.journal.items c.read_turns-end.new.journal.items c.args.turns
+    reads_work c.args.reader.mode (config_of c.args.reader.acq) c.args.reader.camera c.args.reader.own _ _ c.args.reader.journal.items c.read_turns-end.new.reader.journal.items c.args.reader.turns
     c.read_turns-end.result c.args.pass c.stop-stopped.new.pass (returns-clause-reads g c)
 
 pub returns-clause-back : goal.returns-clause-back
 returns-clause-back g c =
-    comes_back (is_readers c.args.mode) c.args.pass c.stop-stopped.new.pass (returns-clause-works g c)
+    comes_back (is_readers c.args.reader.mode) c.args.pass c.stop-stopped.new.pass (returns-clause-works g c)
     (λ i. (c.stop-stopped.ensures.hands i).slot
-    ∙ c.drain.ensures.empty (c.read_turns-end.ensures.alone (alone_none c.args.pass (buffers c.args.acq) c.requires.buffers c.requires.hands)) i)
+    ∙ c.drain.ensures.empty (c.read_turns-end.ensures.alone (alone_none c.args.pass (buffers c.args.reader.acq) c.requires.buffers c.requires.hands)) i)

@@ -1,6 +1,6 @@
 use crate::host::Host;
+use crate::turn::Turn;
 use acquisition_machine::Counts;
-use gev_acq::Turn;
 use gev_control::AcqEnd;
 
 /// What the worker that acquires gives back beside its pass.

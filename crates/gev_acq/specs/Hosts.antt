@@ -2,7 +2,7 @@
 use Rattle.std.specs.Prelude.{ℕ, List, Option}
 use Rattle.gev_links.specs.Links.{Address, Answer}
 use Rattle.gev_acq.specs.Turns.{Outside}
-use Rattle.lane_crew.specs.declared.host.Host.{Host}
+use Rattle.gev_acq.specs.declared.host.Host.{Host}
 
 -- what its links and its clock told, with its client, by what the stream's link received, what the control link received
 -- and sent, and what the clock told
