@@ -13,9 +13,11 @@ mod looping; // the turns
 mod reader_end; // how it ended
 mod taking; // one turn
 mod telling; // the moment before the first turn
+mod turn_state; // what is kept from one turn to the next
 mod turns_done; // what it tells at its end
 mod words; // how it reads
 
+pub use gev_acq::Host;
 pub use laws::{nothing_is_asked, silence_is_waited};
 pub use looping::read_turns;
 pub use reader_end::ReaderEnd;

@@ -78,19 +78,7 @@ fn read_on<R: Wait, S: Link + Drop, M: Link + Drop, C: Clock + Drop, G: Gate>(
 {
     let begin = host.clock.now();
     begin_receiver(acq, begin);
-    read_turns(
-        rt,
-        board,
-        pass,
-        acq,
-        &mut host.client,
-        &mut host.stream,
-        &mut host.control,
-        &mut host.clock,
-        gate,
-        words,
-        begin,
-    )
+    read_turns(rt, board, pass, acq, host, gate, words, begin)
 }
 
 /// What was counted, with the datagrams that were refused in widening.

@@ -12,7 +12,7 @@ use crate::links::{CAMERA, HOST, control_link, print_sent, stream_link};
 use acq_core::{Acq, AcqConfig};
 use anyhow::Result;
 use buffer_words::{Board, Pass};
-use camera_reader::{ReaderWords, read_turns, tell_begin};
+use camera_reader::{Host, ReaderWords, read_turns, tell_begin};
 use control_client::Client;
 use gev_acq::drain;
 use gev_links::{Clock, MemoryClock, OpenGate};
@@ -79,39 +79,31 @@ fn read_over<R: Wait>(
         silence: case.number(1),
         mode: Mode::OldestFirst,
     };
-    let mut client = Client::with_limit(500);
-    let mut stream = stream_link(rt.alloc(), case)?;
-    let mut control = control_link(rt.alloc(), case, HOST)?;
-    let mut clock = MemoryClock::new(case.moments);
+    let mut host = Host {
+        client: Client::with_limit(500),
+        stream: stream_link(rt.alloc(), case)?,
+        control: control_link(rt.alloc(), case, HOST)?,
+        clock: MemoryClock::new(case.moments),
+    };
     let begin = case.number(2);
     tell_begin(
         handles,
         board,
         pass,
         acq,
-        &mut control,
+        &mut host.control,
         &OpenGate,
         words,
         begin,
     );
     let done = read_turns(
-        handles,
-        board,
-        pass,
-        acq,
-        &mut client,
-        &mut stream,
-        &mut control,
-        &mut clock,
-        &OpenGate,
-        words,
-        begin,
+        handles, board, pass, acq, &mut host, &OpenGate, words, begin,
     );
     print!(rt;
         "{:?} refused {} next {}",
         done.end,
         done.refused,
-        clock.now()
+        host.clock.now()
     )?;
-    print_sent(rt, &control)
+    print_sent(rt, &host.control)
 }

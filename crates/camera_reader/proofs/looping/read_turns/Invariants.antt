@@ -8,11 +8,11 @@ use Rattle.camera_reader.proofs.looping.read_turns.Given as goal
 abbrev pub invariant-turns : goal.invariant-turns
 invariant-turns g l = record {
   so : SoFar l.words.mode (config_of l.fn.acq) l.words.ids l.words.camera l.words.silence l.begin (Stands l.fn.acq) (Stands l.acq)
-      (record { received = g.L.Link.received l.fn.stream; heard = g.M.Link.received l.fn.control; sent = g.M.Link.sent l.fn.control; told = g.C.Clock.told l.fn.clock; client = l.fn.client })
-      (record { received = g.L.Link.received l.stream; heard = g.M.Link.received l.control; sent = g.M.Link.sent l.control; told = g.C.Clock.told l.clock; client = l.client })
-      l.moments l.hearing.widener l.hearing.refused l.listening l.fn.pass l.pass;
-  stream_count : g.L.Link.faults l.stream ≡ g.L.Link.faults l.fn.stream;
-  control_count : g.M.Link.faults l.control ≡ g.M.Link.faults l.fn.control;
+      (record { received = g.L.Link.received l.fn.host.stream; heard = g.M.Link.received l.fn.host.control; sent = g.M.Link.sent l.fn.host.control; told = g.C.Clock.told l.fn.host.clock; client = l.fn.host.client })
+      (record { received = g.L.Link.received l.host.stream; heard = g.M.Link.received l.host.control; sent = g.M.Link.sent l.host.control; told = g.C.Clock.told l.host.clock; client = l.host.client })
+      l.state.moments l.state.hearing.widener l.state.hearing.refused l.listening l.fn.pass l.pass;
+  stream_count : g.L.Link.faults l.host.stream ≡ g.L.Link.faults l.fn.host.stream;
+  control_count : g.M.Link.faults l.host.control ≡ g.M.Link.faults l.fn.host.control;
   table : l.pass.table ≡ l.fn.pass.table;
   config : config_of l.acq ≡ config_of l.fn.acq;
   fills : waiting_fills l.acq ≡ [];
