@@ -4,7 +4,7 @@ ghost use Rattle.gev_links.specs.Faults.{Rose};
 use gev_far::PeekLink;
 use gev_links::{Failed, Link, ShortLink};
 use gev_types::Peer;
-use libc::types::pollfd;
+use libc::types::{pollfd, timespec};
 use std::io;
 use std::net::{IpAddr, Ipv4Addr, Net, SocketAddr, UdpSocket};
 use std::os::fd::AsRawFd;
@@ -12,8 +12,22 @@ use std::os::fd::AsRawFd;
 /// How long a receive waits where nothing came, in milliseconds.
 const RECEIVE_LIMIT: i32 = 1;
 
+/// For how long more datagrams are let come behind a wait that found one, in nanoseconds. The system makes it some
+/// 50 microseconds longer.
+const GATHERING: i64 = 100_000;
+
+/// How many receives of a link that doesn't wait answer that nothing came, behind a look that found nothing.
+const SPARED_LOOKS: u8 = 7;
+
 /// The room that each socket asks for, in bytes, for datagrams that came and weren't received.
 const ROOM: u32 = 0x0200_0000;
+
+/// The room that a socket at the control port of a camera asks for instead, in bytes: for eight commands or so. A camera
+/// that obeys one command in a turn would come to one that waits behind many only when it isn't waited for any more.
+const COMMANDS_ROOM: u32 = 3072;
+
+/// The port of a camera's control channel (GigE Vision 2.0, GVCP).
+const CONTROL_PORT: u16 = 3956;
 
 /// The most that the system's call can be asked for, in bytes.
 const MOST_ROOM: u32 = 0x7fff_ffff;
@@ -35,6 +49,7 @@ pub struct UdpLink {
     socket: UdpSocket,
     peer: Peer,
     waits: bool,
+    spared: u8,
     faults: u64,
 }
 
@@ -95,6 +110,15 @@ fn ask_room_of(socket: &UdpSocket, room: u32) {
     };
 }
 
+/// The room that a socket at this address asks for, in bytes.
+fn room_at(own: Peer) -> u32 {
+    if own.port == CONTROL_PORT {
+        COMMANDS_ROOM
+    } else {
+        ROOM
+    }
+}
+
 /// How much room the system gave, in bytes, with what it keeps beside the datagrams; 0 where it doesn't tell.
 fn room_of(socket: &UdpSocket) -> u64 {
     let mut value = [0; 16];
@@ -115,15 +139,29 @@ fn room_of(socket: &UdpSocket) -> u64 {
     u64::from(u32::from_ne_bytes([a, b, c, d]))
 }
 
-/// Waits until a datagram is there, for at most the receive limit. The socket's own read timeout comes out
-/// longer: the system rounds it up to its clock ticks.
-fn wait(socket: &UdpSocket) {
+/// Waits until a datagram is there, for at most the receive limit: whether one is. The socket's own read timeout comes
+/// out longer: the system rounds it up to its clock ticks.
+fn comes_soon(socket: &UdpSocket) -> bool {
     let mut asked = [pollfd {
         fd: socket.as_raw_fd(),
         events: libc::net::POLLIN,
         revents: 0,
     }];
-    let _ = libc::net::poll(&mut asked, RECEIVE_LIMIT);
+    libc::net::poll(&mut asked, RECEIVE_LIMIT) > 0
+}
+
+/// Lets more datagrams come. A wake-up costs more than a datagram: a reader that is faster than its camera would be
+/// woken for each.
+fn gather() {
+    let asked = timespec {
+        tv_sec: 0,
+        tv_nsec: GATHERING,
+    };
+    let mut left = timespec {
+        tv_sec: 0,
+        tv_nsec: 0,
+    };
+    let _ = libc::nanosleep(&asked, &mut left);
 }
 
 /// Whether an error says only that no datagram is there.
@@ -178,20 +216,23 @@ fn is_none(looked: &Result<Option<(usize, Peer)>, Failed>) -> bool {
 
 impl UdpLink {
     /// A new socket at this address and port of this machine. Address 0 stands for each of its addresses, and port 0
-    /// for one that the system gives. A receive that finds nothing waits for at most a millisecond and looks once
-    /// more, where `waits` says so; else it looks once. The socket has asked for room as `ask_room` does, of 32 MiB:
-    /// by default the system holds fewer than half of a frame's packets.
+    /// for one that the system gives. Where `waits` says so a receive that finds nothing waits for at most a
+    /// millisecond, and where something came then, lets more come for some 150 microseconds and looks once more; else
+    /// it looks once, and the seven receives behind a look that found nothing don't look. The socket has asked for
+    /// room as `ask_room` does, of 32 MiB: by default the system holds fewer than half of a frame's packets. One at
+    /// port 3956, where a camera hears commands, has asked for as little as a few of them need.
     pub fn open<N: Net>(net: &N, own: Peer, waits: bool) -> io::Result<UdpLink>
         ensures { IfOk result (λ link. link.faults ≡ 0) }
     {
         let socket = UdpSocket::bind(net, address_of(own))?;
         socket.set_nonblocking(true)?;
-        ask_room_of(&socket, ROOM);
+        ask_room_of(&socket, room_at(own));
         let peer = peer_at(socket.local_addr()?);
         Ok(UdpLink {
             socket,
             peer,
             waits,
+            spared: 0,
             faults: 0,
         })
     }
@@ -217,7 +258,7 @@ impl UdpLink {
         room_of(&self.socket)
     }
 
-    /// Receives into a slice of any length, or looks; where nothing is there, waits and does so once more.
+    /// Receives into a slice of any length, or looks; where nothing is there, and something comes soon, does so once more.
     fn receive(&mut self, out: &mut [u8], stays: bool) -> Result<Option<(usize, Peer)>, Failed>
         ensures count { IfOk result (λ came. IfSome came (λ datagram. datagram.0 ≤ length out.old)) }
         ensures no_fault { IfOk result (λ _. self.new.faults ≡ self.old.faults) }
@@ -226,8 +267,8 @@ impl UdpLink {
         ensures address { self.new.peer ≡ self.old.peer }
     {
         let mut looked = receive_waiting(&self.socket, out, stays);
-        if self.waits && is_none(&looked) {
-            wait(&self.socket);
+        if self.waits && is_none(&looked) && comes_soon(&self.socket) {
+            gather();
             looked = receive_waiting(&self.socket, out, stays);
         }
         match looked {
@@ -237,6 +278,26 @@ impl UdpLink {
                 Err(Failed)
             }
         }
+    }
+
+    /// The same of a link that doesn't wait: behind a receive that found nothing the next ones don't ask the system. A
+    /// reader makes such a receive for each datagram of its stream.
+    fn receive_sparing(&mut self, out: &mut [u8]) -> Result<Option<(usize, Peer)>, Failed>
+        ensures count { IfOk result (λ came. IfSome came (λ datagram. datagram.0 ≤ length out.old)) }
+        ensures no_fault { IfOk result (λ _. self.new.faults ≡ self.old.faults) }
+        ensures failed { OnErr result (Rose self.old.faults self.new.faults) }
+        ensures never_falls { self.old.faults ≤ self.new.faults }
+        ensures address { self.new.peer ≡ self.old.peer }
+    {
+        if self.spared > 0 {
+            self.spared -= 1;
+            return Ok(None);
+        }
+        let looked = self.receive(out, false);
+        if !self.waits && is_none(&looked) {
+            self.spared = SPARED_LOOKS;
+        }
+        looked
     }
 
     /// How many calls failed.
@@ -273,7 +334,7 @@ impl Link for UdpLink {
     }
 
     fn recv(&mut self, out: &mut [u8]) -> Result<Option<(usize, Peer)>, Failed> {
-        self.receive(out, false)
+        self.receive_sparing(out)
     }
 
     fn peer(&self) -> Peer {
@@ -283,7 +344,7 @@ impl Link for UdpLink {
 
 impl ShortLink for UdpLink {
     fn recv_front(&mut self, out: &mut [u8]) -> Result<Option<(usize, Peer)>, Failed> {
-        self.receive(out, false)
+        self.receive_sparing(out)
     }
 }
 
@@ -294,5 +355,6 @@ impl PeekLink for UdpLink {
 
     fn set_waiting(&mut self, waits: bool) {
         self.waits = waits;
+        self.spared = 0;
     }
 }
