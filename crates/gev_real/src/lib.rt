@@ -1,10 +1,12 @@
-//! The real outside: standard input, output and error, UDP sockets, and the system's clock.
+//! The real outside: standard input, output and error, UDP sockets, and the system's clock; and the gate at which the
+//! application rests.
 //!
 //! Each adapter meets its trait of `gev_links` and tells nothing of what it reads, writes or tells.
 #![tactic(auto)]
 
 mod monotonic_clock; // the system's clock
 mod real_ports; // where links and clocks come from
+mod resting_bell; // a gate that each fill rings
 mod socket_table; // the system's table of sockets
 mod standard_input; // standard input as a source
 mod standard_output; // standard output as a sink
@@ -12,6 +14,7 @@ mod udp_link; // a UDP socket
 
 pub use monotonic_clock::MonotonicClock;
 pub use real_ports::RealPorts;
+pub use resting_bell::RestingBell;
 pub use standard_input::StandardInput;
 pub use standard_output::StandardOutput;
 pub use udp_link::UdpLink;

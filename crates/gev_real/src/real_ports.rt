@@ -93,7 +93,7 @@ fn open_towards<N: Net>(net: &N, peer: Peer) -> io::Result<UdpLink>
     ensures { IfOk result (λ link. link.faults ≡ 0) }
 {
     let own = own_towards(net, peer)?;
-    UdpLink::open(net, own, true)
+    UdpLink::open_far(net, own)
 }
 
 impl<'a, R: Net + Time + Files + Sync> Ports for RealPorts<'a, R> {

@@ -12,12 +12,21 @@ use std::os::fd::AsRawFd;
 /// How long a receive waits where nothing came, in milliseconds.
 const RECEIVE_LIMIT: i32 = 1;
 
+/// The same of a link towards a device, behind whose images the stream is silent for many milliseconds.
+const FAR_LIMIT: i32 = 4;
+
 /// For how long more datagrams are let come behind a wait that found one, in nanoseconds. The system makes it some
 /// 50 microseconds longer.
-const GATHERING: i64 = 100_000;
+const GATHERING: i64 = 150_000;
 
-/// How many receives of a link that doesn't wait answer that nothing came, behind a look that found nothing.
-const SPARED_LOOKS: u8 = 7;
+/// How many receives of a link that doesn't wait answer that nothing came, behind a look that found nothing: soon after it
+/// sent or received, when an answer may come, and later.
+const SPARED_SOON: u8 = 7;
+
+const SPARED_LATER: u8 = 63;
+
+/// How many receives behind what was sent or received are soon.
+const SOON: u32 = 1000;
 
 /// The room that each socket asks for, in bytes, for datagrams that came and weren't received.
 const ROOM: u32 = 0x0200_0000;
@@ -49,7 +58,9 @@ pub struct UdpLink {
     socket: UdpSocket,
     peer: Peer,
     waits: bool,
+    far: bool,
     spared: u8,
+    quiet: u32,
     faults: u64,
 }
 
@@ -139,15 +150,15 @@ fn room_of(socket: &UdpSocket) -> u64 {
     u64::from(u32::from_ne_bytes([a, b, c, d]))
 }
 
-/// Waits until a datagram is there, for at most the receive limit: whether one is. The socket's own read timeout comes
+/// Waits until a datagram is there, for at most so many milliseconds: whether one is. The socket's own read timeout comes
 /// out longer: the system rounds it up to its clock ticks.
-fn comes_soon(socket: &UdpSocket) -> bool {
+fn comes_within(socket: &UdpSocket, limit: i32) -> bool {
     let mut asked = [pollfd {
         fd: socket.as_raw_fd(),
         events: libc::net::POLLIN,
         revents: 0,
     }];
-    libc::net::poll(&mut asked, RECEIVE_LIMIT) > 0
+    libc::net::poll(&mut asked, limit) > 0
 }
 
 /// Lets more datagrams come. A wake-up costs more than a datagram: a reader that is faster than its camera would be
@@ -206,6 +217,15 @@ fn receive_waiting(
     }
 }
 
+/// How many receives are spared so many receives behind what was sent or received.
+fn spared_behind(quiet: u32) -> u8 {
+    if quiet < SOON {
+        SPARED_SOON
+    } else {
+        SPARED_LATER
+    }
+}
+
 /// Whether no datagram was there.
 fn is_none(looked: &Result<Option<(usize, Peer)>, Failed>) -> bool {
     match looked {
@@ -217,8 +237,8 @@ fn is_none(looked: &Result<Option<(usize, Peer)>, Failed>) -> bool {
 impl UdpLink {
     /// A new socket at this address and port of this machine. Address 0 stands for each of its addresses, and port 0
     /// for one that the system gives. Where `waits` says so a receive that finds nothing waits for at most a
-    /// millisecond, and where something came then, lets more come for some 150 microseconds and looks once more; else
-    /// it looks once, and the seven receives behind a look that found nothing don't look. The socket has asked for
+    /// millisecond, and looks once more where something came then; else it looks once, and some receives behind a look
+    /// that found nothing don't look. The socket has asked for
     /// room as `ask_room` does, of 32 MiB: by default the system holds fewer than half of a frame's packets. One at
     /// port 3956, where a camera hears commands, has asked for as little as a few of them need.
     pub fn open<N: Net>(net: &N, own: Peer, waits: bool) -> io::Result<UdpLink>
@@ -232,9 +252,21 @@ impl UdpLink {
             socket,
             peer,
             waits,
+            far: false,
             spared: 0,
+            quiet: 0,
             faults: 0,
         })
+    }
+
+    /// A new socket at this address of this machine, whose receives that find nothing wait for at most 4 milliseconds, and
+    /// where something came then, let more come for some 200 microseconds before they look once more.
+    pub(crate) fn open_far<N: Net>(net: &N, own: Peer) -> io::Result<UdpLink>
+        ensures { IfOk result (λ link. link.faults ≡ 0) }
+    {
+        let mut link = UdpLink::open(net, own, true)?;
+        link.far = true;
+        Ok(link)
     }
 
     /// A new socket at each address of this machine, which may send to broadcast addresses.
@@ -258,6 +290,18 @@ impl UdpLink {
         room_of(&self.socket)
     }
 
+    /// Waits for a datagram: whether one came.
+    fn comes_soon(&self) -> bool {
+        if !self.far {
+            return comes_within(&self.socket, RECEIVE_LIMIT);
+        }
+        let came = comes_within(&self.socket, FAR_LIMIT);
+        if came {
+            gather();
+        }
+        came
+    }
+
     /// Receives into a slice of any length, or looks; where nothing is there, and something comes soon, does so once more.
     fn receive(&mut self, out: &mut [u8], stays: bool) -> Result<Option<(usize, Peer)>, Failed>
         ensures count { IfOk result (λ came. IfSome came (λ datagram. datagram.0 ≤ length out.old)) }
@@ -267,8 +311,7 @@ impl UdpLink {
         ensures address { self.new.peer ≡ self.old.peer }
     {
         let mut looked = receive_waiting(&self.socket, out, stays);
-        if self.waits && is_none(&looked) && comes_soon(&self.socket) {
-            gather();
+        if self.waits && is_none(&looked) && self.comes_soon() {
             looked = receive_waiting(&self.socket, out, stays);
         }
         match looked {
@@ -289,13 +332,16 @@ impl UdpLink {
         ensures never_falls { self.old.faults ≤ self.new.faults }
         ensures address { self.new.peer ≡ self.old.peer }
     {
+        self.quiet = self.quiet.saturating_add(1);
         if self.spared > 0 {
             self.spared -= 1;
             return Ok(None);
         }
         let looked = self.receive(out, false);
-        if !self.waits && is_none(&looked) {
-            self.spared = SPARED_LOOKS;
+        if !is_none(&looked) {
+            self.quiet = 0;
+        } else if !self.waits {
+            self.spared = spared_behind(self.quiet);
         }
         looked
     }
@@ -318,6 +364,8 @@ impl Link for UdpLink {
     ghost address = { λ l. l.peer };
 
     fn send(&mut self, peer: Peer, bytes: &[u8]) -> Result<(), Failed> {
+        self.quiet = 0;
+        self.spared = 0;
         match self.socket.send_to(bytes, address_of(peer)) {
             Ok(count) => {
                 if count == bytes.len() {
