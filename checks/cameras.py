@@ -21,7 +21,7 @@ import time
 PROGRAM = sys.argv[1]
 PORT = 3956
 BROADCAST_ACK, SUCCESS = 0x11, 0
-DISCOVERY, READREG, WRITEREG, READMEM = 0x0002, 0x0080, 0x0082, 0x0084
+DISCOVERY, RESEND, READREG, WRITEREG, READMEM = 0x0002, 0x0040, 0x0080, 0x0082, 0x0084
 faults = []
 
 
@@ -283,6 +283,22 @@ def streams(camera, openings):
     return frames
 
 
+def reads_behind(camera, resends):
+    """Whether a client that asks three times, half a second apart, reads a register behind so many packet resend commands."""
+    with socket.socket(socket.AF_INET, socket.SOCK_DGRAM) as client:
+        client.settimeout(0.5)
+        for req in range(1, resends + 1):
+            client.sendto(struct.pack(">BBHHHHHII", 0x42, 0, RESEND, 12, req, 0, 1, 1, 9), (camera, PORT))
+        for _ in range(3):
+            client.sendto(struct.pack(">BBHHHI", 0x42, 1, READREG, 4, resends + 1, CCP), (camera, PORT))
+            try:
+                answer = client.recv(1024)
+            except socket.timeout:
+                continue
+            return answer[:8] == struct.pack(">HHHH", 0, READREG + 1, 4, resends + 1)
+    return False
+
+
 def check_simulate():
     a = "127.83.3.1"
     each = lambda *words: subprocess.run([PROGRAM, *words], capture_output=True, timeout=60)
@@ -298,6 +314,7 @@ def check_simulate():
     simulated("no description", [a, "until=stdin", "rate=100"], lambda: each("description", a), lambda want, frames, turns:
               (want.returncode, want.stdout) == (16, b"") and 2 <= turns <= 100)
     simulated("images", [a, "rate=50", "until=stdin", "seed=7"], lambda: streams(a, 2), lambda want, frames, turns: want == frames and 2 <= frames <= turns)
+    simulated("a read behind many resend commands", [a, "rate=50", "until=stdin"], lambda: reads_behind(a, 300), lambda want, frames, turns: want)
     done = each("simulate", "192.0.2.1")
     if (done.returncode, done.stdout, done.stderr) != (6, b"", b"gevacq: the network failed\n"):
         note("no address of this machine", "%r" % done)
