@@ -161,11 +161,16 @@ def judge_images(case, lines, taken):
     return None
 
 
-def judge_some(case, out, most):
-    """So many take lines at most, and the end line of 1000 frames."""
+def judge_some(case, out, most, cut=False):
+    """So many take lines at most, and the end line of 1000 frames. With `cut` the last image may be one that was on its way
+    when the run ended."""
     taken = len(re.findall("^take ", out, re.M))
     if not 0 < taken <= most:
         note(case, "%d take lines" % taken)
+    if cut:
+        whole = "taken=%d complete=%d " % (taken - 1, taken - 1)
+        out, cuts = re.subn(r"(?m)^take .* complete=0 .*\n(receive frames=1000 )taken=%d complete=%d " % (taken, taken - 1), r"\1" + whole, out)
+        taken -= cuts
     judge_lines(case, out, 1000, taken)
 
 
@@ -196,8 +201,8 @@ def check_ends():
     receive("a silent camera", a, 3, ["silence=300"], 14, "gevacq: the camera is silent, 0 frames\n", judge=none, mute=True)
     receive("control of another application", a, 3, status=15, text="gevacq: another application controls the camera\n", heard=SETUP[:1], judge=none, held=True)
     receive("control that is refused", a, 3, status=10, text="gevacq: register 0x00000a00 refused with status 0x8006\n", heard=SETUP[:2], judge=none, refused=[CCP])
-    some = lambda case, most: lambda out: judge_some(case, out.decode(), most)
-    receive("control that is given away", a, 1000, status=17, text=r"gevacq: the camera gave its control away, \d+ frames\n", heard=SETUP, judge=some("given away", 200), lost=1)
+    some = lambda case, most, **how: lambda out: judge_some(case, out.decode(), most, **how)
+    receive("control that is given away", a, 1000, status=17, text=r"gevacq: the camera gave its control away, \d+ frames\n", heard=SETUP, judge=some("given away", 200, cut=True), lost=1)
     receive("a camera that dies", a, 1000, status=9, text="gevacq: no answer to request 9\n", heard=SETUP, judge=some("dies", 20), dies=20)
     receive("chunks", a, 3, ["silence=300"], 14, "gevacq: no leader came, the last foreign datagram: payload-type=0x4001\ngevacq: the camera is silent, 0 frames\n", judge=none, kind=0x4001)
     receive("progress", a, 40, ["progress=200"], text=r"(gevacq: \d+\.\d s, \d+ frames, \d+\.\d/s, \d+\.\d MB/s, \d+ incomplete\n){2,99}", judge=lines(40, frames=40))
