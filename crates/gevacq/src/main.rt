@@ -4,9 +4,8 @@
 mod help;
 
 use crate::help::{HELP, USAGE, print_help_on};
-use gev_links::FillBell;
 use gev_program::gevacq_top;
-use gev_real::{RealPorts, StandardInput, StandardOutput};
+use gev_real::{RealPorts, RestingBell, StandardInput, StandardOutput};
 use gev_status::Status;
 use std::fs::Files;
 use std::net::Net;
@@ -68,7 +67,7 @@ fn run<R: Threads + Wait + Net + Clock + Files + Sync>(
         &mut source,
         &mut sink,
         &mut ports,
-        &FillBell::new(),
+        &RestingBell::new(),
         &mut kept,
     )
 }
