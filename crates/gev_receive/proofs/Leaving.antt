@@ -11,7 +11,7 @@ use Rattle.camera_control.specs.Taking.{Takes, Leaves, FailsAs}
 use Rattle.camera_words.specs.declared.settings.Settings.{Settings}
 use Rattle.camera_words.specs.declared.register_write.Stage.TheVariants.{Set, Start, Stop}
 use Rattle.gev_status.specs.declared.status.Status.{Status}
-use Rattle.gev_receive.specs.Answers.{leave_status, weightier, is_lost}
+use Rattle.gev_receive.specs.Answers.{control_status, leave_status, weightier, is_lost}
 use Rattle.gev_receive.specs.Starting.{writes_at}
 use Rattle.gev_receive.specs.Receives.{wish_of, TakesBy, LeavesUnless, LeavesHeld}
 
@@ -47,12 +47,16 @@ pub leaves_none : (b : Bool) (settings : Settings) (camera : Address) (heartbeat
 leaves_none b settings camera heartbeat frames first o faults lost =
     subst (λ (k : Bool). LeavesUnless k settings camera heartbeat frames first o o faults faults first) (sym lost) (refl, refl, refl)
 
-pub held_so : (held : Bool) (settings : Settings) (camera : Address) (first answer : Status) (o n : ControlSide) (faults faults_after : ℕ) → held ≡ true
-    → LeavesUnless (is_lost first) settings camera false 0 first o n faults faults_after answer → LeavesHeld held settings camera first o n faults faults_after answer
-held_so held settings camera first answer o n faults faults_after is leaves =
-    subst (λ (k : Bool). LeavesHeld k settings camera first o n faults faults_after answer) (sym is) leaves
+pub held_so : (held lost : Bool) (settings : Settings) (camera : Address) (cause : ControlEnd) (frames : ℕ) (first answer : Status) (o n : ControlSide) (faults faults_after : ℕ)
+    → held ≡ true → lost ≡ is_lost cause → frames ≡ 0 → first ≡ control_status cause 0
+    → LeavesUnless lost settings camera false frames first o n faults faults_after answer → LeavesHeld held settings camera cause o n faults faults_after answer
+held_so held lost settings camera cause frames first answer o n faults faults_after is lost_is none first_is leaves =
+    subst (λ (k : Bool). LeavesHeld k settings camera cause o n faults faults_after answer) (sym is)
+    (subst (λ (k : Bool). LeavesUnless k settings camera false 0 (control_status cause 0) o n faults faults_after answer) lost_is
+    (subst (λ (k : ℕ). LeavesUnless lost settings camera false k (control_status cause 0) o n faults faults_after answer) none
+    (subst (λ (s : Status). LeavesUnless lost settings camera false frames s o n faults faults_after answer) first_is leaves)))
 
-pub held_none : (held : Bool) (settings : Settings) (camera : Address) (first : Status) (o : ControlSide) (faults : ℕ) → held ≡ false
-    → LeavesHeld held settings camera first o o faults faults first
-held_none held settings camera first o faults is =
-    subst (λ (k : Bool). LeavesHeld k settings camera first o o faults faults first) (sym is) (refl, refl, refl)
+pub held_none : (held : Bool) (settings : Settings) (camera : Address) (cause : ControlEnd) (first : Status) (o : ControlSide) (faults : ℕ) → held ≡ false → first ≡ control_status cause 0
+    → LeavesHeld held settings camera cause o o faults faults first
+held_none held settings camera cause first o faults is first_is =
+    subst (λ (k : Bool). LeavesHeld k settings camera cause o o faults faults first) (sym is) (refl, refl, first_is)

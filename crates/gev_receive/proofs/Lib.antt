@@ -1,5 +1,6 @@
 pub mod ReaderWork
 pub mod RanAll
+pub mod Never
 pub mod Leaving
 pub mod Last
 pub mod Alone

@@ -22,9 +22,8 @@ use Rattle.camera_reader.specs.Reading.{is_fault}
 use Rattle.first_leader.specs.declared.leading.FirstLeader.{FirstLeader}
 use Rattle.frame_writing.specs.declared.handed_out.HandedOut.{HandedOut}
 use Rattle.frame_writing.specs.Work.{HandsOutAndStops}
-use Rattle.gev_status.specs.declared.status.Status.{Status}
 use Rattle.receive_lines.specs.declared.receive_counts.ReceiveCounts.{ReceiveCounts}
-use Rattle.gev_receive.specs.Answers.{reader_status, handed_status, weightier}
+use Rattle.gev_receive.specs.Answers.{StreamEnd, frames_end}
 use Rattle.gev_receive.specs.Starting.{config_of, mode_of, buffer_size, leader_counts, with_counts}
 use Rattle.gev_receive.specs.Reader.{ReadsFrames}
 use Rattle.gev_receive.specs.Frames.{RanFrames}
@@ -42,17 +41,17 @@ RanBy mode c ids silence frames output on camera o n stream stream_after control
 
 pub ran_frames : (settings : Settings) (camera : Address) (leader : FirstLeader) (resends : Bool) (o n : Outside) (stream stream_after control control_after : ℕ)
     (app app_after written written_after : Option (List ℕ)) (faults faults_after : ℕ) (input left : Option (List ℕ)) (misses misses_after : ℕ)
-    (read : ReaderEnd) (handed : HandedOut) (counted : Counts) (answer : Status) (counts : ReceiveCounts) (s u : Token)
+    (read : ReaderEnd) (handed : HandedOut) (counted : Counts) (end : StreamEnd) (counts : ReceiveCounts) (s u : Token)
     (mode : Mode) (c : AcqConfig) (ids : IdMode) (silence frames : ℕ) (output : Output) (on : Bool) (size : ℕ)
     → mode ≡ mode_of settings.mode → c ≡ config_of settings leader resends → ids ≡ leader.ids → silence ≡ settings.silence → frames ≡ settings.frames
     → output ≡ settings.output → on ≡ settings.until_input_ends → size ≡ buffer_size settings leader
     → SawOnly (Prepares size settings.buffers) s → s.number ≡ 0 → born (own s) ≡ []
     → RanBy mode c ids silence frames output on camera o n stream stream_after control control_after counted read app app_after handed written written_after faults faults_after input left misses misses_after s u
-    → answer ≡ weightier (handed_status handed.end) (reader_status read settings.frames handed.taken)
+    → end ≡ frames_end handed.end read settings.frames handed.taken
     → counts ≡ with_counts (leader_counts settings leader) handed.taken handed.complete counted
-    → RanFrames settings camera leader resends o n stream stream_after control control_after app app_after written written_after faults faults_after input left misses misses_after answer counts u.seen
+    → RanFrames settings camera leader resends o n stream stream_after control control_after app app_after written written_after faults faults_after input left misses misses_after end counts u.seen
 ran_frames settings camera leader resends o n stream stream_after control control_after app app_after written written_after faults faults_after input left misses misses_after
-    read handed counted answer counts s u mode c ids silence frames output on size mode_is c_is ids_is silence_is frames_are output_is on_is size_is saw first childless ran answered counts_are = record {
+    read handed counted end counts s u mode c ids silence frames output on size mode_is c_is ids_is silence_is frames_are output_is on_is size_is saw first childless ran ended counts_are = record {
       begin = s;
       last = u;
       prepared = subst (λ (k : ℕ). SawOnly (Prepares k settings.buffers) s) size_is saw;
@@ -70,6 +69,6 @@ ran_frames settings camera leader resends o n stream stream_after control contro
           (subst (λ (x : AcqConfig). RanBy (mode_of settings.mode) x ids silence frames output on camera o n stream stream_after control control_after counted read app app_after handed written written_after faults faults_after input left misses misses_after s u) c_is
           (subst (λ (x : Mode). RanBy x c ids silence frames output on camera o n stream stream_after control control_after counted read app app_after handed written written_after faults faults_after input left misses misses_after s u) mode_is ran))))));
       saw = refl;
-      answered = answered;
+      ended = ended;
       counts_are = counts_are;
     }

@@ -30,7 +30,7 @@ use Rattle.frame_writing.specs.HandsOut.{EndsBy}
 use Rattle.gev_status.specs.declared.status.Status.{Status}
 use Rattle.gev_status.specs.declared.status.Status.TheVariants as status
 use Rattle.receive_lines.specs.declared.receive_counts.ReceiveCounts.{ReceiveCounts}
-use Rattle.gev_receive.specs.Answers.{rank, control_status, leader_status, reader_status, handed_status, leave_status, weightier, is_lost, is_told}
+use Rattle.gev_receive.specs.Answers.{rank, control_status, leader_status, reader_status, handed_status, leave_status, weightier, is_lost, is_told, StreamEnd}
 use Rattle.gev_receive.specs.Ending.{has_last, WritesLast, EndsWith}
 use Rattle.gev_receive.specs.Frames.{RanFrames, Runs}
 use Rattle.gev_receive.specs.Receives.{Told, Streams, unled, undrawn, streamed, LeavesUnless, LeavesHeld, Meets, Receives}
@@ -235,11 +235,11 @@ stands_both r a b stream stream_after control control_after faults faults_after 
 }
 
 frames_stand : (settings : Settings) (camera : Address) (leader : FirstLeader) (resends : Bool) (o n : Outside) (stream stream_after control control_after : ℕ)
-    (app app_after written written_after : Option (List ℕ)) (faults faults_after : ℕ) (input left : Option (List ℕ)) (misses misses_after : ℕ) (answer : Status) (counts : ReceiveCounts) (h : List Entry)
-    → RanFrames settings camera leader resends o n stream stream_after control control_after app app_after written written_after faults faults_after input left misses misses_after answer counts h
-    → StandsBy (rank answer) stream stream_after control control_after faults faults_after
-frames_stand settings camera leader resends o n stream stream_after control control_after app app_after written written_after faults faults_after input left misses misses_after answer counts h ran =
-    subst (λ (s : Status). StandsBy (rank s) stream stream_after control control_after faults faults_after) (sym ran.answered)
+    (app app_after written written_after : Option (List ℕ)) (faults faults_after : ℕ) (input left : Option (List ℕ)) (misses misses_after : ℕ) (end : StreamEnd) (counts : ReceiveCounts) (h : List Entry)
+    → RanFrames settings camera leader resends o n stream stream_after control control_after app app_after written written_after faults faults_after input left misses misses_after end counts h
+    → StandsBy (rank end.status) stream stream_after control control_after faults faults_after
+frames_stand settings camera leader resends o n stream stream_after control control_after app app_after written written_after faults faults_after input left misses misses_after end counts h ran =
+    subst (λ (e : StreamEnd). StandsBy (rank e.status) stream stream_after control control_after faults faults_after) (sym ran.ended)
     (stands_both (rank (weightier (handed_status ran.handed.end) (reader_status ran.read settings.frames ran.handed.taken))) (rank (handed_status ran.handed.end))
     (rank (reader_status ran.read settings.frames ran.handed.taken)) stream stream_after control control_after faults faults_after
     (heavier (handed_status ran.handed.end) (reader_status ran.read settings.frames ran.handed.taken))
@@ -247,13 +247,13 @@ frames_stand settings camera leader resends o n stream stream_after control cont
     (read_links ran.read settings.frames ran.handed.taken stream stream_after control control_after ran.ran.did_first.2))
 
 runs_stand : (settings : Settings) (camera : Address) (leader : FirstLeader) (resends : Bool) (o n : Outside) (stream stream_after control control_after : ℕ)
-    (app app_after written written_after : Option (List ℕ)) (faults faults_after : ℕ) (input left : Option (List ℕ)) (misses misses_after : ℕ) (answer : Status) (counts : ReceiveCounts) (h : List Entry)
-    → Runs settings camera leader resends o n stream stream_after control control_after app app_after written written_after faults faults_after input left misses misses_after answer counts h
-    → StandsBy (rank answer) stream stream_after control control_after faults faults_after
-runs_stand settings camera leader resends o n stream stream_after control control_after app app_after written written_after faults faults_after input left misses misses_after answer counts h (inl ran) =
-    frames_stand settings camera leader resends o n stream stream_after control control_after app app_after written written_after faults faults_after input left misses misses_after answer counts h ran
-runs_stand settings camera leader resends o n stream stream_after control control_after app app_after written written_after faults faults_after input left misses misses_after answer counts h (inr none) =
-    subst (λ (s : Status). StandsBy (rank s) stream stream_after control control_after faults faults_after) (sym none.wanted) (record {
+    (app app_after written written_after : Option (List ℕ)) (faults faults_after : ℕ) (input left : Option (List ℕ)) (misses misses_after : ℕ) (end : StreamEnd) (counts : ReceiveCounts) (h : List Entry)
+    → Runs settings camera leader resends o n stream stream_after control control_after app app_after written written_after faults faults_after input left misses misses_after end counts h
+    → StandsBy (rank end.status) stream stream_after control control_after faults faults_after
+runs_stand settings camera leader resends o n stream stream_after control control_after app app_after written written_after faults faults_after input left misses misses_after end counts h (inl ran) =
+    frames_stand settings camera leader resends o n stream stream_after control control_after app app_after written written_after faults faults_after input left misses misses_after end counts h ran
+runs_stand settings camera leader resends o n stream stream_after control control_after app app_after written written_after faults faults_after input left misses misses_after end counts h (inr none) =
+    subst (λ (e : StreamEnd). StandsBy (rank e.status) stream stream_after control control_after faults faults_after) (sym none.wanted) (record {
       few = omega arith;
       stream_steady = λ _. none.stream_same;
       control_steady = λ _. none.control_same;
@@ -291,23 +291,23 @@ stands_behind r stream stream_mid stream_after control control_mid control_after
     (subst (λ (k : ℕ). StandsBy r stream_mid stream_after control_mid control_after k faults_after) c stands))
 
 streams_stand : (settings : Settings) (camera : Address) (taken : Taken) (o n : WaitSide) (stream stream_after control control_after : ℕ)
-    (app app_after written written_after : Option (List ℕ)) (faults faults_after : ℕ) (left : Option (List ℕ)) (h : List Entry) (answer : Status) (counts : ReceiveCounts)
-    → Streams settings camera taken o n stream stream_after control control_after app app_after written written_after faults faults_after left h answer counts
-    → StandsBy (rank answer) stream stream_after control control_after faults faults_after
-streams_stand settings camera taken o n stream stream_after control control_after app app_after written written_after faults faults_after left h answer counts
-    (unled found why awaits is input fails app_same unwritten no_fault none answer_is counts_are) =
-    subst (λ (s : Status). StandsBy (rank s) stream stream_after control control_after faults faults_after) (sym answer_is)
+    (app app_after written written_after : Option (List ℕ)) (faults faults_after : ℕ) (left : Option (List ℕ)) (h : List Entry) (end : StreamEnd) (counts : ReceiveCounts)
+    → Streams settings camera taken o n stream stream_after control control_after app app_after written written_after faults faults_after left h end counts
+    → StandsBy (rank end.status) stream stream_after control control_after faults faults_after
+streams_stand settings camera taken o n stream stream_after control control_after app app_after written written_after faults faults_after left h end counts
+    (unled found why awaits is input fails app_same unwritten no_fault none end_is counts_are) =
+    subst (λ (e : StreamEnd). StandsBy (rank e.status) stream stream_after control control_after faults faults_after) (sym end_is)
     (stands_so (rank (leader_status why)) stream stream_after control control_after faults faults_after (leader_links found why stream stream_after control control_after is fails) no_fault)
-streams_stand settings camera taken o n stream stream_after control control_after app app_after written written_after faults faults_after left h answer counts
-    (undrawn found leader why awaits is fails missing app_same unwritten no_fault none answer_is counts_are) =
+streams_stand settings camera taken o n stream stream_after control control_after app app_after written written_after faults faults_after left h end counts
+    (undrawn found leader why awaits is fails missing app_same unwritten no_fault none end_is counts_are) =
     let same = leader_none found leader stream stream_after control control_after is fails in
-    subst (λ (s : Status). StandsBy (rank s) stream stream_after control control_after faults faults_after) (sym answer_is)
+    subst (λ (e : StreamEnd). StandsBy (rank e.status) stream stream_after control control_after faults faults_after) (sym end_is)
     (stands_so 3 stream stream_after control control_after faults faults_after (links_same 3 stream stream_after control control_after (omega arith) (omega arith) same.0 same.1) no_fault)
-streams_stand settings camera taken o n stream stream_after control control_after app app_after written written_after faults faults_after left h answer counts
+streams_stand settings camera taken o n stream stream_after control control_after app app_after written written_after faults faults_after left h end counts
     (streamed found leader m stream_mid control_mid faults_mid written_mid input misses misses_after awaits is fails written_same faults_same drawn runs) =
     let same = leader_none found leader stream stream_mid control control_mid is fails in
-    stands_behind (rank answer) stream stream_mid stream_after control control_mid control_after faults faults_mid faults_after same.0 same.1 faults_same
-    (runs_stand settings camera leader taken.resends _ _ stream_mid stream_after control_mid control_after _ _ _ _ faults_mid faults_after _ _ _ _ answer _ _ runs.runs)
+    stands_behind (rank end.status) stream stream_mid stream_after control control_mid control_after faults faults_mid faults_after same.0 same.1 faults_same
+    (runs_stand settings camera leader taken.resends _ _ stream_mid stream_after control_mid control_after _ _ _ _ faults_mid faults_after _ _ _ _ end _ _ runs)
 
 -- ---- the camera
 
@@ -374,16 +374,16 @@ leaves_stand false settings camera heartbeat frames first answer o n stream stre
     (stands_then (rank (weightier first (leave_status leaves.0 frames))) (rank first) (rank (leave_status leaves.0 frames)) stream stream_after control control_mid control_after faults faults_after
     (heavier first (leave_status leaves.0 frames)) part (leave_by leaves.0 frames control_mid control_after leaves.1.1))
 
-held_stand : (held : Bool) (settings : Settings) (camera : Address) (first answer : Status) (o n : ControlSide)
+held_stand : (held : Bool) (settings : Settings) (camera : Address) (cause : ControlEnd) (answer : Status) (o n : ControlSide)
     (stream stream_after control control_mid control_after faults faults_after : ℕ)
-    → StandsBy (rank first) stream stream_after control control_mid faults faults_after
-    → LeavesHeld held settings camera first o n control_mid control_after answer
+    → StandsBy (rank (control_status cause 0)) stream stream_after control control_mid faults faults_after
+    → LeavesHeld held settings camera cause o n control_mid control_after answer
     → StandsBy (rank answer) stream stream_after control control_after faults faults_after
-held_stand false settings camera first answer o n stream stream_after control control_mid control_after faults faults_after part leaves =
+held_stand false settings camera cause answer o n stream stream_after control control_mid control_after faults faults_after part leaves =
     subst (λ (s : Status). StandsBy (rank s) stream stream_after control control_after faults faults_after) (sym leaves.2)
-    (subst (λ (k : ℕ). StandsBy (rank first) stream stream_after control k faults faults_after) (sym leaves.1) part)
-held_stand true settings camera first answer o n stream stream_after control control_mid control_after faults faults_after part leaves =
-    leaves_stand (is_lost first) settings camera false 0 first answer o n stream stream_after control control_mid control_after faults faults_after part leaves
+    (subst (λ (k : ℕ). StandsBy (rank (control_status cause 0)) stream stream_after control k faults faults_after) (sym leaves.1) part)
+held_stand true settings camera cause answer o n stream stream_after control control_mid control_after faults faults_after part leaves =
+    leaves_stand (is_lost cause) settings camera false 0 (control_status cause 0) answer o n stream stream_after control control_mid control_after faults faults_after part leaves
 
 not_taken : (found : Result Taken NotTaken) (fault : NotTaken) (stream stream_after control control_after faults faults_after : ℕ) → found ≡ Err fault → TakeFails found control control_after
     → stream_after ≡ stream → faults_after ≡ faults → StandsBy (rank (control_status fault.end 0)) stream stream_after control control_after faults faults_after
@@ -404,11 +404,11 @@ meets_stand : (settings : Settings) (camera own : Address) (o n : WaitSide) (str
     → Meets settings camera own o n stream stream_after control control_after app app_after written written_after faults faults_after left h answer counts
     → StandsBy (rank answer) stream stream_after control control_after faults faults_after
 meets_stand settings camera own o n stream stream_after control control_after app app_after written written_after faults faults_after left h answer counts (inl x) =
-    held_stand x.fault.held settings camera (control_status x.fault.end 0) answer x.m _ stream stream_after control x.control_mid control_after faults faults_after
+    held_stand x.fault.held settings camera x.fault.end answer x.m _ stream stream_after control x.control_mid control_after faults faults_after
     (not_taken x.found x.fault stream stream_after control x.control_mid faults faults_after x.is x.take_fails x.stream_same x.no_fault) x.leaves
 meets_stand settings camera own o n stream stream_after control control_after app app_after written written_after faults faults_after left h answer counts (inr x) =
-    leaves_stand (is_lost x.first) settings camera true counts.taken x.first answer _ _ stream stream_after control x.control_p control_after faults faults_after
-    (subst (λ (k : ℕ). StandsBy (rank x.first) stream stream_after k x.control_p faults faults_after)
+    leaves_stand x.first.lost settings camera true counts.taken x.first.status answer _ _ stream stream_after control x.control_p control_after faults faults_after
+    (subst (λ (k : ℕ). StandsBy (rank x.first.status) stream stream_after k x.control_p faults faults_after)
     (subst (λ (f : Result Taken NotTaken). TakeFails f control x.control_m) x.is x.take_fails)
     (streams_stand settings camera x.taken x.m x.p stream stream_after x.control_m x.control_p app app_after written written_after faults faults_after left h x.first counts x.streams))
     x.leaves

@@ -48,7 +48,7 @@ leave_status (Err cause) frames = control_status cause frames
 
 -- ---- which goes before which
 
--- The order: a link that failed, memory that was wanting, a write that failed, a look without a picture, control that was
+-- The order: a link that failed, memory that was wanting, a write that failed, images without a picture, control that was
 -- lost, a command without answer, one that was refused, a camera that another controls, a silent one, and the run that was
 -- done. No run ends by another answer.
 abbrev pub rank : Status → ℕ
@@ -68,10 +68,50 @@ rank _ = 10
 abbrev pub weightier : Status → Status → Status
 weightier first later = if nat_lt (rank later) (rank first) then later else first
 
+-- ---- lost control
+
 -- the camera let its controller go
-abbrev pub is_lost : Status → Bool
-is_lost (status.ControlLost frames) = true
-is_lost _ = false
+abbrev pub is_lost : ControlEnd → Bool
+is_lost causes.LinkFault = false
+is_lost (causes.NoAnswer req) = false
+is_lost (causes.RefusedAt register code) = false
+is_lost causes.Controlled = false
+is_lost causes.ControlLost = true
+
+-- a heartbeat told so while the first leader was waited for
+abbrev pub is_leader_lost : NoLeader → Bool
+is_leader_lost waits.Silent = false
+is_leader_lost waits.InputEnded = false
+is_leader_lost (waits.Ended cause) = is_lost cause
+
+-- a heartbeat told so while the reader ran
+abbrev pub is_reader_lost : ReaderEnd → Bool
+is_reader_lost reads.Stopped = false
+is_reader_lost reads.Silent = false
+is_reader_lost (reads.Ended cause) = is_lost cause
+
+-- How the receiving of a stream ended: the answer with that, and whether the camera let its controller go. The answer alone
+-- doesn't tell it: a write that failed, or memory that was wanting, goes before lost control.
+pub record StreamEnd : Type 0 where
+  pub status : Status
+  pub lost : Bool
+
+abbrev pub stream_end : Status → Bool → StreamEnd
+stream_end answer lost = record { status = answer; lost = lost }
+
+-- no leader came
+abbrev pub unled_end : NoLeader → StreamEnd
+unled_end why = stream_end (leader_status why) (is_leader_lost why)
+
+-- a leader came, and no reader ran
+abbrev pub unread_end : Status → StreamEnd
+unread_end answer = stream_end answer false
+
+-- application and reader ended so, of so many frames that were asked for and so many that were handed out
+abbrev pub frames_end : HandedEnd → ReaderEnd → ℕ → ℕ → StreamEnd
+frames_end handed read frames taken = stream_end (weightier (handed_status handed) (reader_status read frames taken)) (is_reader_lost read)
+
+-- ---- the last line
 
 -- the last line is written with this answer
 abbrev pub is_told : Status → Bool

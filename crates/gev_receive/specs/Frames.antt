@@ -42,16 +42,15 @@ use Rattle.frame_writing.specs.declared.handed_out.HandedOut.{HandedOut}
 use Rattle.frame_writing.specs.Texts.{complete_in}
 use Rattle.frame_writing.specs.HandsOut.{EndsBy}
 use Rattle.frame_writing.specs.Work.{has_enough}
-use Rattle.gev_status.specs.declared.status.Status.{Status}
 use Rattle.gev_status.specs.declared.status.Status.TheVariants as status
 use Rattle.packet_requests.specs.declared.id_mode.IdMode.{IdMode}
 use Rattle.receive_lines.specs.declared.receive_counts.ReceiveCounts.{ReceiveCounts}
-use Rattle.gev_receive.specs.Answers.{reader_status, handed_status, weightier}
+use Rattle.gev_receive.specs.Answers.{StreamEnd, unread_end, frames_end}
 use Rattle.gev_receive.specs.Starting.{config_of, mode_of, buffer_size, leader_counts, with_counts}
 use Rattle.buffer_words.specs.Passes.{Token, own}
 use Rattle.buffer_words.specs.Workers.{Works}
 use Rattle.board_machine.specs.Actors.{born}
-use Rattle.live_crew.specs.Prepared.{SawOnly}
+use Rattle.live_crew.specs.Prepared.{FallsShort, SawOnly}
 use Rattle.live_crew.specs.Crews.{RanTwo}
 use Rattle.gev_acq.specs.Kinds.{is_readers}
 use Rattle.gev_apply.specs.Kinds.{is_applications}
@@ -148,11 +147,10 @@ RanBoth settings camera leader resends o n stream stream_after control control_a
     × Works is_applications given back × Drops input left × (misses_after ≡ misses))
     s u
 
--- Reader and application ran on a board with so many buffers of one size, and that was the answer so far, and these the
--- numbers.
+-- Reader and application ran on a board with so many buffers of one size, and ended so, with these numbers.
 pub record RanFrames (settings : Settings) (camera : Address) (leader : FirstLeader) (resends : Bool) (o n : Outside) (stream stream_after control control_after : ℕ)
     (app app_after : Option (List ℕ)) (written written_after : Option (List ℕ)) (faults faults_after : ℕ) (input left : Option (List ℕ)) (misses misses_after : ℕ)
-    (answer : Status) (counts : ReceiveCounts) (h : List Entry) : Type 0 where
+    (end : StreamEnd) (counts : ReceiveCounts) (h : List Entry) : Type 0 where
   pub begin : Token
   pub last : Token
   pub prepared : SawOnly (Prepares (buffer_size settings leader) settings.buffers) begin
@@ -163,13 +161,18 @@ pub record RanFrames (settings : Settings) (camera : Address) (leader : FirstLea
   pub counted : Counts
   pub ran : RanBoth settings camera leader resends o n stream stream_after control control_after counted read app app_after handed written written_after faults faults_after input left misses misses_after begin last
   pub saw : h ≡ last.seen
-  pub answered : answer ≡ weightier (handed_status handed.end) (reader_status read settings.frames handed.taken)
+  pub ended : end ≡ frames_end handed.end read settings.frames handed.taken
   pub counts_are : counts ≡ with_counts (leader_counts settings leader) handed.taken handed.complete counted
 
--- Memory or a thread was wanting before they ran: nothing was received, sent or written.
+-- Memory or a thread was wanting before they ran: fewer buffers than were asked for were prepared, and nothing was received,
+-- sent or written.
 pub record NeverRan (settings : Settings) (leader : FirstLeader) (o n : Outside) (stream stream_after control control_after : ℕ) (app app_after : Option (List ℕ))
-    (written written_after : Option (List ℕ)) (faults faults_after : ℕ) (input left : Option (List ℕ)) (misses misses_after : ℕ) (answer : Status) (counts : ReceiveCounts) : Type 0 where
-  pub wanted : answer ≡ status.NoMemory
+    (written written_after : Option (List ℕ)) (faults faults_after : ℕ) (input left : Option (List ℕ)) (misses misses_after : ℕ) (end : StreamEnd) (counts : ReceiveCounts) (h : List Entry) : Type 0 where
+  pub wanted : end ≡ unread_end status.NoMemory
+  pub events : List Event
+  pub short : FallsShort (buffer_size settings leader) settings.buffers events
+  pub seen : h ≡ entries_of 0 events
+  pub run : Run h
   pub untold : n ≡ o
   pub stream_same : stream_after ≡ stream
   pub control_same : control_after ≡ control
@@ -186,15 +189,7 @@ seen_by None = []
 seen_by (Some pass) = pass.seen
 
 abbrev pub Runs : Settings → Address → FirstLeader → Bool → Outside → Outside → ℕ → ℕ → ℕ → ℕ → Option (List ℕ) → Option (List ℕ) → Option (List ℕ) → Option (List ℕ)
-    → ℕ → ℕ → Option (List ℕ) → Option (List ℕ) → ℕ → ℕ → Status → ReceiveCounts → List Entry → Type 0
-Runs settings camera leader resends o n stream stream_after control control_after app app_after written written_after faults faults_after input left misses misses_after answer counts h =
-    RanFrames settings camera leader resends o n stream stream_after control control_after app app_after written written_after faults faults_after input left misses misses_after answer counts h
-    ⊎ NeverRan settings leader o n stream stream_after control control_after app app_after written written_after faults faults_after input left misses misses_after answer counts
-
--- The same over a stream whose identifiers have this form.
-pub record RunsAs (form : IdMode) (settings : Settings) (camera : Address) (leader : FirstLeader) (resends : Bool) (o n : Outside)
-    (stream stream_after control control_after : ℕ) (app app_after : Option (List ℕ)) (written written_after : Option (List ℕ)) (faults faults_after : ℕ)
-    (input left : Option (List ℕ)) (misses misses_after : ℕ) (answer : Status) (counts : ReceiveCounts) (h : List Entry) : Type 0 where
-  pub form_is : leader.ids ≡ form
-  pub runs : Runs settings camera leader resends o n stream stream_after control control_after app app_after written written_after faults faults_after
-      input left misses misses_after answer counts h
+    → ℕ → ℕ → Option (List ℕ) → Option (List ℕ) → ℕ → ℕ → StreamEnd → ReceiveCounts → List Entry → Type 0
+Runs settings camera leader resends o n stream stream_after control control_after app app_after written written_after faults faults_after input left misses misses_after end counts h =
+    RanFrames settings camera leader resends o n stream stream_after control control_after app app_after written written_after faults faults_after input left misses misses_after end counts h
+    ⊎ NeverRan settings leader o n stream stream_after control control_after app app_after written written_after faults faults_after input left misses misses_after end counts h

@@ -25,11 +25,11 @@ use Rattle.frame_pictures.specs.declared.no_picture.NoPicture.{NoPicture}
 use Rattle.gev_status.specs.declared.status.Status.{Status}
 use Rattle.gev_status.specs.declared.status.Status.TheVariants as status
 use Rattle.receive_lines.specs.declared.receive_counts.ReceiveCounts.{ReceiveCounts}
-use Rattle.gev_receive.specs.Answers.{control_status, leader_status, leave_status, weightier, is_lost}
+use Rattle.gev_receive.specs.Answers.{control_status, leave_status, weightier, is_lost, StreamEnd, unled_end, unread_end}
 use Rattle.gev_receive.specs.Starting.{writes_at, lacks_picture, no_counts, leader_counts}
 use Rattle.gev_receive.specs.Ending.{Finishes}
 use Rattle.gev_receive.specs.Bound.{control_peer, AllTold, FailsToBind}
-use Rattle.gev_receive.specs.Frames.{RunsAs}
+use Rattle.gev_receive.specs.Frames.{Runs}
 
 -- ---- what is told
 
@@ -79,7 +79,7 @@ wish_of settings own = record { receiver = own; packet_size = settings.packet }
 abbrev pub patience_of : Settings → Taken → Patience
 patience_of settings taken = record { packet_size = taken.packet_size; silence = settings.silence; until_input = settings.until_input_ends }
 
--- with pictures a look that has none ends the run
+-- with pictures images that have none end the run
 abbrev pub picture_missing : Output → FirstLeader → Option NoPicture
 picture_missing Lines leader = None
 picture_missing Pictures leader = lacks_picture leader.info
@@ -89,38 +89,38 @@ abbrev pub outside_of : WaitSide → Outside
 outside_of s = record { received = s.received; heard = s.heard; sent = s.sent; told = s.told; client = s.client }
 
 -- Behind the taking of the camera: no leader came; or images have no picture that are asked for; or the frames were received
--- as far as memory was there. The answer so far, and the numbers.
+-- as far as memory was there. How that ended, and the numbers.
 pub data Streams (settings : Settings) (camera : Address) (taken : Taken) (o n : WaitSide) (stream stream_after control control_after : ℕ)
-    (app app_after written written_after : Option (List ℕ)) (faults faults_after : ℕ) (left : Option (List ℕ)) (h : List Entry) (answer : Status)
+    (app app_after written written_after : Option (List ℕ)) (faults faults_after : ℕ) (left : Option (List ℕ)) (h : List Entry) (end : StreamEnd)
     (counts : ReceiveCounts) : Type 0 where
   unled : (found : Result FirstLeader NoLeader) (why : NoLeader) → AwaitsLeader camera (patience_of settings taken) o n found → found ≡ Err why → InputOf found left
       → FaultsOf (is_fault found) stream stream_after control control_after → app_after ≡ app → written_after ≡ written → faults_after ≡ faults → h ≡ []
-      → answer ≡ leader_status why → counts ≡ no_counts settings.frames
-      → Streams settings camera taken o n stream stream_after control control_after app app_after written written_after faults faults_after left h answer counts
+      → end ≡ unled_end why → counts ≡ no_counts settings.frames
+      → Streams settings camera taken o n stream stream_after control control_after app app_after written written_after faults faults_after left h end counts
   undrawn : (found : Result FirstLeader NoLeader) (leader : FirstLeader) (why : NoPicture) → AwaitsLeader camera (patience_of settings taken) o n found → found ≡ Ok leader
       → FaultsOf (is_fault found) stream stream_after control control_after → picture_missing settings.output leader ≡ Some why
-      → app_after ≡ app → written_after ≡ written → faults_after ≡ faults → h ≡ [] → answer ≡ status.NoPicture why → counts ≡ leader_counts settings leader
-      → Streams settings camera taken o n stream stream_after control control_after app app_after written written_after faults faults_after left h answer counts
+      → app_after ≡ app → written_after ≡ written → faults_after ≡ faults → h ≡ [] → end ≡ unread_end (status.NoPicture why) → counts ≡ leader_counts settings leader
+      → Streams settings camera taken o n stream stream_after control control_after app app_after written written_after faults faults_after left h end counts
   streamed : (found : Result FirstLeader NoLeader) (leader : FirstLeader) (m : WaitSide) (stream_mid control_mid faults_mid : ℕ) (written_mid input : Option (List ℕ)) (misses misses_after : ℕ)
       → AwaitsLeader camera (patience_of settings taken) o m found → found ≡ Ok leader → FaultsOf (is_fault found) stream stream_mid control control_mid
       → written_mid ≡ written → faults_mid ≡ faults → picture_missing settings.output leader ≡ None
-      → RunsAs leader.ids settings camera leader taken.resends (outside_of m) (outside_of n) stream_mid stream_after control_mid control_after app app_after
-      written_mid written_after faults_mid faults_after input left misses misses_after answer counts h
-      → Streams settings camera taken o n stream stream_after control control_after app app_after written written_after faults faults_after left h answer counts
+      → Runs settings camera leader taken.resends (outside_of m) (outside_of n) stream_mid stream_after control_mid control_after app app_after
+      written_mid written_after faults_mid faults_after input left misses misses_after end counts h
+      → Streams settings camera taken o n stream stream_after control control_after app app_after written written_after faults faults_after left h end counts
 
--- The camera was let go, but where it had let its controller go: the answer with that, and the control link's count of
--- faults.
+-- The camera was let go, but where it had let its controller go, whatever the answer: the answer with that, and the control
+-- link's count of faults.
 abbrev pub LeavesUnless : Bool → Settings → Address → Bool → ℕ → Status → ControlSide → ControlSide → ℕ → ℕ → Status → Type 0
 LeavesUnless true settings camera heartbeat frames first o n faults faults_after answer = (n ≡ o) × (faults_after ≡ faults) × (answer ≡ first)
 LeavesUnless false settings camera heartbeat frames first o n faults faults_after answer =
     (result : Result (Unit {0}) ControlEnd) × (Leaves camera heartbeat (writes_at Stop settings.writes.items) o n result
     × FailsAs result faults faults_after × (answer ≡ weightier first (leave_status result frames)))
 
--- the camera that wasn't taken was let go where it was held
-abbrev pub LeavesHeld : Bool → Settings → Address → Status → ControlSide → ControlSide → ℕ → ℕ → Status → Type 0
-LeavesHeld false settings camera first o n faults faults_after answer = (n ≡ o) × (faults_after ≡ faults) × (answer ≡ first)
-LeavesHeld true settings camera first o n faults faults_after answer =
-    LeavesUnless (is_lost first) settings camera false 0 first o n faults faults_after answer
+-- The camera that wasn't taken, since control ended so, was let go where it was held.
+abbrev pub LeavesHeld : Bool → Settings → Address → ControlEnd → ControlSide → ControlSide → ℕ → ℕ → Status → Type 0
+LeavesHeld false settings camera cause o n faults faults_after answer = (n ≡ o) × (faults_after ≡ faults) × (answer ≡ control_status cause 0)
+LeavesHeld true settings camera cause o n faults faults_after answer =
+    LeavesUnless (is_lost cause) settings camera false 0 (control_status cause 0) o n faults faults_after answer
 
 -- the camera was taken, or that failed, by what the words ask for
 abbrev pub TakesBy : Settings → Address → Address → ControlSide → ControlSide → Result Taken NotTaken → Type 0
@@ -138,7 +138,7 @@ pub record MeetsNot (settings : Settings) (camera own : Address) (o n : WaitSide
   pub control_mid : ℕ
   pub takes : TakesBy settings camera own (control_part o) m found
   pub take_fails : TakeFails found control control_mid
-  pub leaves : LeavesHeld fault.held settings camera (control_status fault.end 0) m (control_part n) control_mid control_after answer
+  pub leaves : LeavesHeld fault.held settings camera fault.end m (control_part n) control_mid control_after answer
   pub unreceived : n.received ≡ o.received
   pub stream_same : stream_after ≡ stream
   pub app_same : app_after ≡ app
@@ -162,9 +162,10 @@ pub record MeetsAndStreams (settings : Settings) (camera own : Address) (o n : W
   pub takes : TakesBy settings camera own (control_part o) (control_part m) found
   pub take_fails : TakeFails found control control_m
   pub unreceived : m.received ≡ o.received
-  pub first : Status
+  -- how the stream's receiving ended
+  pub first : StreamEnd
   pub streams : Streams settings camera taken m p stream stream_after control_m control_p app app_after written written_after faults faults_after left h first counts
-  pub leaves : LeavesUnless (is_lost first) settings camera true counts.taken first (control_part p) (control_part n) control_p control_after answer
+  pub leaves : LeavesUnless first.lost settings camera true counts.taken first.status (control_part p) (control_part n) control_p control_after answer
   pub received_no_more : n.received ≡ p.received
 
 abbrev pub Meets : Settings → Address → Address → WaitSide → WaitSide → ℕ → ℕ → ℕ → ℕ → Option (List ℕ) → Option (List ℕ) → Option (List ℕ) → Option (List ℕ) → ℕ → ℕ

@@ -1,5 +1,5 @@
 -- What a stream is received with, by the words and its first leader, and the numbers of the last line.
-use Rattle.std.specs.Prelude.{◌≡◌, ℕ, ◌==◌, ◌||◌, min, max, Bool, true, false, if◌then◌else◌, List, [], ◌∷◌, Option, Some, None}
+use Rattle.std.specs.Prelude.{ℕ, ◌==◌, ◌||◌, min, max, Bool, if◌then◌else◌, List, [], ◌∷◌, Option, Some, None}
 use Rattle.gev_types.specs.Limits.{min_payload_size, max_received_payload_size, max_buffer_size}
 use Rattle.acquisition_machine.specs.declared.config.AcqConfig.{AcqConfig}
 use Rattle.acquisition_machine.specs.declared.counts.Counts.{Counts}
@@ -82,7 +82,7 @@ lacks_samples None info = Some (PixelFormat info.pixel)
 lacks_samples (Some samples) info =
     if (info.size_x == 0) || (info.size_y == 0) then Some NoPixels else if fills_bytes samples info.size_x then None else Some PartBytes
 
--- why images of this look have no picture, if they have none
+-- why images of this kind have no picture, if they have none
 abbrev pub lacks_picture : LeaderInfo → Option NoPicture
 lacks_picture info = lacks_samples (samples_of info.pixel) info
 

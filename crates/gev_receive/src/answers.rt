@@ -1,7 +1,7 @@
 //! How a run ends, of several causes.
 
 ghost use Rattle.std.specs.Prelude.{◌≡◌};
-ghost use Rattle.gev_receive.specs.Answers.{control_status, leader_status, reader_status, handed_status, leave_status, rank, weightier, is_lost, is_told};
+ghost use Rattle.gev_receive.specs.Answers.{control_status, leader_status, reader_status, handed_status, leave_status, rank, weightier, is_lost, is_leader_lost, is_reader_lost, is_told};
 
 use camera_control::ControlEnd;
 use camera_reader::ReaderEnd;
@@ -111,28 +111,37 @@ pub(crate) fn weightier(first: Status, later: Status) -> Status
 }
 
 /// Whether the camera let its controller go.
-pub(crate) fn is_lost(status: Status) -> bool
-    ensures { result ≡ is_lost status }
+pub(crate) fn is_lost(cause: ControlEnd) -> bool
+    ensures { result ≡ is_lost cause }
 {
-    match status {
-        Status::Done => false,
-        Status::Usage { .. } => false,
-        Status::BadScript { .. } => false,
-        Status::ReadFault => false,
-        Status::WriteFault => false,
-        Status::LinkFault => false,
-        Status::NoMemory => false,
-        Status::NoAnswer { .. } => false,
-        Status::Refused { .. } => false,
-        Status::TurnsSpent { .. } => false,
-        Status::BadCapture { .. } => false,
-        Status::NoPicture { .. } => false,
-        Status::Silent { .. } => false,
-        Status::Controlled => false,
-        Status::NoDescription => false,
-        Status::ControlLost { .. } => true,
-        Status::NoDatagram { .. } => false,
-        Status::RefusedAt { .. } => false,
+    match cause {
+        ControlEnd::LinkFault => false,
+        ControlEnd::NoAnswer(_) => false,
+        ControlEnd::RefusedAt { .. } => false,
+        ControlEnd::Controlled => false,
+        ControlEnd::ControlLost => true,
+    }
+}
+
+/// Whether it did so while the first leader was waited for.
+pub(crate) fn is_leader_lost(why: NoLeader) -> bool
+    ensures { result ≡ is_leader_lost why }
+{
+    match why {
+        NoLeader::Silent => false,
+        NoLeader::InputEnded => false,
+        NoLeader::Ended(cause) => is_lost(cause),
+    }
+}
+
+/// Whether it did so while the reader ran.
+pub(crate) fn is_reader_lost(end: ReaderEnd) -> bool
+    ensures { result ≡ is_reader_lost end }
+{
+    match end {
+        ReaderEnd::Stopped => false,
+        ReaderEnd::Silent => false,
+        ReaderEnd::Ended(cause) => is_lost(cause),
     }
 }
 

@@ -15,12 +15,12 @@ ghost use Rattle.camera_reader.specs.Reading.{is_fault};
 ghost use Rattle.frame_writing.specs.Work.{HandsOutAndStops};
 ghost use Rattle.gev_receive.specs.Reader.{ReadsFrames};
 
-use crate::host::Host;
 use crate::reading::{ReadDone, read_frames};
 use acq_core::Acq;
 use buffer_words::{Board, Pass};
 use camera_reader::ReaderWords;
 use frame_writing::{FramesDone, Outlet, work_frames};
+use gev_acq::Host;
 use gev_links::{Clock, Gate, Link, Sink, Source};
 use live_crew::{Worked, run_two};
 use std::alloc::Global;

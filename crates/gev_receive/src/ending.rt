@@ -1,6 +1,6 @@
 //! The last line of a run.
 
-ghost use Rattle.std.specs.Prelude.{◌≡◌, true};
+ghost use Rattle.std.specs.Prelude.{◌≡◌};
 ghost use Rattle.receive_lines.specs.ReceiveLine.{receive_line};
 ghost use Rattle.gev_receive.specs.Ending.{has_last, WritesLast, with_strangers, Finishes};
 
@@ -56,7 +56,11 @@ pub(crate) fn finish<K: Sink>(
 ) -> Status
     ensures { Finishes output ran.status result ran.counts strangers (K.written sink.old) (K.written sink.new) (K.faults sink.old) (K.faults sink.new) }
 {
-    let Ran { status, counts } = ran;
+    let Ran {
+        status,
+        counts,
+        lost: _,
+    } = ran;
     if !has_last(output, status) {
         return status;
     }

@@ -3,10 +3,10 @@
 ghost use Rattle.std.specs.Prelude.{◌≡◌};
 ghost use Rattle.first_leader.specs.Waiting.{AwaitsLeader, InputOf, FaultsOf, is_fault};
 
-use crate::host::Host;
 use crate::noticing::{Foreign, Noticing, foreign_line};
 use camera_words::Settings;
 use first_leader::{FirstLeader, NoLeader, Patience, await_leader};
+use gev_acq::Host;
 use gev_far::PeekLink;
 use gev_links::{Clock, Sink, Source};
 use gev_types::Peer;

@@ -6,15 +6,14 @@ mod answers; // how a run ends, of several causes
 mod crew; // reader and application as threads
 mod drops; // datagrams that the system dropped
 mod ending; // the last line
-mod forms; // the frames of a stream, by its identifiers
 mod frames; // the frames of a stream
-mod host; // what the host works with
 mod leading; // the first leader, waited for
 mod meeting; // the camera, taken and let go
 mod noticing; // the last datagram that is no packet
 mod ran; // how the part between went
 mod reading; // the reader's worker
 mod receiving; // a run over ports
+mod sides; // what host and application work with
 mod starting; // what a stream is received with
 mod threads; // whether a thread can be made
 mod tools; // what ports give and get back

@@ -1,30 +1,32 @@
 //! A camera that is taken, whose frames are received, and that is let go.
 
-ghost use Rattle.std.specs.Prelude.{◌≡◌, None, option_map, IfOk, IfSome};
+ghost use Rattle.std.specs.Prelude.{◌≡◌, None, option_map, IfSome};
 ghost use Rattle.board_machine.specs.Histories.{After};
 ghost use Rattle.board_machine.specs.Laws.{IsAlone};
 ghost use Rattle.buffer_words.specs.Boards.{board_id};
 ghost use Rattle.camera_control.specs.Taking.{TakeFails};
-ghost use Rattle.gev_receive.specs.Answers.{is_lost as lost, control_status as status_of};
+ghost use Rattle.gev_receive.specs.Answers.{is_lost as lost, control_status as status_of, stream_end};
 ghost use Rattle.gev_receive.specs.Frames.{seen_by};
+ghost use Rattle.gev_receive.specs.Starting.{no_counts as counts_none};
 ghost use Rattle.gev_receive.specs.Receives.{picture_missing as missing, TakesBy, LeavesUnless, LeavesHeld, Streams, Meets};
 ghost use Rattle.client_machine.specs.Machine.{IsIdle};
 ghost use Rattle.camera_words.specs.Receiving.{IsInRange};
 
-use crate::answers::{control_status, is_lost, leader_status, leave_status, weightier};
-use crate::forms::run_by_ids;
-use crate::frames::Asked;
-use crate::host::Host;
+use crate::answers::{
+    control_status, is_leader_lost, is_lost, leader_status, leave_status, weightier,
+};
+use crate::frames::{Asked, run_frames};
 use crate::leading::find_leader;
 use crate::ran::Ran;
+use crate::sides::Sides;
 use crate::starting::{lacks_picture, leader_counts, no_counts};
 use crate::writes::writes_at;
 use buffer_words::{Board, Pass};
-use camera_control::{NotTaken, StreamWish, Taken, let_go, take_camera};
+use camera_control::{ControlEnd, NotTaken, StreamWish, Taken, let_go, take_camera};
 use camera_words::{Output, Settings, Stage};
 use first_leader::FirstLeader;
 use frame_pictures::NoPicture;
-use frame_writing::Outlet;
+use gev_acq::Host;
 use gev_far::PeekLink;
 use gev_links::{Clock, Gate, Link, Sink, Source};
 use gev_status::Status;
@@ -42,6 +44,17 @@ pub(crate) struct Ways<'a> {
     pub(crate) camera: Peer,
     /// The stream's own address.
     pub(crate) own: Peer,
+}
+
+/// A camera that was taken.
+#[derive(Clone, Copy)]
+struct TakenCamera<'a> {
+    /// What the words ask for.
+    settings: &'a Settings,
+    /// The camera's control port.
+    camera: Peer,
+    /// What it told of its stream.
+    told: Taken,
 }
 
 // Why the images have no picture, where pictures are asked for.
@@ -67,40 +80,39 @@ fn run_behind_leader<
 >(
     rt: &R,
     alloc: Global,
-    ways: Ways<'_>,
-    taken: Taken,
-    host: Host<S, M, C>,
-    outlet: Outlet<C, C>,
+    taken: TakenCamera<'_>,
+    sides: Sides<S, M, C>,
     gate: &G,
     sink: &mut K,
     input: &mut I,
     kept: &mut Option<(Board, Pass)>,
-) -> (Ran, Host<S, M, C>, Outlet<C, C>)
-    requires within { IsInRange ways.settings.now }
-    requires frames { outlet.frames ≡ ways.settings.now.frames }
-    requires output { outlet.output ≡ ways.settings.now.output }
-    requires watch { outlet.watch.on ≡ ways.settings.now.until_input_ends }
+) -> (Ran, Sides<S, M, C>)
+    requires within { IsInRange taken.settings.now }
+    requires frames { sides.outlet.frames ≡ taken.settings.now.frames }
+    requires output { sides.outlet.output ≡ taken.settings.now.output }
+    requires watch { sides.outlet.watch.on ≡ taken.settings.now.until_input_ends }
     requires unkept { kept.old ≡ None }
     ensures alone { IfSome kept.new (λ k. IsAlone (After k.1.seen) 0) }
     ensures own { IfSome kept.new (λ k. k.1.table ≡ board_id k.0) }
-    ensures streams { Streams ways.entry.settings.now ways.entry.camera taken
-        (record { received = S.received host.stream; heard = M.received host.control; sent = M.sent host.control; told = C.told host.clock; client = host.client })
-        (record { received = S.received result.1.stream; heard = M.received result.1.control; sent = M.sent result.1.control; told = C.told result.1.clock; client = result.1.client })
-        (S.faults host.stream) (S.faults result.1.stream) (M.faults host.control) (M.faults result.1.control) (C.told outlet.clock) (C.told result.2.clock)
+    ensures streams { Streams taken.entry.settings.now taken.entry.camera taken.entry.told
+        (record { received = S.received sides.host.stream; heard = M.received sides.host.control; sent = M.sent sides.host.control; told = C.told sides.host.clock; client = sides.host.client })
+        (record { received = S.received result.1.host.stream; heard = M.received result.1.host.control; sent = M.sent result.1.host.control; told = C.told result.1.host.clock; client = result.1.host.client })
+        (S.faults sides.host.stream) (S.faults result.1.host.stream) (M.faults sides.host.control) (M.faults result.1.host.control) (C.told sides.outlet.clock) (C.told result.1.outlet.clock)
         (K.written sink.old) (K.written sink.new) (K.faults sink.old) (K.faults sink.new) (I.left input.new)
-        (seen_by (option_map (λ (k : _). k.1) kept.new)) result.0.status result.0.counts }
+        (seen_by (option_map (λ (k : _). k.1) kept.new)) (stream_end result.0.status result.0.lost) result.0.counts }
 {
-    let Ways {
+    let TakenCamera {
         settings,
         camera,
-        ..
-    } = ways;
+        told,
+    } = taken;
+    let Sides { host, outlet } = sides;
     let (host, found) = find_leader(
         rt,
         alloc,
         settings,
         camera,
-        taken.packet_size,
+        told.packet_size,
         host,
         sink,
         input,
@@ -110,25 +122,28 @@ fn run_behind_leader<
         Err(why) => {
             let ran = Ran {
                 status: leader_status(why),
+                lost: is_leader_lost(why),
                 counts: no_counts(settings.frames),
             };
-            return (ran, host, outlet);
+            return (ran, Sides { host, outlet });
         }
     };
     if let Some(why) = picture_missing(settings.output, leader) {
         let ran = Ran {
             status: Status::NoPicture { why },
+            lost: false,
             counts: leader_counts(settings, leader),
         };
-        return (ran, host, outlet);
+        return (ran, Sides { host, outlet });
     }
     let asked = Asked {
         settings,
         camera,
         leader,
-        resends: taken.resends,
+        resends: told.resends,
     };
-    run_by_ids(rt, alloc, asked, host, outlet, gate, sink, input, kept)
+    let sides = Sides { host, outlet };
+    run_frames(rt, alloc, asked, sides, gate, sink, input, kept)
 }
 
 // Takes the camera by what the words ask for.
@@ -162,23 +177,22 @@ fn take<R: Wait, S: Drop, M: PeekLink + Drop, C: Clock + Drop>(
     )
 }
 
-// Lets the camera go: the answer with that.
+// Lets the camera go, unless it let its controller go: the answer with that.
 fn leave<R: Wait, S: Drop, M: PeekLink + Drop, C: Clock + Drop>(
     rt: &R,
     ways: Ways<'_>,
     host: &mut Host<S, M, C>,
     heartbeat: bool,
-    first: Status,
-    frames: u32,
+    ran: Ran,
 ) -> Status
-    ensures leaves { LeavesUnless (lost first) ways.entry.settings.now ways.entry.camera heartbeat frames first
+    ensures leaves { LeavesUnless ran.lost ways.entry.settings.now ways.entry.camera heartbeat ran.counts.taken ran.status
         (record { heard = M.received host.old.control; sent = M.sent host.old.control; told = C.told host.old.clock; client = host.old.client })
         (record { heard = M.received host.new.control; sent = M.sent host.new.control; told = C.told host.new.clock; client = host.new.client })
         (M.faults host.old.control) (M.faults host.new.control) result }
     ensures stream { host.new.stream ≡ host.old.stream }
 {
-    if is_lost(first) {
-        return first;
+    if ran.lost {
+        return ran.status;
     }
     host.control.set_waiting(true);
     let stops = writes_at(Stage::Stop, ways.settings.writes.as_slice());
@@ -191,28 +205,42 @@ fn leave<R: Wait, S: Drop, M: PeekLink + Drop, C: Clock + Drop>(
         heartbeat,
         stops.as_slice(),
     );
-    weightier(first, leave_status(left, frames))
+    weightier(ran.status, leave_status(left, ran.counts.taken))
 }
 
-// Lets a camera that wasn't taken go, where it's held: the answer with that.
+// The run whose camera wasn't taken, since control ended so.
+fn ran_untaken(cause: ControlEnd, frames: u32) -> Ran
+    ensures status { result.status ≡ status_of cause 0 }
+    ensures lost { result.lost ≡ lost cause }
+    ensures counts { result.counts ≡ counts_none frames }
+{
+    Ran {
+        status: control_status(cause, 0),
+        lost: is_lost(cause),
+        counts: no_counts(frames),
+    }
+}
+
+// Lets a camera that wasn't taken go, where it's held: how the run went.
 fn leave_held<R: Wait, S: Drop, M: PeekLink + Drop, C: Clock + Drop>(
     rt: &R,
     ways: Ways<'_>,
     host: &mut Host<S, M, C>,
-    held: bool,
-    first: Status,
-) -> Status
-    ensures leaves { LeavesHeld held ways.entry.settings.now ways.entry.camera first
+    fault: NotTaken,
+) -> Ran
+    ensures leaves { LeavesHeld fault.held ways.entry.settings.now ways.entry.camera fault.end
         (record { heard = M.received host.old.control; sent = M.sent host.old.control; told = C.told host.old.clock; client = host.old.client })
         (record { heard = M.received host.new.control; sent = M.sent host.new.control; told = C.told host.new.clock; client = host.new.client })
-        (M.faults host.old.control) (M.faults host.new.control) result }
+        (M.faults host.old.control) (M.faults host.new.control) result.status }
+    ensures counts { result.counts ≡ counts_none ways.entry.settings.now.frames }
     ensures stream { host.new.stream ≡ host.old.stream }
 {
-    if held {
-        leave(rt, ways, host, false, first, 0)
-    } else {
-        first
+    let mut ran = ran_untaken(fault.end, ways.settings.frames);
+    if !fault.held {
+        return ran;
     }
+    ran.status = leave(rt, ways, host, false, ran);
+    ran
 }
 
 /// Takes the camera, receives its frames, and lets it go.
@@ -228,43 +256,43 @@ pub(crate) fn meet_camera<
     rt: &R,
     alloc: Global,
     ways: Ways<'_>,
-    mut host: Host<S, M, C>,
-    outlet: Outlet<C, C>,
+    mut sides: Sides<S, M, C>,
     gate: &G,
     sink: &mut K,
     input: &mut I,
     kept: &mut Option<(Board, Pass)>,
-) -> (Ran, Host<S, M, C>, Outlet<C, C>)
+) -> (Ran, Sides<S, M, C>)
     requires within { IsInRange ways.settings.now }
-    requires frames { outlet.frames ≡ ways.settings.now.frames }
-    requires output { outlet.output ≡ ways.settings.now.output }
-    requires watch { outlet.watch.on ≡ ways.settings.now.until_input_ends }
-    requires idle { IsIdle host.client }
+    requires frames { sides.outlet.frames ≡ ways.settings.now.frames }
+    requires output { sides.outlet.output ≡ ways.settings.now.output }
+    requires watch { sides.outlet.watch.on ≡ ways.settings.now.until_input_ends }
+    requires idle { IsIdle sides.host.client }
     requires unkept { kept.old ≡ None }
     ensures alone { IfSome kept.new (λ k. IsAlone (After k.1.seen) 0) }
     ensures own { IfSome kept.new (λ k. k.1.table ≡ board_id k.0) }
     ensures meets { Meets ways.entry.settings.now ways.entry.camera ways.entry.own
-        (record { received = S.received host.stream; heard = M.received host.control; sent = M.sent host.control; told = C.told host.clock; client = host.client })
-        (record { received = S.received result.1.stream; heard = M.received result.1.control; sent = M.sent result.1.control; told = C.told result.1.clock; client = result.1.client })
-        (S.faults host.stream) (S.faults result.1.stream) (M.faults host.control) (M.faults result.1.control) (C.told outlet.clock) (C.told result.2.clock)
+        (record { received = S.received sides.host.stream; heard = M.received sides.host.control; sent = M.sent sides.host.control; told = C.told sides.host.clock; client = sides.host.client })
+        (record { received = S.received result.1.host.stream; heard = M.received result.1.host.control; sent = M.sent result.1.host.control; told = C.told result.1.host.clock; client = result.1.host.client })
+        (S.faults sides.host.stream) (S.faults result.1.host.stream) (M.faults sides.host.control) (M.faults result.1.host.control) (C.told sides.outlet.clock) (C.told result.1.outlet.clock)
         (K.written sink.old) (K.written sink.new) (K.faults sink.old) (K.faults sink.new) (I.left input.new)
         (seen_by (option_map (λ (k : _). k.1) kept.new)) result.0.status result.0.counts }
 {
-    match take(rt, ways, &mut host) {
-        Ok(taken) => {
-            let (mut ran, mut host, outlet) = run_behind_leader(
-                rt, alloc, ways, taken, host, outlet, gate, sink, input, kept,
-            );
-            ran.status = leave(rt, ways, &mut host, true, ran.status, ran.counts.taken);
-            (ran, host, outlet)
-        }
-        Err(NotTaken { end, held }) => {
-            let status = leave_held(rt, ways, &mut host, held, control_status(end, 0));
-            let ran = Ran {
-                status,
-                counts: no_counts(ways.settings.frames),
+    match take(rt, ways, &mut sides.host) {
+        Ok(told) => {
+            let taken = TakenCamera {
+                settings: ways.settings,
+                camera: ways.camera,
+                told,
             };
-            (ran, host, outlet)
+            let (mut ran, mut sides) = run_behind_leader(
+                rt, alloc, taken, sides, gate, sink, input, kept,
+            );
+            ran.status = leave(rt, ways, &mut sides.host, true, ran);
+            (ran, sides)
+        }
+        Err(fault) => {
+            let ran = leave_held(rt, ways, &mut sides.host, fault);
+            (ran, sides)
         }
     }
 }

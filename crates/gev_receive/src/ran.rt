@@ -1,11 +1,13 @@
 use gev_status::Status;
 use receive_lines::ReceiveCounts;
 
-/// How a run went between the taking of the camera and its stop.
+/// How a run went so far.
 #[derive(Clone, Copy)]
 pub(crate) struct Ran {
     /// The answer so far.
     pub(crate) status: Status,
+    /// Whether the camera let its controller go. The answer doesn't tell it where a cause goes before that.
+    pub(crate) lost: bool,
     /// The numbers of the last line so far.
     pub(crate) counts: ReceiveCounts,
 }

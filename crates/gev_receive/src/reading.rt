@@ -14,12 +14,11 @@ ghost use Rattle.gev_acq.specs.Reading.{FaultsOf};
 ghost use Rattle.camera_reader.specs.Reading.{is_fault};
 ghost use Rattle.gev_receive.specs.Reader.{ReadsTo, with_refused as counts_with, ReadsFrames};
 
-use crate::host::Host;
 use acq_core::Acq;
 use acquisition_machine::Counts;
 use buffer_words::{Board, Pass};
 use camera_reader::{ReaderEnd, ReaderWords, TurnsDone, read_turns};
-use gev_acq::drain;
+use gev_acq::{Host, drain};
 use gev_links::{Clock, Gate, Link};
 use live_crew::Worked;
 use std::sync::Wait;

@@ -1,26 +1,26 @@
 //! A run over ports.
 
-ghost use Rattle.std.specs.Prelude.{◌≡◌, ◌≢◌, ◌≤◌, ◌+◌, [], ◌∷◌, None, option_map, IfOk, IfSome, OnErr};
+ghost use Rattle.std.specs.Prelude.{◌≡◌, ◌≢◌, ◌≤◌, ◌+◌, None, option_map, IfSome};
 ghost use Rattle.board_machine.specs.Histories.{After};
 ghost use Rattle.board_machine.specs.Laws.{IsAlone};
 ghost use Rattle.buffer_words.specs.Boards.{board_id};
 ghost use Rattle.camera_words.specs.Receiving.{IsInRange};
 ghost use Rattle.gev_links.specs.Faults.{Rose};
 ghost use Rattle.gev_links.specs.Links.{IsBlank};
-ghost use Rattle.gev_links.specs.PortsState.{IsNew};
 ghost use Rattle.gev_receive.specs.Answers.{rank};
 ghost use Rattle.gev_receive.specs.Frames.{seen_by};
 ghost use Rattle.gev_receive.specs.Receives.{told_by, Receives, ReceivesOver};
 
 use crate::drops::tell_drops;
 use crate::ending::finish;
-use crate::host::Host;
 use crate::meeting::{Ways, meet_camera};
+use crate::sides::Sides;
 use crate::tools::{Ends, bind_ends, control_peer, give_back};
 use buffer_words::{Board, Pass};
 use camera_words::Settings;
 use control_client::Client;
 use frame_writing::{InputWatch, Outlet, Progress};
+use gev_acq::Host;
 use gev_far::{FarPorts, PeekLink};
 use gev_links::{Clock, Gate, Sink, Source};
 use gev_status::Status;
@@ -95,7 +95,9 @@ fn receive_from<
         },
         progress: Progress::each(settings.progress),
     };
-    let (ran, host, outlet) = meet_camera(rt, alloc, ways, host, outlet, gate, sink, input, kept);
+    let sides = Sides { host, outlet };
+    let (ran, sides) = meet_camera(rt, alloc, ways, sides, gate, sink, input, kept);
+    let Sides { host, outlet } = sides;
     let Host {
         client: _,
         stream,

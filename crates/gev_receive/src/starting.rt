@@ -1,6 +1,6 @@
 //! What a stream is received with.
 
-ghost use Rattle.std.specs.Prelude.{◌≡◌, ◌≤◌, ◌^◌};
+ghost use Rattle.std.specs.Prelude.{◌≡◌, ◌≤◌};
 ghost use Rattle.acq_core.specs.Standing.{IsConfig};
 ghost use Rattle.board_calls.specs.Calls.{IsSize};
 ghost use Rattle.camera_words.specs.Receiving.{IsInRange};
@@ -90,7 +90,7 @@ pub(crate) fn buffer_size(settings: &Settings, leader: FirstLeader) -> u32
     }
 }
 
-/// Why images of this look have no picture, if they have none.
+/// Why images of this kind have no picture, if they have none.
 pub(crate) fn lacks_picture(info: LeaderInfo) -> Option<NoPicture>
     ensures { result ≡ lacks_picture info }
 {

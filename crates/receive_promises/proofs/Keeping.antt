@@ -32,13 +32,13 @@ use Rattle.gev_live.proofs.Quiet.{is_beginning, beginning_are}
 use Rattle.gev_live.proofs.Splitting.{member_or}
 use Rattle.camera_words.specs.declared.settings.Settings.{Settings}
 use Rattle.first_leader.specs.declared.leading.FirstLeader.{FirstLeader}
-use Rattle.gev_status.specs.declared.status.Status.{Status}
 use Rattle.receive_lines.specs.declared.receive_counts.ReceiveCounts.{ReceiveCounts}
 use Rattle.run_promises.specs.Headline.{Acquirer, is_acquirer, HoldsUnder}
 use Rattle.run_promises.proofs.Headlines.{runs_headline, blocks_frames}
 use Rattle.live_promises.proofs.Sending.{inputs_sent, inputs_clean}
 use Rattle.live_promises.proofs.Filling.{FillsAlone, alone_acquires, filled_own}
 use Rattle.live_promises.proofs.Accounts.{one_account}
+use Rattle.gev_receive.specs.Answers.{StreamEnd}
 use Rattle.gev_receive.specs.Starting.{config_of, mode_of, buffer_size}
 use Rattle.gev_receive.specs.Reader.{inputs_from}
 use Rattle.gev_receive.specs.Frames.{Pair, FramesHistory}
@@ -111,8 +111,8 @@ heard_since ids old answers received received_after made arrivals before behind 
 -- ---- a run
 
 module _ (settings : Settings) (camera : Address) (leader : FirstLeader) (resends : Bool) (o n : Outside) (stream stream_after control control_after : ℕ)
-    (app app_after written written_after : Option (List ℕ)) (faults faults_after : ℕ) (input left : Option (List ℕ)) (misses misses_after : ℕ) (answer : Status) (counts : ReceiveCounts) (h : List Entry)
-    (run : FramesRun settings camera leader resends o n stream stream_after control control_after app app_after written written_after faults faults_after input left misses misses_after answer counts h)
+    (app app_after written written_after : Option (List ℕ)) (faults faults_after : ℕ) (input left : Option (List ℕ)) (misses misses_after : ℕ) (end : StreamEnd) (counts : ReceiveCounts) (h : List Entry)
+    (run : FramesRun settings camera leader resends o n stream stream_after control control_after app app_after written written_after faults faults_after input left misses misses_after end counts h)
     (some : 1 ≤ settings.window) where
   abbrev c : AcqConfig
   c = config_of settings leader resends
@@ -141,11 +141,11 @@ module _ (settings : Settings) (camera : Address) (leader : FirstLeader) (resend
     framed = λ frames sent.
         all_weaker (IsRetired c told) (HoldsUnder frames c told) (λ x r. blocks_frames frames c told x r (inputs_sent frames c.p run.reader_part.made sent)) (handed_items h) handed;
     p_told = ap (λ (x : ReceiveCounts). x.p) run.counts_are;
-    means = answer_means settings run.handed run.read left settings.output run.application_part.made written written_after faults faults_after answer
-        run.application_part.ends run.stopped_by run.answered;
+    means = answer_means settings run.handed run.read left settings.output run.application_part.made written written_after faults faults_after end.status
+        run.application_part.ends run.stopped_by (ap (λ (e : StreamEnd). e.status) run.ended);
     wrote = texts_written run.handed.end settings.frames settings.output run.handed.taken run.application_part.made written written_after faults faults_after settings.until_input_ends left run.application_part.ends;
   }
 
 pub runs_keep : FramesRunsKeepPromises
-runs_keep settings camera leader resends o n stream stream_after control control_after app app_after written written_after faults faults_after input left misses misses_after answer counts h run some =
-    frames_keep settings camera leader resends o n stream stream_after control control_after app app_after written written_after faults faults_after input left misses misses_after answer counts h run some
+runs_keep settings camera leader resends o n stream stream_after control control_after app app_after written written_after faults faults_after input left misses misses_after end counts h run some =
+    frames_keep settings camera leader resends o n stream stream_after control control_after app app_after written written_after faults faults_after input left misses misses_after end counts h run some

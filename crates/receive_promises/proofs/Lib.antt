@@ -7,6 +7,7 @@ pub mod Telling
 pub mod Meaning
 pub mod Keeping
 pub mod Stopping
+pub mod Short
 pub mod Received
 pub mod Written
 pub mod Over

@@ -34,8 +34,8 @@ use Rattle.frame_writing.specs.declared.handed_out.HandedEnd.{HandedEnd}
 use Rattle.frame_writing.specs.declared.handed_out.HandedEnd.TheVariants as hands
 use Rattle.frame_writing.specs.HandsOut.{EndsBy}
 use Rattle.frame_writing.specs.Work.{has_enough}
-use Rattle.gev_status.specs.declared.status.Status.{Status}
 use Rattle.receive_lines.specs.declared.receive_counts.ReceiveCounts.{ReceiveCounts}
+use Rattle.gev_receive.specs.Answers.{StreamEnd}
 use Rattle.gev_receive.specs.Starting.{config_of, mode_of, buffer_size}
 use Rattle.gev_receive.specs.Frames.{Pair, FramesHistory, CameraReading, RanFrames}
 use Rattle.receive_promises.specs.FramesRun.{FramesRun}
@@ -60,8 +60,8 @@ over_stopped end frames output taken made written written_after faults faults_af
     (subst (λ (e : HandedEnd). EndsBy e frames output taken made written written_after faults faults_after on left) is ends).1
 
 module _ (settings : Settings) (camera : Address) (leader : FirstLeader) (resends : Bool) (o n : Outside) (stream stream_after control control_after : ℕ)
-    (app app_after written written_after : Option (List ℕ)) (faults faults_after : ℕ) (input left : Option (List ℕ)) (misses misses_after : ℕ) (answer : Status) (counts : ReceiveCounts) (h : List Entry)
-    (r : RanFrames settings camera leader resends o n stream stream_after control control_after app app_after written written_after faults faults_after input left misses misses_after answer counts h)
+    (app app_after written written_after : Option (List ℕ)) (faults faults_after : ℕ) (input left : Option (List ℕ)) (misses misses_after : ℕ) (end : StreamEnd) (counts : ReceiveCounts) (h : List Entry)
+    (r : RanFrames settings camera leader resends o n stream stream_after control control_after app app_after written written_after faults faults_after input left misses misses_after end counts h)
     (some : 1 ≤ settings.window) where
   abbrev mode : Mode
   mode = mode_of settings.mode
@@ -145,7 +145,7 @@ module _ (settings : Settings) (camera : Address) (leader : FirstLeader) (resend
       (home_prefix r.ran.one r.ran.two b r.ran.worked_b r.ran.home u u.seen r.ran.second (third_in u.seen))
       (home_own r.ran.one r.ran.two b r.ran.worked_b r.ran.home u u.seen r.ran.second (third_in u.seen) r.ran.ended_run)
 
-  told : FramesRun settings camera leader resends o n stream stream_after control control_after app app_after written written_after faults faults_after input left misses misses_after answer counts u.seen
+  told : FramesRun settings camera leader resends o n stream stream_after control control_after app app_after written written_after faults faults_after input left misses misses_after end counts u.seen
   told = record {
     crew = crew;
     history = history;
@@ -179,7 +179,7 @@ module _ (settings : Settings) (camera : Address) (leader : FirstLeader) (resend
     unmissed = r.ran.did_second.3;
     counted = r.counted;
     counted_is = r.ran.did_first.0.counted;
-    answered = r.answered;
+    ended = r.ended;
     counts_are = r.counts_are;
     none_left = λ over.
         emptied mode c size settings.buffers crew r.read r.ran.did_first.0.begin r.ran.did_first.0.made (has_enough r.handed.end) r.ran.did_second.0.hands_out.made u.seen history reading takes
@@ -188,11 +188,11 @@ module _ (settings : Settings) (camera : Address) (leader : FirstLeader) (resend
     stopped_by = stopped_by mode c size settings.buffers crew r.read r.ran.did_first.0.begin r.ran.did_first.0.made (has_enough r.handed.end) r.ran.did_second.0.hands_out.made u.seen history reading takes host;
   }
 
-  pub frames_run : FramesRun settings camera leader resends o n stream stream_after control control_after app app_after written written_after faults faults_after input left misses misses_after answer counts h
+  pub frames_run : FramesRun settings camera leader resends o n stream stream_after control control_after app app_after written written_after faults faults_after input left misses misses_after end counts h
   frames_run =
-      subst (λ l. FramesRun settings camera leader resends o n stream stream_after control control_after app app_after written written_after faults faults_after input left misses misses_after answer counts l)
+      subst (λ l. FramesRun settings camera leader resends o n stream stream_after control control_after app app_after written written_after faults faults_after input left misses misses_after end counts l)
       (sym r.saw) told
 
 pub runs_have : RunsHaveHistories
-runs_have settings camera leader resends o n stream stream_after control control_after app app_after written written_after faults faults_after input left misses misses_after answer counts h r some =
-    frames_run settings camera leader resends o n stream stream_after control control_after app app_after written written_after faults faults_after input left misses misses_after answer counts h r some
+runs_have settings camera leader resends o n stream stream_after control control_after app app_after written written_after faults faults_after input left misses misses_after end counts h r some =
+    frames_run settings camera leader resends o n stream stream_after control control_after app app_after written written_after faults faults_after input left misses misses_after end counts h r some

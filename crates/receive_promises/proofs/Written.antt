@@ -27,7 +27,7 @@ use Rattle.frame_writing.proofs.Written.{wrote_nothing, wrote_then, wrote_same}
 use Rattle.gev_status.specs.declared.status.Status.{Status}
 use Rattle.gev_status.specs.declared.status.Status.TheVariants as status
 use Rattle.receive_lines.specs.declared.receive_counts.ReceiveCounts.{ReceiveCounts}
-use Rattle.gev_receive.specs.Answers.{control_status, leader_status, reader_status, handed_status, leave_status, rank, weightier, is_lost, is_told}
+use Rattle.gev_receive.specs.Answers.{control_status, leader_status, reader_status, handed_status, leave_status, rank, weightier, is_lost, is_told, StreamEnd}
 use Rattle.gev_receive.specs.Ending.{has_last, wrote, failed, lacked, EndsWith}
 use Rattle.gev_receive.specs.Receives.{control_part, Streams, unled, undrawn, streamed, Meets}
 use Rattle.receive_promises.specs.Meaning.{is_written, WritesTexts}
@@ -167,23 +167,26 @@ texts_so output first end read frames handed taken written written_mid written_a
       (texts.whole (told_written end read frames handed (subst (λ (s : Status). is_told s ≡ true) answered told)));
 }
 
+status_is : (end other : StreamEnd) → end ≡ other → end.status ≡ other.status
+status_is end other is = ap (λ (e : StreamEnd). e.status) is
+
 stream_so : (settings : Settings) (camera : Address) (taken : Taken) (o n : WaitSide) (stream stream_after control control_after : ℕ)
-    (app app_after written written_after : Option (List ℕ)) (faults faults_after : ℕ) (left : Option (List ℕ)) (h : List Entry) (answer : Status) (counts : ReceiveCounts)
-    (streams : Streams settings camera taken o n stream stream_after control control_after app app_after written written_after faults faults_after left h answer counts) (kept : KeepsStream streams)
-    → WroteSo settings.output answer (lent_by_stream streams kept) written written_after
-stream_so settings camera taken o n stream stream_after control control_after app app_after written written_after faults faults_after left h answer counts
-    (unled found why awaits is input fault same unwritten unfaulted none answered counted) kept =
-    nothing_so settings.output answer written written_after (subst IsRuns (sym answered) (leader_is why)) unwritten
-stream_so settings camera taken o n stream stream_after control control_after app app_after written written_after faults faults_after left h answer counts
-    (undrawn found leader why awaits is fault undrawn_is same unwritten unfaulted none answered counted) kept =
-    nothing_so settings.output answer written written_after (subst IsRuns (sym answered) refl) unwritten
-stream_so settings camera taken o n stream stream_after control control_after app app_after written written_after faults faults_after left h answer counts
+    (app app_after written written_after : Option (List ℕ)) (faults faults_after : ℕ) (left : Option (List ℕ)) (h : List Entry) (end : StreamEnd) (counts : ReceiveCounts)
+    (streams : Streams settings camera taken o n stream stream_after control control_after app app_after written written_after faults faults_after left h end counts) (kept : KeepsStream streams)
+    → WroteSo settings.output end.status (lent_by_stream streams kept) written written_after
+stream_so settings camera taken o n stream stream_after control control_after app app_after written written_after faults faults_after left h end counts
+    (unled found why awaits is input fault same unwritten unfaulted none ended counted) kept =
+    nothing_so settings.output end.status written written_after (subst IsRuns (sym (status_is end _ ended)) (leader_is why)) unwritten
+stream_so settings camera taken o n stream stream_after control control_after app app_after written written_after faults faults_after left h end counts
+    (undrawn found leader why awaits is fault undrawn_is same unwritten unfaulted none ended counted) kept =
+    nothing_so settings.output end.status written written_after (subst IsRuns (sym (status_is end _ ended)) refl) unwritten
+stream_so settings camera taken o n stream stream_after control control_after app app_after written written_after faults faults_after left h end counts
     (streamed found leader m stream_mid control_mid faults_mid written_mid input misses misses_after awaits is fault unwritten unfaulted drawn runs) (inl kept) =
-    texts_so settings.output answer kept.run.handed.end kept.run.read settings.frames kept.run.handed.taken (lent_in kept.run.application_part.made) written written_mid written_after
-    kept.run.answered unwritten kept.keeps.wrote
-stream_so settings camera taken o n stream stream_after control control_after app app_after written written_after faults faults_after left h answer counts
-    (streamed found leader m stream_mid control_mid faults_mid written_mid input misses misses_after awaits is fault unwritten unfaulted drawn runs) (inr never) =
-    nothing_so settings.output answer written written_after (subst IsRuns (sym never.wanted) refl) (never.unwritten ∙ unwritten)
+    texts_so settings.output end.status kept.run.handed.end kept.run.read settings.frames kept.run.handed.taken (lent_in kept.run.application_part.made) written written_mid written_after
+    (status_is end _ kept.run.ended) unwritten kept.keeps.wrote
+stream_so settings camera taken o n stream stream_after control control_after app app_after written written_after faults faults_after left h end counts
+    (streamed found leader m stream_mid control_mid faults_mid written_mid input misses misses_after awaits is fault unwritten unfaulted drawn runs) (inr none) =
+    nothing_so settings.output end.status written written_after (subst IsRuns (sym (status_is end _ none.never.wanted)) refl) (none.never.unwritten ∙ unwritten)
 
 -- the stop writes nothing, and tells nothing that wasn't told
 stopped_so : (lost : Bool) (output : Output) (settings : Settings) (camera : Address) (heartbeat : Bool) (frames : ℕ) (first : Status) (o n : ControlSide) (answer : Status) (taken : List Lent)
@@ -200,21 +203,21 @@ stopped_so false output settings camera heartbeat frames first o n answer taken 
     leave_is (Ok done) frames = refl
     leave_is (Err cause) frames = control_is cause frames
 
-held_so : (held : Bool) (output : Output) (settings : Settings) (camera : Address) (first : Status) (o n : ControlSide) (answer : Status) (taken : List Lent) (written written_after : Option (List ℕ))
-    → StopsHeld held settings camera first o n answer → WroteSo output first taken written written_after → WroteSo output answer taken written written_after
-held_so false output settings camera first o n answer taken written written_after stops so = subst (λ (s : Status). WroteSo output s taken written written_after) (sym stops.1) so
-held_so true output settings camera first o n answer taken written written_after stops so =
-    stopped_so (is_lost first) output settings camera false 0 first o n answer taken written written_after stops so
+held_so : (held : Bool) (output : Output) (settings : Settings) (camera : Address) (cause : ControlEnd) (o n : ControlSide) (answer : Status) (taken : List Lent) (written written_after : Option (List ℕ))
+    → StopsHeld held settings camera cause o n answer → WroteSo output (control_status cause 0) taken written written_after → WroteSo output answer taken written written_after
+held_so false output settings camera cause o n answer taken written written_after stops so = subst (λ (s : Status). WroteSo output s taken written written_after) (sym stops.1) so
+held_so true output settings camera cause o n answer taken written written_after stops so =
+    stopped_so (is_lost cause) output settings camera false 0 (control_status cause 0) o n answer taken written written_after stops so
 
 meeting_so : (settings : Settings) (camera own : Address) (o n : WaitSide) (stream stream_after control control_after : ℕ)
     (app app_after written written_after : Option (List ℕ)) (faults faults_after : ℕ) (left : Option (List ℕ)) (h : List Entry) (answer : Status) (counts : ReceiveCounts)
     (meets : Meets settings camera own o n stream stream_after control control_after app app_after written written_after faults faults_after left h answer counts) (kept : KeepsMeeting meets)
     → WroteSo settings.output answer (lent_by_meeting meets kept) written written_after
 meeting_so settings camera own o n stream stream_after control control_after app app_after written written_after faults faults_after left h answer counts (inl untaken) kept =
-    held_so untaken.fault.held settings.output settings camera (control_status untaken.fault.end 0) untaken.m (control_part n) answer [] written written_after kept.stop
+    held_so untaken.fault.held settings.output settings camera untaken.fault.end untaken.m (control_part n) answer [] written written_after kept.stop
     (nothing_so settings.output (control_status untaken.fault.end 0) written written_after (control_is untaken.fault.end 0) untaken.unwritten)
 meeting_so settings camera own o n stream stream_after control control_after app app_after written written_after faults faults_after left h answer counts (inr taken) kept =
-    stopped_so (is_lost taken.first) settings.output settings camera true counts.taken taken.first (control_part taken.p) (control_part n) answer (lent_by_stream taken.streams kept.buffers) written written_after kept.stop
+    stopped_so taken.first.lost settings.output settings camera true counts.taken taken.first.status (control_part taken.p) (control_part n) answer (lent_by_stream taken.streams kept.buffers) written written_after kept.stop
     (stream_so settings camera taken.taken taken.m taken.p stream stream_after taken.control_m taken.control_p app app_after written written_after faults faults_after left h taken.first counts taken.streams kept.buffers)
 
 -- ---- with the last line

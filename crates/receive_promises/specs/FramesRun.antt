@@ -18,9 +18,8 @@ use Rattle.first_leader.specs.declared.leading.FirstLeader.{FirstLeader}
 use Rattle.frame_writing.specs.declared.handed_out.HandedEnd.TheVariants as hands
 use Rattle.frame_writing.specs.declared.handed_out.HandedOut.{HandedOut}
 use Rattle.frame_writing.specs.Work.{has_enough}
-use Rattle.gev_status.specs.declared.status.Status.{Status}
 use Rattle.receive_lines.specs.declared.receive_counts.ReceiveCounts.{ReceiveCounts}
-use Rattle.gev_receive.specs.Answers.{reader_status, handed_status, weightier}
+use Rattle.gev_receive.specs.Answers.{StreamEnd, frames_end}
 use Rattle.gev_receive.specs.Starting.{config_of, mode_of, buffer_size, leader_counts, with_counts}
 use Rattle.gev_receive.specs.Reader.{inputs_from, with_refused}
 use Rattle.gev_receive.specs.Frames.{Pair, FramesHistory, CameraReader, FramesApplication}
@@ -29,7 +28,7 @@ use Rattle.gev_receive.specs.Frames.{Pair, FramesHistory, CameraReader, FramesAp
 -- leader say.
 pub record FramesRun (settings : Settings) (camera : Address) (leader : FirstLeader) (resends : Bool) (o n : Outside) (stream stream_after control control_after : ℕ)
     (app app_after : Option (List ℕ)) (written written_after : Option (List ℕ)) (faults faults_after : ℕ) (input left : Option (List ℕ)) (misses misses_after : ℕ)
-    (answer : Status) (counts : ReceiveCounts) (h : List Entry) : Type 0 where
+    (end : StreamEnd) (counts : ReceiveCounts) (h : List Entry) : Type 0 where
   pub crew : Pair
   pub history : FramesHistory (mode_of settings.mode) (buffer_size settings leader) settings.buffers crew h
   pub read : ReaderEnd
@@ -42,7 +41,7 @@ pub record FramesRun (settings : Settings) (camera : Address) (leader : FirstLea
   pub unmissed : misses_after ≡ misses
   pub counted : Counts
   pub counted_is : counted ≡ with_refused (capped (AfterInputs (config_of settings leader resends) (inputs_from reader_part.begin reader_part.made ++ stop ∷ [])).counts) reader_part.refused
-  pub answered : answer ≡ weightier (handed_status handed.end) (reader_status read settings.frames handed.taken)
+  pub ended : end ≡ frames_end handed.end read settings.frames handed.taken
   pub counts_are : counts ≡ with_counts (leader_counts settings leader) handed.taken handed.complete counted
   -- where the application found the run over no buffer is left in the output
   pub none_left : handed.end ≡ hands.Over → (After h).out ≡ []

@@ -5,8 +5,8 @@ use Rattle.gev_links.specs.Links.{Address}
 use Rattle.gev_acq.specs.Turns.{Outside}
 use Rattle.camera_words.specs.declared.settings.Settings.{Settings}
 use Rattle.first_leader.specs.declared.leading.FirstLeader.{FirstLeader}
-use Rattle.gev_status.specs.declared.status.Status.{Status}
 use Rattle.receive_lines.specs.declared.receive_counts.ReceiveCounts.{ReceiveCounts}
+use Rattle.gev_receive.specs.Answers.{StreamEnd}
 use Rattle.gev_receive.specs.Frames.{RanFrames}
 use Rattle.receive_promises.specs.FramesRun.{FramesRun}
 use Rattle.receive_promises.specs.Promises.{KeepsFrames}
@@ -15,15 +15,15 @@ use Rattle.receive_promises.specs.Promises.{KeepsFrames}
 abbrev pub RunsHaveHistories : Type 0
 RunsHaveHistories =
     (settings : Settings) (camera : Address) (leader : FirstLeader) (resends : Bool) (o n : Outside) (stream stream_after control control_after : ℕ)
-    (app app_after written written_after : Option (List ℕ)) (faults faults_after : ℕ) (input left : Option (List ℕ)) (misses misses_after : ℕ) (answer : Status) (counts : ReceiveCounts) (h : List Entry)
-    → RanFrames settings camera leader resends o n stream stream_after control control_after app app_after written written_after faults faults_after input left misses misses_after answer counts h
+    (app app_after written written_after : Option (List ℕ)) (faults faults_after : ℕ) (input left : Option (List ℕ)) (misses misses_after : ℕ) (end : StreamEnd) (counts : ReceiveCounts) (h : List Entry)
+    → RanFrames settings camera leader resends o n stream stream_after control control_after app app_after written written_after faults faults_after input left misses misses_after end counts h
     → 1 ≤ settings.window
-    → FramesRun settings camera leader resends o n stream stream_after control control_after app app_after written written_after faults faults_after input left misses misses_after answer counts h
+    → FramesRun settings camera leader resends o n stream stream_after control control_after app app_after written written_after faults faults_after input left misses misses_after end counts h
 
 -- Such a run keeps its promises.
 abbrev pub FramesRunsKeepPromises : Type 0
 FramesRunsKeepPromises =
     (settings : Settings) (camera : Address) (leader : FirstLeader) (resends : Bool) (o n : Outside) (stream stream_after control control_after : ℕ)
-    (app app_after written written_after : Option (List ℕ)) (faults faults_after : ℕ) (input left : Option (List ℕ)) (misses misses_after : ℕ) (answer : Status) (counts : ReceiveCounts) (h : List Entry)
-    (run : FramesRun settings camera leader resends o n stream stream_after control control_after app app_after written written_after faults faults_after input left misses misses_after answer counts h)
+    (app app_after written written_after : Option (List ℕ)) (faults faults_after : ℕ) (input left : Option (List ℕ)) (misses misses_after : ℕ) (end : StreamEnd) (counts : ReceiveCounts) (h : List Entry)
+    (run : FramesRun settings camera leader resends o n stream stream_after control control_after app app_after written written_after faults faults_after input left misses misses_after end counts h)
     → 1 ≤ settings.window → KeepsFrames run

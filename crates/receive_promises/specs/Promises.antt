@@ -16,10 +16,10 @@ use Rattle.gev_apply.specs.Looks.{lent_in}
 use Rattle.gev_live.specs.Acquirers.{handed_out}
 use Rattle.camera_words.specs.declared.settings.Settings.{Settings}
 use Rattle.first_leader.specs.declared.leading.FirstLeader.{FirstLeader}
-use Rattle.gev_status.specs.declared.status.Status.{Status}
 use Rattle.receive_lines.specs.declared.receive_counts.ReceiveCounts.{ReceiveCounts}
 use Rattle.run_promises.specs.Headline.{Acquirer, is_acquirer, KeepsHeadline, HoldsUnder}
 use Rattle.live_promises.specs.Promises.{packets_among}
+use Rattle.gev_receive.specs.Answers.{StreamEnd}
 use Rattle.gev_receive.specs.Starting.{config_of}
 use Rattle.gev_receive.specs.Reader.{inputs_from}
 use Rattle.receive_promises.specs.FramesRun.{FramesRun}
@@ -27,8 +27,8 @@ use Rattle.receive_promises.specs.Meaning.{Means, WritesTexts}
 
 -- The reader of a run, with what its receiver was told: a moment, the inputs of its turns, and the stop at their end.
 abbrev pub reader_of : {settings : Settings} {camera : Address} {leader : FirstLeader} {resends : Bool} {o n : Outside} {stream stream_after control control_after : ℕ}
-    {app app_after written written_after : Option (List ℕ)} {faults faults_after : ℕ} {input left : Option (List ℕ)} {misses misses_after : ℕ} {answer : Status} {counts : ReceiveCounts} {h : List Entry}
-    → FramesRun settings camera leader resends o n stream stream_after control control_after app app_after written written_after faults faults_after input left misses misses_after answer counts h → Acquirer
+    {app app_after written written_after : Option (List ℕ)} {faults faults_after : ℕ} {input left : Option (List ℕ)} {misses misses_after : ℕ} {end : StreamEnd} {counts : ReceiveCounts} {h : List Entry}
+    → FramesRun settings camera leader resends o n stream stream_after control control_after app app_after written written_after faults faults_after input left misses misses_after end counts h → Acquirer
 reader_of run = record { actor = run.crew.reader; inputs = inputs_from run.reader_part.begin run.reader_part.made ++ stop ∷ [] }
 
 -- The headline holds of the history, with the reader as its only acquirer. What it calls handed out, what others than
@@ -41,8 +41,8 @@ reader_of run = record { actor = run.crew.reader; inputs = inputs_from run.reade
 -- packets came before it was filled. The last line's p is the payload size by which blocks were received. The answer says
 -- how the run ended, and what was written are the texts of the buffers that the application took.
 pub record KeepsFrames {settings : Settings} {camera : Address} {leader : FirstLeader} {resends : Bool} {o n : Outside} {stream stream_after control control_after : ℕ}
-    {app app_after written written_after : Option (List ℕ)} {faults faults_after : ℕ} {input left : Option (List ℕ)} {misses misses_after : ℕ} {answer : Status} {counts : ReceiveCounts} {h : List Entry}
-    (run : FramesRun settings camera leader resends o n stream stream_after control control_after app app_after written written_after faults faults_after input left misses misses_after answer counts h) : Type 0 where
+    {app app_after written written_after : Option (List ℕ)} {faults faults_after : ℕ} {input left : Option (List ℕ)} {misses misses_after : ℕ} {end : StreamEnd} {counts : ReceiveCounts} {h : List Entry}
+    (run : FramesRun settings camera leader resends o n stream stream_after control control_after app app_after written written_after faults faults_after input left misses misses_after end counts h) : Type 0 where
   pub headline : KeepsHeadline (config_of settings leader resends) (reader_of run ∷ []) h
   pub account : handed_out_items (is_acquirer (reader_of run ∷ [])) h ≡ handed_out h
   pub handed : AllByRecursion (IsRetired (config_of settings leader resends) (reader_of run).inputs) (handed_items h)
@@ -50,5 +50,5 @@ pub record KeepsFrames {settings : Settings} {camera : Address} {leader : FirstL
   pub framed : (frames : ℕ → Option Frame) → AreSent frames (config_of settings leader resends).p (packets_among (answers_in run.reader_part.made))
       → AllByRecursion (HoldsUnder frames (config_of settings leader resends) (reader_of run).inputs) (handed_items h)
   pub p_told : counts.p ≡ (config_of settings leader resends).p
-  pub means : Means answer settings run.handed run.read left
+  pub means : Means end.status settings run.handed run.read left
   pub wrote : WritesTexts settings.output run.handed.end (lent_in run.application_part.made) written written_after

@@ -14,7 +14,7 @@ use Rattle.frame_writing.specs.Texts.{texts_of}
 use Rattle.gev_status.specs.declared.status.Status.{Status}
 use Rattle.receive_lines.specs.declared.receive_counts.ReceiveCounts.{ReceiveCounts}
 use Rattle.receive_lines.specs.ReceiveLine.{receive_line}
-use Rattle.gev_receive.specs.Answers.{is_told}
+use Rattle.gev_receive.specs.Answers.{StreamEnd, is_told}
 use Rattle.gev_receive.specs.Ending.{has_last, with_strangers}
 use Rattle.gev_receive.specs.Receives.{Told, sum_of, Streams, unled, undrawn, streamed, Meets, Receives}
 use Rattle.receive_promises.specs.Received.{KeepsStream, KeepsMeeting}
@@ -23,10 +23,10 @@ use Rattle.receive_promises.specs.Received.{KeepsStream, KeepsMeeting}
 
 -- the buffers that the application took, in order; none where it didn't run
 abbrev pub lent_by_stream : {settings : Settings} {camera : Address} {taken : Taken} {o n : WaitSide} {stream stream_after control control_after : ℕ}
-    {app app_after written written_after : Option (List ℕ)} {faults faults_after : ℕ} {left : Option (List ℕ)} {h : List Entry} {answer : Status} {counts : ReceiveCounts}
-    (streams : Streams settings camera taken o n stream stream_after control control_after app app_after written written_after faults faults_after left h answer counts) → KeepsStream streams → List Lent
-lent_by_stream (unled found why awaits is input fault same unwritten unfaulted none answered counted) kept = []
-lent_by_stream (undrawn found leader why awaits is fault undrawn_is same unwritten unfaulted none answered counted) kept = []
+    {app app_after written written_after : Option (List ℕ)} {faults faults_after : ℕ} {left : Option (List ℕ)} {h : List Entry} {end : StreamEnd} {counts : ReceiveCounts}
+    (streams : Streams settings camera taken o n stream stream_after control control_after app app_after written written_after faults faults_after left h end counts) → KeepsStream streams → List Lent
+lent_by_stream (unled found why awaits is input fault same unwritten unfaulted none ended counted) kept = []
+lent_by_stream (undrawn found leader why awaits is fault undrawn_is same unwritten unfaulted none ended counted) kept = []
 lent_by_stream (streamed found leader m stream_mid control_mid faults_mid written_mid input misses misses_after awaits is fault unwritten unfaulted drawn runs) (inl kept) = lent_in kept.run.application_part.made
 lent_by_stream (streamed found leader m stream_mid control_mid faults_mid written_mid input misses misses_after awaits is fault unwritten unfaulted drawn runs) (inr never) = []
 
