@@ -30,6 +30,7 @@ use Rattle.receive_lines.specs.declared.receive_counts.ReceiveCounts.{ReceiveCou
 use Rattle.gev_receive.specs.Answers.{control_status, leader_status, reader_status, handed_status, leave_status, rank, weightier, is_lost, is_told, StreamEnd}
 use Rattle.gev_receive.specs.Ending.{has_last, wrote, failed, lacked, EndsWith}
 use Rattle.gev_receive.specs.Receives.{control_part, Streams, unled, undrawn, streamed, Meets}
+use Rattle.receive_causes.proofs.Reception.{receptions_have}
 use Rattle.receive_promises.specs.Meaning.{is_written, WritesTexts}
 use Rattle.receive_promises.specs.Received.{KeepsStream, StopsUnless, StopsHeld, KeepsMeeting}
 use Rattle.receive_promises.specs.Written.{lent_by_stream, lent_by_meeting, last_if, WritesRun, ReceptionsKeepPromises}
@@ -277,6 +278,7 @@ receptions_keep settings camera own o e stream stream_after control control_afte
   meeting = kept;
   lines = writes_run settings.output run.first answer _ (lent_by_meeting run.meets kept) written run.written_mid written_after run.faults_mid faults_after
       (meeting_so settings camera own _ _ stream stream_after control control_after o.app_clock e.app_clock written run.written_mid faults run.faults_mid left h run.first run.counts run.meets kept) run.finishes;
+  causes = receptions_have settings camera own o e stream stream_after control control_after written written_after faults faults_after left h answer run some;
 }
   where
     kept : KeepsMeeting run.meets

@@ -17,6 +17,7 @@ use Rattle.receive_lines.specs.ReceiveLine.{receive_line}
 use Rattle.gev_receive.specs.Answers.{StreamEnd, is_told}
 use Rattle.gev_receive.specs.Ending.{has_last, with_strangers}
 use Rattle.gev_receive.specs.Receives.{Told, sum_of, Streams, unled, undrawn, streamed, Meets, Receives}
+use Rattle.receive_causes.specs.Reception.{ReceptionHasCauses}
 use Rattle.receive_promises.specs.Received.{KeepsStream, KeepsMeeting}
 
 -- ---- which buffers
@@ -48,13 +49,14 @@ pub record WritesRun (output : Output) (first answer : Status) (line : List ℕ)
   pub front : WritesFront written written_after (texts_of output taken ++ last_if (has_last output first) line)
   pub whole : is_told answer ≡ true → Appends written written_after (texts_of output taken ++ last_if (has_last output first) line)
 
--- What a whole run keeps: its buffers and its stop, and what it wrote.
+-- What a whole run keeps: its buffers and its stop, what it wrote, and why it ended so, with the commands that it sent.
 pub record KeepsReception {settings : Settings} {camera own : Address} {o e : Told} {stream stream_after control control_after : ℕ} {written written_after : Option (List ℕ)} {faults faults_after : ℕ}
     {left : Option (List ℕ)} {h : List Entry} {answer : Status}
     (run : Receives settings camera own o e stream stream_after control control_after written written_after faults faults_after left h answer) : Type 0 where
   pub meeting : KeepsMeeting run.meets
   pub lines : WritesRun settings.output run.first answer (receive_line (with_strangers run.counts (sum_of run.control_strangers run.stream_strangers))) (lent_by_meeting run.meets meeting)
       written written_after
+  pub causes : ReceptionHasCauses run
 
 -- Each whole run keeps its promises. A window has a block at least.
 abbrev pub ReceptionsKeepPromises : Type 0

@@ -1,0 +1,15 @@
+pub mod Acting
+pub mod Lists
+pub mod Outstanding
+pub mod Stepping
+pub mod Logs
+pub mod Parts
+pub mod Keeping
+pub mod Fronts
+pub mod Taking
+pub mod Watching
+pub mod Weights
+pub mod Streaming
+pub mod Meeting
+pub mod Reception
+pub mod Over
