@@ -7,19 +7,17 @@
 //! say the headline of replays and of explanations.
 #![tactic(auto)]
 
-mod binding; // three links from ports
+mod binding; // three links and three clocks from ports
 mod meeting; // cameras on the network
 mod reception; // the frames of a camera on the network
 mod recording; // a recorded live run over ports
 mod returning; // links and clocks back to the ports
 mod running; // a live run over ports
 mod simulation; // a simulated camera on the network
-mod three_links; // the links of a live run
 mod top; // the call of the program
 
 pub use binding::bind_three;
 pub use recording::run_recorded;
 pub use returning::give_back;
 pub use running::run_live;
-pub use three_links::ThreeLinks;
 pub use top::gevacq_top;

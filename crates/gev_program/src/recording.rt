@@ -14,8 +14,6 @@ ghost use Rattle.gev_program.specs.Runs.{GivesAllBack, IsBound, RecordsOver, Run
 
 use crate::binding::bind_three;
 use crate::returning::give_back;
-use crate::running::{give_ends, with_clocks};
-use crate::three_links::ThreeLinks;
 use buffer_words::{Board, Pass};
 use gev_links::{Gate, Ports, Sink};
 use gev_live::Ends;
@@ -90,13 +88,15 @@ fn give_taped<P: Ports>(ports: &mut P, ends: Ends<P::L, Tape<P::L>, P::C>)
         host_clock,
         app_clock,
     } = ends;
-    let stream = stream.into_inner();
-    let links = ThreeLinks {
+    let ends = Ends {
         camera,
-        stream,
+        stream: stream.into_inner(),
         control,
+        camera_clock,
+        host_clock,
+        app_clock,
     };
-    give_back(ports, links, camera_clock, host_clock, app_clock);
+    give_back(ports, ends);
 }
 
 /// Records a run over these links and clocks on a new board, and gives all back.
@@ -203,7 +203,7 @@ fn record_new<R: Threads + Wait + Sync, K: Sink, P: Ports, G: Gate + Sync>(
     match with_tape::<P>(alloc, ends, numbers.turns as u32) {
         Ok(taped) => record_on(rt, alloc, numbers, taped, ports, gate, sink, kept),
         Err(same) => {
-            give_ends(ports, same);
+            give_back(ports, same);
             Status::NoMemory
         }
     }
@@ -236,10 +236,7 @@ pub fn run_recorded<R: Threads + Wait + Sync, K: Sink, P: Ports, G: Gate + Sync>
     ensures complete { NoneRose (K.faults sink.old) (K.faults sink.new) → result ≢ Status.LinkFault → EndsLive result }
 {
     match bind_three(ports) {
-        Ok(links) => {
-            let ends = with_clocks(ports, links);
-            record_new(rt, alloc, numbers, ends, ports, gate, sink, kept)
-        }
+        Ok(ends) => record_new(rt, alloc, numbers, ends, ports, gate, sink, kept),
         Err(_) => Status::LinkFault,
     }
 }

@@ -3,40 +3,38 @@
 ghost use Rattle.std.specs.Prelude.{◌≡◌, [], ◌∷◌};
 ghost use Rattle.gev_program.specs.Bound.{AllToldOfThree, RaisesBy};
 
-use crate::three_links::ThreeLinks;
 use gev_links::Ports;
+use gev_live::Ends;
 
-/// Gives three links and three clocks back, each in this order.
-pub fn give_back<P: Ports>(
-    ports: &mut P,
-    links: ThreeLinks<P::L>,
-    camera_clock: P::C,
-    host_clock: P::C,
-    app_clock: P::C,
-)
-    ensures links { AllToldOfThree (P.links ports.old) (P.links ports.new) (links.camera ∷ links.stream ∷ links.control ∷ []) }
-    ensures clocks { AllToldOfThree (P.clocks ports.old) (P.clocks ports.new) (camera_clock ∷ host_clock ∷ app_clock ∷ []) }
+/// Gives the links and the clocks of a run back, each in this order: the camera's, the stream's, the control channel's,
+/// and the camera's clock, the reader's, the application's.
+pub fn give_back<P: Ports>(ports: &mut P, ends: Ends<P::L, P::L, P::C>)
+    ensures links { AllToldOfThree (P.links ports.old) (P.links ports.new) (ends.camera ∷ ends.stream ∷ ends.control ∷ []) }
+    ensures clocks { AllToldOfThree (P.clocks ports.old) (P.clocks ports.new) (ends.camera_clock ∷ ends.host_clock ∷ ends.app_clock ∷ []) }
     ensures binds { P.binds ports.new ≡ P.binds ports.old }
     ensures bound { P.bound ports.new ≡ P.bound ports.old }
-    ensures faults { RaisesBy (P.L.faults links.camera) (P.L.faults links.stream) (P.L.faults links.control) (P.faults ports.old) (P.faults ports.new) }
+    ensures faults { RaisesBy (P.L.faults ends.camera) (P.L.faults ends.stream) (P.L.faults ends.control) (P.faults ports.old) (P.faults ports.new) }
 {
-    give_links(ports, links);
+    let Ends {
+        camera,
+        stream,
+        control,
+        camera_clock,
+        host_clock,
+        app_clock,
+    } = ends;
+    give_links(ports, camera, stream, control);
     give_clocks(ports, camera_clock, host_clock, app_clock);
 }
 
 /// Gives the links back.
-fn give_links<P: Ports>(ports: &mut P, links: ThreeLinks<P::L>)
-    ensures links { AllToldOfThree (P.links ports.old) (P.links ports.new) (links.camera ∷ links.stream ∷ links.control ∷ []) }
+fn give_links<P: Ports>(ports: &mut P, camera: P::L, stream: P::L, control: P::L)
+    ensures links { AllToldOfThree (P.links ports.old) (P.links ports.new) (camera ∷ stream ∷ control ∷ []) }
     ensures clocks { P.clocks ports.new ≡ P.clocks ports.old }
     ensures binds { P.binds ports.new ≡ P.binds ports.old }
     ensures bound { P.bound ports.new ≡ P.bound ports.old }
-    ensures faults { RaisesBy (P.L.faults links.camera) (P.L.faults links.stream) (P.L.faults links.control) (P.faults ports.old) (P.faults ports.new) }
+    ensures faults { RaisesBy (P.L.faults camera) (P.L.faults stream) (P.L.faults control) (P.faults ports.old) (P.faults ports.new) }
 {
-    let ThreeLinks {
-        camera,
-        stream,
-        control,
-    } = links;
     ports.unbind(camera);
     ports.unbind(stream);
     ports.unbind(control);

@@ -1,12 +1,11 @@
 //! A live run over ports.
 
-ghost use Rattle.std.specs.Prelude.{◌≡◌, ◌≢◌, ◌+◌, ◌≤◌, ℕ, [], ◌∷◌, None, IfSome};
+ghost use Rattle.std.specs.Prelude.{◌≡◌, ◌≢◌, ◌+◌, ◌≤◌, ℕ, None, IfSome};
 ghost use Rattle.board_machine.specs.Histories.{After};
 ghost use Rattle.board_machine.specs.Laws.{IsAlone};
 ghost use Rattle.gev_links.specs.Faults.{Rose};
 ghost use Rattle.gev_links.specs.Links.{IsBlank};
 ghost use Rattle.gev_links.specs.PortsState.{IsNew};
-ghost use Rattle.gev_program.specs.Bound.{AllToldOfThree, RaisesBy};
 ghost use Rattle.gev_top.specs.LiveWords.{IsInRange};
 ghost use Rattle.gev_top.specs.Completeness.{NoneRose, EndsLive};
 ghost use Rattle.buffer_words.specs.Boards.{board_id};
@@ -14,7 +13,6 @@ ghost use Rattle.gev_program.specs.Runs.{GivesAllBack, IsBound, RunsOver, RunsNo
 
 use crate::binding::bind_three;
 use crate::returning::give_back;
-use crate::three_links::ThreeLinks;
 use buffer_words::{Board, Pass};
 use gev_links::{Gate, Ports, Sink};
 use gev_live::{Ends, live_over};
@@ -23,65 +21,6 @@ use gev_top::LiveNumbers;
 use std::alloc::Global;
 use std::sync::Wait;
 use std::thread::Threads;
-
-/// Gives a run's links and clocks back.
-pub(crate) fn give_ends<P: Ports>(ports: &mut P, ends: Ends<P::L, P::L, P::C>)
-    ensures links { AllToldOfThree (P.links ports.old) (P.links ports.new) (ends.camera ∷ ends.stream ∷ ends.control ∷ []) }
-    ensures clocks { AllToldOfThree (P.clocks ports.old) (P.clocks ports.new) (ends.camera_clock ∷ ends.host_clock ∷ ends.app_clock ∷ []) }
-    ensures binds { P.binds ports.new ≡ P.binds ports.old }
-    ensures bound { P.bound ports.new ≡ P.bound ports.old }
-    ensures faults { RaisesBy (P.L.faults ends.camera) (P.L.faults ends.stream) (P.L.faults ends.control) (P.faults ports.old) (P.faults ports.new) }
-{
-    let Ends {
-        camera,
-        stream,
-        control,
-        camera_clock,
-        host_clock,
-        app_clock,
-    } = ends;
-    let links = ThreeLinks {
-        camera,
-        stream,
-        control,
-    };
-    give_back(ports, links, camera_clock, host_clock, app_clock);
-}
-
-/// Takes three clocks of the ports, beside these links.
-pub(crate) fn with_clocks<P: Ports>(
-    ports: &mut P,
-    links: ThreeLinks<P::L>,
-) -> Ends<P::L, P::L, P::C>
-    ensures camera { result.camera ≡ links.camera }
-    ensures stream { result.stream ≡ links.stream }
-    ensures control { result.control ≡ links.control }
-    ensures camera_clock { IsBlank (P.C.told result.camera_clock) }
-    ensures host_clock { IsBlank (P.C.told result.host_clock) }
-    ensures app_clock { IsBlank (P.C.told result.app_clock) }
-    ensures binds { P.binds ports.new ≡ P.binds ports.old }
-    ensures bound { P.bound ports.new ≡ P.bound ports.old }
-    ensures links { P.links ports.new ≡ P.links ports.old }
-    ensures clocks { P.clocks ports.new ≡ P.clocks ports.old }
-    ensures faults { P.faults ports.new ≡ P.faults ports.old }
-{
-    let ThreeLinks {
-        camera,
-        stream,
-        control,
-    } = links;
-    let camera_clock = ports.clock();
-    let host_clock = ports.clock();
-    let app_clock = ports.clock();
-    Ends {
-        camera,
-        stream,
-        control,
-        camera_clock,
-        host_clock,
-        app_clock,
-    }
-}
 
 /// Runs over these links and clocks on a new board, and gives all back.
 fn run_over<R: Threads + Wait + Sync, K: Sink, P: Ports, G: Gate + Sync>(
@@ -136,14 +75,14 @@ fn run_over<R: Threads + Wait + Sync, K: Sink, P: Ports, G: Gate + Sync>(
                 sink,
                 numbers.mode,
             );
-            give_ends(ports, ends);
+            give_back(ports, ends);
             // All that the pass has seen is one run of the board.
             pass.witness();
             *kept = Some((board, pass));
             status
         }
         Err(_) => {
-            give_ends(ports, ends);
+            give_back(ports, ends);
             Status::NoMemory
         }
     }
@@ -177,10 +116,7 @@ pub fn run_live<R: Threads + Wait + Sync, K: Sink, P: Ports, G: Gate + Sync>(
     ensures complete { NoneRose (K.faults sink.old) (K.faults sink.new) → result ≢ Status.LinkFault → EndsLive result }
 {
     match bind_three(ports) {
-        Ok(links) => {
-            let ends = with_clocks(ports, links);
-            run_over(rt, alloc, numbers, ends, ports, gate, sink, kept)
-        }
+        Ok(ends) => run_over(rt, alloc, numbers, ends, ports, gate, sink, kept),
         Err(_) => Status::LinkFault,
     }
 }

@@ -21,10 +21,10 @@ returns-in-Err-clause-back g c =
         host_clock = c.requires.host_clock;
         app_clock = c.requires.app_clock;
       };
-      links_back = subst (λ same. AllToldOfThree (g.P.Ports.links c.args.ports.now) (g.P.Ports.links c.give_ends.new.ports) (same.camera ∷ same.stream ∷ same.control ∷ []))
-          c.in-Err.ensures.back c.give_ends.ensures.links;
-      clocks_back = subst (λ same. AllToldOfThree (g.P.Ports.clocks c.args.ports.now) (g.P.Ports.clocks c.give_ends.new.ports) (same.camera_clock ∷ same.host_clock ∷ same.app_clock ∷ []))
-          c.in-Err.ensures.back c.give_ends.ensures.clocks;
+      links_back = subst (λ same. AllToldOfThree (g.P.Ports.links c.args.ports.now) (g.P.Ports.links c.give_back.new.ports) (same.camera ∷ same.stream ∷ same.control ∷ []))
+          c.in-Err.ensures.back c.give_back.ensures.links;
+      clocks_back = subst (λ same. AllToldOfThree (g.P.Ports.clocks c.args.ports.now) (g.P.Ports.clocks c.give_back.new.ports) (same.camera_clock ∷ same.host_clock ∷ same.app_clock ∷ []))
+          c.in-Err.ensures.back c.give_back.ensures.clocks;
     }
 
 -- The tape's link is the stream's.

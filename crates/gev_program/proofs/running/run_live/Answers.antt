@@ -1,5 +1,5 @@
 -- The links were bound and the clocks taken, and the count of faults stood still until the run began.
-use Rattle.std.proofs.Common.{◌∙◌, subst}
+use Rattle.std.proofs.Common.{subst}
 use Rattle.gev_links.specs.Faults.{Rose}
 use Rattle.gev_program.specs.Runs.{RunsOver}
 use Rattle.gev_program.proofs.Addresses.{bound_so}
@@ -11,10 +11,8 @@ returns-in-Ok-clause-live g c =
     (λ k camera stream links clocks. RunsOver g.P.L.Link.received g.P.L.Link.sent g.P.L.Link.faults g.P.C.Clock.told c.args.numbers camera stream c.run_over.result links
     (g.P.Ports.links c.run_over.new.ports) clocks (g.P.Ports.clocks c.run_over.new.ports) (g.K.Sink.written c.args.sink.now) (g.K.Sink.written c.run_over.new.sink)
     (g.K.Sink.faults c.args.sink.now) (g.K.Sink.faults c.run_over.new.sink) k.1.seen)
-    _ _ _ _ _ _ _ _ _ _ c.in-Ok.ensures.bound (c.run_over.ensures.bound ∙ c.with_clocks-ends.ensures.bound) (c.with_clocks-ends.ensures.links ∙ c.in-Ok.ensures.links)
-    (c.with_clocks-ends.ensures.clocks ∙ c.bind_three.ensures.clocks)
-    (rw (c.with_clocks-ends.ensures.camera, c.with_clocks-ends.ensures.stream) at c.run_over.ensures.live)
+    _ _ _ _ _ _ _ _ _ _ c.in-Ok.ensures.bound c.run_over.ensures.bound c.in-Ok.ensures.links c.bind_three.ensures.clocks c.run_over.ensures.live
 
 pub returns-in-Ok-clause-link_fault : goal.returns-in-Ok-clause-link_fault
 returns-in-Ok-clause-link_fault g c fault =
-    subst (λ before. Rose before (g.P.Ports.faults c.run_over.new.ports)) (c.with_clocks-ends.ensures.faults ∙ c.in-Ok.ensures.no_fault) (c.run_over.ensures.link_fault fault)
+    subst (λ before. Rose before (g.P.Ports.faults c.run_over.new.ports)) c.in-Ok.ensures.no_fault (c.run_over.ensures.link_fault fault)

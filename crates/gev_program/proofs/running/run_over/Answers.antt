@@ -17,12 +17,12 @@ returns-in-Ok-clause-live g c =
       host_clock = c.requires.host_clock;
       app_clock = c.requires.app_clock;
     })
-    c.live_over-status.ensures.live c.witness.ensures.run c.give_ends.ensures.links c.give_ends.ensures.clocks
+    c.live_over-status.ensures.live c.witness.ensures.run c.give_back.ensures.links c.give_back.ensures.clocks
 
 pub returns-in-Ok-clause-link_fault : goal.returns-in-Ok-clause-link_fault
 returns-in-Ok-clause-link_fault g c =
     λ is.
-    c.give_ends.ensures.faults.rises
+    c.give_back.ensures.faults.rises
     (one_rose _ _ _ _ _ _ c.requires.camera.no_fault c.requires.stream.no_fault c.requires.control.no_fault
     (link_failed c.args.numbers _ _ _ _ _ _ _ _ _ _ c.live_over-status.ensures.live is))
 
@@ -30,7 +30,7 @@ pub returns-in-Ok-clause-links_steady : goal.returns-in-Ok-clause-links_steady
 returns-in-Ok-clause-links_steady g c =
     λ other.
     let kept = links_kept c.args.numbers _ _ _ _ _ _ _ _ _ _ c.live_over-status.ensures.live other in
-    c.give_ends.ensures.faults.stays
+    c.give_back.ensures.faults.stays
     (omega (arith, kept.camera, kept.stream, kept.control, c.requires.camera.no_fault, c.requires.stream.no_fault, c.requires.control.no_fault))
 
 pub returns-in-Ok-clause-writes_steady : goal.returns-in-Ok-clause-writes_steady

@@ -3,9 +3,11 @@ use Rattle.std.proofs.Common.{sym, ◌∙◌, option_map, subst}
 use Rattle.camera_words.specs.declared.settings.Settings.{Settings}
 use Rattle.camera_words.specs.declared.simulate_words.SimulateWords.{SimulateWords}
 use Rattle.gev_top.specs.declared.command.Command.TheVariants as commands
+use Rattle.gev_top.specs.declared.errand.Errand.{Errand}
 use Rattle.receive_promises.specs.Over.{ReceivesSo}
 use Rattle.gev_program.specs.Cameras.{DiscoversOver, DescribesOver}
 use Rattle.gev_program.specs.Simulation.{SimulatesSo}
+use Rattle.gev_program.specs.Reception.{WritesSteady}
 use Rattle.gev_program.proofs.Errands.{command_is, discover_is, description_is, never_links}
 use Rattle.gev_program.proofs.Simulated.{simulate_is}
 use Rattle.gev_program.proofs.Received.{receive_is, receive_completes}
@@ -75,6 +77,12 @@ returns-in-Receive-clause-receives g c =
     (option_map (λ k. k.1.seen) c.run_receive.new.kept))
     (receive_is c.in-Receive.settings asked c.args.errand c.in-Receive.is is)
     c.run_receive.ensures.receives
+
+pub returns-in-Receive-clause-writes_steady : goal.returns-in-Receive-clause-writes_steady
+returns-in-Receive-clause-writes_steady g c =
+    λ asked is.
+    subst (λ (errand : Errand). WritesSteady errand c.run_receive.result (g.K.Sink.faults c.args.sink.now) (g.K.Sink.faults c.run_receive.new.sink))
+    (sym c.in-Receive.is ∙ is) c.run_receive.ensures.writes_steady
 
 pub returns-in-Receive-clause-complete : goal.returns-in-Receive-clause-complete
 returns-in-Receive-clause-complete g c =
