@@ -276,7 +276,8 @@ def check_interrupts():
     for words in ([], ["until=stdin"]):
         camera = Sender("127.83.4.4")
         try:
-            run = subprocess.Popen(["./gevacq", "receive", "127.83.4.4", "100000", *WORDS, *words], stdin=subprocess.PIPE, stdout=subprocess.PIPE, stderr=subprocess.PIPE, start_new_session=True, preexec_fn=as_by_default)
+            # (without a buffer, of which `communicate` would give nothing back)
+            run = subprocess.Popen(["./gevacq", "receive", "127.83.4.4", "100000", *WORDS, *words], stdin=subprocess.PIPE, stdout=subprocess.PIPE, stderr=subprocess.PIPE, bufsize=0, start_new_session=True, preexec_fn=as_by_default)
             first = run.stdout.readline() + run.stdout.readline()
             os.killpg(run.pid, signal.SIGINT)
             out, err = run.communicate(timeout=60)
