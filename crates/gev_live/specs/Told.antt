@@ -14,7 +14,6 @@ use Rattle.gev_acq.specs.Turns.{Outside}
 use Rattle.gev_acq.specs.declared.acquired.Acquired.{Acquired}
 use Rattle.gev_serve.specs.declared.working.CameraDone.{CameraDone}
 use Rattle.gev_apply.specs.declared.working.ApplicationDone.{ApplicationDone}
-use Rattle.gev_live.specs.declared.ends.Ends.{Ends}
 
 -- how a live run receives: packets of 1500 bytes, two open blocks, 200 and 20 milliseconds, three rounds
 abbrev pub live_config : AcqConfig
@@ -38,28 +37,33 @@ pub record Told : Type 0 where
   pub host_clock : Option (List ℕ)
   pub app_clock : Option (List ℕ)
 
--- what the links and the clocks of a run tell, by what each link was received, sent and failed, and each clock told
+-- the same of these links and clocks, by what each link was received, sent and failed, and each clock told
 abbrev pub told_by : {L S C : Type 0} → (L → Option (List Answer)) → (L → Option (List (Address × List ℕ))) → (L → ℕ) → (S → Option (List Answer)) → (S → Option (List (Address × List ℕ))) → (S → ℕ)
-    → (C → Option (List ℕ)) → Ends L S C → Told
-told_by received sent faults stream_received stream_sent stream_faults told ends = record {
-  camera = wire (received ends.camera) (sent ends.camera) (faults ends.camera);
-  stream = wire (stream_received ends.stream) (stream_sent ends.stream) (stream_faults ends.stream);
-  control = wire (received ends.control) (sent ends.control) (faults ends.control);
-  camera_clock = told ends.camera_clock;
-  host_clock = told ends.host_clock;
-  app_clock = told ends.app_clock;
+    → (C → Option (List ℕ)) → L → S → L → C → C → C → Told
+told_by received sent faults stream_received stream_sent stream_faults told camera stream control camera_clock host_clock app_clock = record {
+  camera = wire (received camera) (sent camera) (faults camera);
+  stream = wire (stream_received stream) (stream_sent stream) (stream_faults stream);
+  control = wire (received control) (sent control) (faults control);
+  camera_clock = told camera_clock;
+  host_clock = told host_clock;
+  app_clock = told app_clock;
 }
 
--- the links and clocks that the workers gave back
-abbrev pub ends_back : {L S C : Type 0} → CameraDone L C → Acquired S L C → ApplicationDone C → Ends L S C
-ends_back served acquired applied = record {
-  camera = served.link;
-  stream = acquired.host.stream;
-  control = acquired.host.control;
-  camera_clock = served.clock;
-  host_clock = acquired.host.clock;
-  app_clock = applied.clock;
-}
+-- The links and the clocks of a run, and what they tell.
+pub record EndsState (L S C : Type 0) : Type 0 where
+  pub camera : L
+  pub stream : S
+  pub control : L
+  pub camera_clock : C
+  pub host_clock : C
+  pub app_clock : C
+  pub told : Told
+
+-- what the links and the clocks tell that the workers gave back
+abbrev pub told_back : {L S C : Type 0} → (L → Option (List Answer)) → (L → Option (List (Address × List ℕ))) → (L → ℕ) → (S → Option (List Answer)) → (S → Option (List (Address × List ℕ))) → (S → ℕ)
+    → (C → Option (List ℕ)) → CameraDone L C → Acquired S L C → ApplicationDone C → Told
+told_back received sent faults stream_received stream_sent stream_faults told served acquired applied =
+    told_by received sent faults stream_received stream_sent stream_faults told served.link acquired.host.stream acquired.host.control served.clock acquired.host.clock applied.clock
 
 -- what the reader is told, with its client
 abbrev pub reader_side : Told → Client → Outside

@@ -2,7 +2,7 @@
 
 ghost use Rattle.std.specs.Prelude.{◌≡◌, ◌++◌, true};
 ghost use Rattle.gev_report.specs.LiveLine.{live_line};
-ghost use Rattle.gev_live.specs.Told.{ends_back};
+ghost use Rattle.gev_live.specs.Told.{told_back};
 ghost use Rattle.gev_live.specs.Endings.{taken_of, read_status, application_status, camera_status, status_by, is_told, IsAnswer, EndsSo};
 
 use crate::counting::{Tally, tell_counts};
@@ -11,7 +11,7 @@ use crate::numbers::Numbers;
 use gev_acq::{Acquired, Host, Turn};
 use gev_apply::ApplicationDone;
 use gev_control::AcqEnd;
-use gev_links::{Sink, write_all};
+use gev_links::{Clock, Link, Sink, write_all};
 use gev_report::line_live;
 use gev_serve::{CameraDone, ServeEnd};
 use gev_status::Status;
@@ -199,7 +199,7 @@ fn finish<K: Sink>(
 
 /// The answer of a run whose workers gave this back, after what was counted was told, and the lines were written where
 /// the answer wants that; with the links and clocks, and the reader's journal.
-pub(crate) fn end_run<L, S, C, K: Sink>(
+pub(crate) fn end_run<L: Link, S: Link, C: Clock, K: Sink>(
     alloc: Global,
     sink: &mut K,
     numbers: Numbers,
@@ -207,7 +207,7 @@ pub(crate) fn end_run<L, S, C, K: Sink>(
 ) -> (Status, Ends<L, S, C>, Vec<Turn>)
     ensures ends { EndsSo (status_by done.0.end done.1.end numbers.frames numbers.turns done.2.answer) result.0 (done.2.lines.items ++ live_line numbers.frames (taken_of done.2.answer))
         (K.written sink.old) (K.written sink.new) (K.faults sink.old) (K.faults sink.new) }
-    ensures back { result.1 ≡ ends_back done.0 done.1 done.2 }
+    ensures back { result.1.told ≡ told_back L.received L.sent L.faults S.received S.sent S.faults C.told done.0 done.1 done.2 }
     ensures journal { result.2.items ≡ done.1.journal.items }
 {
     let (watched, acquired, applied) = done;

@@ -4,7 +4,7 @@ ghost use Rattle.std.specs.Prelude.{◌≡◌, ◌<◌, [], vec_capacity};
 ghost use Rattle.board_machine.specs.Actors.{born};
 ghost use Rattle.buffer_words.specs.Boards.{board_id};
 ghost use Rattle.buffer_words.specs.Passes.{SameHands, own};
-ghost use Rattle.gev_live.specs.Told.{live_camera, told_by, ends_back};
+ghost use Rattle.gev_live.specs.Told.{live_camera, told_back};
 ghost use Rattle.gev_live.specs.LanesMade.{AreNew};
 ghost use Rattle.gev_live.specs.LanesRan.{RanLanes};
 
@@ -52,8 +52,7 @@ pub(crate) fn run_lanes_crew<
     ensures table { pass.new.table ≡ pass.old.table }
     ensures hands { SameHands pass.old pass.new }
     ensures ran { RanLanes numbers.mode numbers.lanes (live_camera numbers.seed) (L.address ends.camera) (S.address ends.stream)
-        (told_by L.received L.sent L.faults S.received S.sent S.faults C.told ends)
-        (told_by L.received L.sent L.faults S.received S.sent S.faults C.told (ends_back result.0 result.1 result.2))
+        ends.told (told_back L.received L.sent L.faults S.received S.sent S.faults C.told result.0 result.1 result.2)
         numbers.frames numbers.turns result.0.end result.1.end result.2.answer result.2.lines.items pass.old pass.new }
 {
     let Ends {

@@ -8,7 +8,6 @@ ghost use Rattle.board_machine.specs.Histories.{After};
 ghost use Rattle.board_machine.specs.Laws.{IsAlone};
 ghost use Rattle.buffer_words.specs.Boards.{board_id};
 ghost use Rattle.buffer_words.specs.Passes.{SameHands};
-ghost use Rattle.gev_live.specs.Told.{told_by};
 ghost use Rattle.gev_live.specs.LanesRun.{RunsLanes, RunsSo};
 ghost use Rattle.gev_live.specs.Journal.{RunsWithJournal};
 
@@ -59,9 +58,7 @@ pub fn live_with_journal<
     ensures table { pass.new.table ≡ pass.old.table }
     ensures hands { SameHands pass.old pass.new }
     ensures live { RunsWithJournal numbers (L.address ends.camera) (S.address ends.stream) result.0
-        (told_by L.received L.sent L.faults S.received S.sent S.faults C.told ends)
-        (told_by L.received L.sent L.faults S.received S.sent S.faults C.told result.1)
-        (K.written sink.old) (K.written sink.new) (K.faults sink.old) (K.faults sink.new) pass.new.seen result.2.items }
+        ends.told result.1.told (K.written sink.old) (K.written sink.new) (K.faults sink.old) (K.faults sink.new) pass.new.seen result.2.items }
 {
     match make_tools(alloc, numbers.seed, numbers.turns) {
         Ok(made) => match prepare(alloc, board, pass, BUFFER_SIZE, numbers.buffers) {
@@ -103,9 +100,7 @@ fn live_with_lanes<
     ensures table { pass.new.table ≡ pass.old.table }
     ensures hands { SameHands pass.old pass.new }
     ensures live { RunsLanes numbers numbers.lanes (L.address ends.camera) (S.address ends.stream) result.0
-        (told_by L.received L.sent L.faults S.received S.sent S.faults C.told ends)
-        (told_by L.received L.sent L.faults S.received S.sent S.faults C.told result.1)
-        (K.written sink.old) (K.written sink.new) (K.faults sink.old) (K.faults sink.new) pass.new.seen }
+        ends.told result.1.told (K.written sink.old) (K.written sink.new) (K.faults sink.old) (K.faults sink.new) pass.new.seen }
 {
     match make_lanes_tools(alloc, numbers.seed, numbers.lanes) {
         Ok(made) => match prepare(alloc, board, pass, BUFFER_SIZE, numbers.buffers) {
@@ -148,9 +143,7 @@ fn run_over<
     ensures table { pass.new.table ≡ pass.old.table }
     ensures hands { SameHands pass.old pass.new }
     ensures live { RunsSo numbers (L.address ends.camera) (S.address ends.stream) result.0
-        (told_by L.received L.sent L.faults S.received S.sent S.faults C.told ends)
-        (told_by L.received L.sent L.faults S.received S.sent S.faults C.told result.1)
-        (K.written sink.old) (K.written sink.new) (K.faults sink.old) (K.faults sink.new) pass.new.seen }
+        ends.told result.1.told (K.written sink.old) (K.written sink.new) (K.faults sink.old) (K.faults sink.new) pass.new.seen }
 {
     if numbers.lanes == 1 {
         let (status, ends, _journal) = live_with_journal(
@@ -206,13 +199,11 @@ pub fn live_over<
     ensures hands { SameHands pass.old pass.new }
     ensures alone { IsAlone (After pass.new.seen) 0 }
     ensures live { RunsSo (record { seed = seed; frames = frames; buffers = buffers; lanes = lanes; turns = turns; mode = mode }) (L.address ends.camera) (S.address ends.stream) result.0
-        (told_by L.received L.sent L.faults S.received S.sent S.faults C.told ends)
-        (told_by L.received L.sent L.faults S.received S.sent S.faults C.told result.1)
-        (K.written sink.old) (K.written sink.new) (K.faults sink.old) (K.faults sink.new) pass.new.seen }
+        ends.told result.1.told (K.written sink.old) (K.written sink.new) (K.faults sink.old) (K.faults sink.new) pass.new.seen }
     ensures links_steady { result.0 ≢ Status.LinkFault
-        → (L.faults result.1.camera ≡ L.faults ends.camera) × (S.faults result.1.stream ≡ S.faults ends.stream) × (L.faults result.1.control ≡ L.faults ends.control) }
+        → (result.1.told.camera.faults ≡ ends.told.camera.faults) × (result.1.told.stream.faults ≡ ends.told.stream.faults) × (result.1.told.control.faults ≡ ends.told.control.faults) }
     ensures link_fault { result.0 ≡ Status.LinkFault
-        → Rose (L.faults ends.camera) (L.faults result.1.camera) ⊎ Rose (S.faults ends.stream) (S.faults result.1.stream) ⊎ Rose (L.faults ends.control) (L.faults result.1.control) }
+        → Rose ends.told.camera.faults result.1.told.camera.faults ⊎ Rose ends.told.stream.faults result.1.told.stream.faults ⊎ Rose ends.told.control.faults result.1.told.control.faults }
     ensures writes_steady { result.0 ≢ Status.WriteFault → K.faults sink.new ≡ K.faults sink.old }
 {
     let numbers = Numbers {

@@ -6,6 +6,7 @@ ghost use Rattle.gev_links.specs.Given.{one_more};
 ghost use Rattle.gev_links.specs.Links.{IsBlank};
 ghost use Rattle.gev_links.specs.PortsState.{IsNew};
 ghost use Rattle.gev_program.specs.Bound.{AllToldOfThree, GivesBack, more_binds};
+ghost use Rattle.gev_program.specs.Runs.{IsUntold};
 
 use gev_links::{Failed, Ports};
 use gev_live::Ends;
@@ -17,6 +18,10 @@ fn with_clocks<P: Ports>(
     stream: P::L,
     control: P::L,
 ) -> Ends<P::L, P::L, P::C>
+    requires camera { IsNew (P.L.received camera) (P.L.sent camera) (P.L.faults camera) }
+    requires stream { IsNew (P.L.received stream) (P.L.sent stream) (P.L.faults stream) }
+    requires control { IsNew (P.L.received control) (P.L.sent control) (P.L.faults control) }
+    ensures untold { IsUntold result.told }
     ensures camera { result.camera ≡ camera }
     ensures stream { result.stream ≡ stream }
     ensures control { result.control ≡ control }
@@ -56,6 +61,7 @@ fn bind_last<P: Ports>(
     ensures camera_clock { IfOk result (λ ends. IsBlank (P.C.told ends.camera_clock)) }
     ensures host_clock { IfOk result (λ ends. IsBlank (P.C.told ends.host_clock)) }
     ensures app_clock { IfOk result (λ ends. IsBlank (P.C.told ends.app_clock)) }
+    ensures untold { IfOk result (λ ends. IsUntold ends.told) }
     ensures called { P.binds ports.new ≡ one_more (P.binds ports.old) }
     ensures links { OnOk result (P.links ports.new ≡ P.links ports.old) }
     ensures back { OnErr result (AllToldOfThree (P.links ports.old) (P.links ports.new) (camera ∷ stream ∷ [])) }
@@ -86,6 +92,7 @@ fn bind_two<P: Ports>(ports: &mut P, camera: P::L) -> Result<Ends<P::L, P::L, P:
     ensures camera_clock { IfOk result (λ ends. IsBlank (P.C.told ends.camera_clock)) }
     ensures host_clock { IfOk result (λ ends. IsBlank (P.C.told ends.host_clock)) }
     ensures app_clock { IfOk result (λ ends. IsBlank (P.C.told ends.app_clock)) }
+    ensures untold { IfOk result (λ ends. IsUntold ends.told) }
     ensures called { OnOk result (P.binds ports.new ≡ more_binds 2 (P.binds ports.old)) }
     ensures links { OnOk result (P.links ports.new ≡ P.links ports.old) }
     ensures back { OnErr result ((before : ℕ) → P.binds ports.old ≡ one_more before
@@ -116,6 +123,7 @@ pub fn bind_three<P: Ports>(ports: &mut P) -> Result<Ends<P::L, P::L, P::C>, Fai
     ensures camera_clock { IfOk result (λ ends. IsBlank (P.C.told ends.camera_clock)) }
     ensures host_clock { IfOk result (λ ends. IsBlank (P.C.told ends.host_clock)) }
     ensures app_clock { IfOk result (λ ends. IsBlank (P.C.told ends.app_clock)) }
+    ensures untold { IfOk result (λ ends. IsUntold ends.told) }
     ensures few { P.binds ports.new ≤ P.binds ports.old + 3 }
     ensures called { OnOk result (P.binds ports.new ≡ more_binds 3 (P.binds ports.old)) }
     ensures links { OnOk result (P.links ports.new ≡ P.links ports.old) }

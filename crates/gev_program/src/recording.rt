@@ -5,12 +5,11 @@ ghost use Rattle.board_machine.specs.Histories.{After};
 ghost use Rattle.board_machine.specs.Laws.{IsAlone};
 ghost use Rattle.gev_links.specs.Faults.{Rose};
 ghost use Rattle.gev_links.specs.Links.{IsBlank};
-ghost use Rattle.gev_links.specs.PortsState.{IsNew};
 ghost use Rattle.gev_program.specs.Bound.{AllToldOfThree, RaisesBy};
 ghost use Rattle.gev_top.specs.LiveWords.{IsRecordable};
 ghost use Rattle.gev_top.specs.Completeness.{NoneRose, EndsLive};
 ghost use Rattle.buffer_words.specs.Boards.{board_id};
-ghost use Rattle.gev_program.specs.Runs.{GivesAllBack, IsBound, RecordsOver, RunsNothing};
+ghost use Rattle.gev_program.specs.Runs.{GivesAllBack, IsBound, IsUntold, RecordsOver, RunsNothing, told_by};
 
 use crate::binding::bind_three;
 use crate::returning::give_back;
@@ -33,15 +32,12 @@ fn with_tape<P: Ports>(
     ends: Ends<P::L, P::L, P::C>,
     turns: u32,
 ) -> Result<Ends<P::L, Tape<P::L>, P::C>, Ends<P::L, P::L, P::C>>
-    requires stream { IsBlank (P.L.received ends.stream) }
+    requires stream { IsBlank ends.told.stream.received }
     ensures camera { IfOk result (λ made. made.camera ≡ ends.camera) }
     ensures stream { IfOk result (λ made. made.stream.inner ≡ ends.stream) }
     ensures turns { IfOk result (λ made. made.stream.turns ≡ turns) }
     ensures kept { IfOk result (λ made. made.stream.kept ≡ []) }
-    ensures control { IfOk result (λ made. made.control ≡ ends.control) }
-    ensures camera_clock { IfOk result (λ made. made.camera_clock ≡ ends.camera_clock) }
-    ensures host_clock { IfOk result (λ made. made.host_clock ≡ ends.host_clock) }
-    ensures app_clock { IfOk result (λ made. made.app_clock ≡ ends.app_clock) }
+    ensures told { IfOk result (λ made. made.told ≡ ends.told) }
     ensures back { IfErr result (λ same. same ≡ ends) }
 {
     let Ends {
@@ -79,6 +75,7 @@ fn give_taped<P: Ports>(ports: &mut P, ends: Ends<P::L, Tape<P::L>, P::C>)
     ensures binds { P.binds ports.new ≡ P.binds ports.old }
     ensures bound { P.bound ports.new ≡ P.bound ports.old }
     ensures faults { RaisesBy (P.L.faults ends.camera) (P.L.faults ends.stream.inner) (P.L.faults ends.control) (P.faults ports.old) (P.faults ports.new) }
+    ensures told { ends.told ≡ told_by P.L.received P.L.sent P.L.faults P.C.told ends.camera ends.stream.inner ends.control ends.camera_clock ends.host_clock ends.app_clock }
 {
     let Ends {
         camera,
@@ -114,12 +111,7 @@ fn record_on<R: Threads + Wait + Sync, K: Sink, P: Ports, G: Gate + Sync>(
     requires unkept { kept.old ≡ None }
     requires turns { ends.stream.turns ≡ numbers.turns }
     requires empty { ends.stream.kept ≡ [] }
-    requires camera { IsNew (P.L.received ends.camera) (P.L.sent ends.camera) (P.L.faults ends.camera) }
-    requires stream { IsNew (P.L.received ends.stream.inner) (P.L.sent ends.stream.inner) (P.L.faults ends.stream.inner) }
-    requires control { IsNew (P.L.received ends.control) (P.L.sent ends.control) (P.L.faults ends.control) }
-    requires camera_clock { IsBlank (P.C.told ends.camera_clock) }
-    requires host_clock { IsBlank (P.C.told ends.host_clock) }
-    requires app_clock { IsBlank (P.C.told ends.app_clock) }
+    requires untold { IsUntold ends.told }
     ensures recorded { IfSome kept.new (λ k. RecordsOver P.L.received P.L.sent P.L.faults P.C.told numbers (P.L.address ends.camera) (P.L.address ends.stream.inner) result (P.links ports.old) (P.links ports.new)
         (P.clocks ports.old) (P.clocks ports.new) (K.written sink.old) (K.written sink.new) (K.faults sink.old) (K.faults sink.new) k.1.seen) }
     ensures alone { IfSome kept.new (λ k. IsAlone (After k.1.seen) 0) }
@@ -178,12 +170,7 @@ fn record_new<R: Threads + Wait + Sync, K: Sink, P: Ports, G: Gate + Sync>(
 ) -> Status
     requires within { IsRecordable numbers }
     requires unkept { kept.old ≡ None }
-    requires camera { IsNew (P.L.received ends.camera) (P.L.sent ends.camera) (P.L.faults ends.camera) }
-    requires stream { IsNew (P.L.received ends.stream) (P.L.sent ends.stream) (P.L.faults ends.stream) }
-    requires control { IsNew (P.L.received ends.control) (P.L.sent ends.control) (P.L.faults ends.control) }
-    requires camera_clock { IsBlank (P.C.told ends.camera_clock) }
-    requires host_clock { IsBlank (P.C.told ends.host_clock) }
-    requires app_clock { IsBlank (P.C.told ends.app_clock) }
+    requires untold { IsUntold ends.told }
     ensures recorded { IfSome kept.new (λ k. RecordsOver P.L.received P.L.sent P.L.faults P.C.told numbers (P.L.address ends.camera) (P.L.address ends.stream) result (P.links ports.old) (P.links ports.new)
         (P.clocks ports.old) (P.clocks ports.new) (K.written sink.old) (K.written sink.new) (K.faults sink.old) (K.faults sink.new) k.1.seen) }
     ensures alone { IfSome kept.new (λ k. IsAlone (After k.1.seen) 0) }

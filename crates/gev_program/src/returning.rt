@@ -2,6 +2,7 @@
 
 ghost use Rattle.std.specs.Prelude.{◌≡◌, [], ◌∷◌};
 ghost use Rattle.gev_program.specs.Bound.{AllToldOfThree, RaisesBy};
+ghost use Rattle.gev_program.specs.Runs.{told_by};
 
 use gev_links::Ports;
 use gev_live::Ends;
@@ -14,6 +15,7 @@ pub fn give_back<P: Ports>(ports: &mut P, ends: Ends<P::L, P::L, P::C>)
     ensures binds { P.binds ports.new ≡ P.binds ports.old }
     ensures bound { P.bound ports.new ≡ P.bound ports.old }
     ensures faults { RaisesBy (P.L.faults ends.camera) (P.L.faults ends.stream) (P.L.faults ends.control) (P.faults ports.old) (P.faults ports.new) }
+    ensures told { ends.told ≡ told_by P.L.received P.L.sent P.L.faults P.C.told ends.camera ends.stream ends.control ends.camera_clock ends.host_clock ends.app_clock }
 {
     let Ends {
         camera,

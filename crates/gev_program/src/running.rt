@@ -4,12 +4,10 @@ ghost use Rattle.std.specs.Prelude.{◌≡◌, ◌≢◌, ◌+◌, ◌≤◌, �
 ghost use Rattle.board_machine.specs.Histories.{After};
 ghost use Rattle.board_machine.specs.Laws.{IsAlone};
 ghost use Rattle.gev_links.specs.Faults.{Rose};
-ghost use Rattle.gev_links.specs.Links.{IsBlank};
-ghost use Rattle.gev_links.specs.PortsState.{IsNew};
 ghost use Rattle.gev_top.specs.LiveWords.{IsInRange};
 ghost use Rattle.gev_top.specs.Completeness.{NoneRose, EndsLive};
 ghost use Rattle.buffer_words.specs.Boards.{board_id};
-ghost use Rattle.gev_program.specs.Runs.{GivesAllBack, IsBound, RunsOver, RunsNothing};
+ghost use Rattle.gev_program.specs.Runs.{GivesAllBack, IsBound, IsUntold, RunsOver, RunsNothing};
 
 use crate::binding::bind_three;
 use crate::returning::give_back;
@@ -35,12 +33,7 @@ fn run_over<R: Threads + Wait + Sync, K: Sink, P: Ports, G: Gate + Sync>(
 ) -> Status
     requires within { IsInRange numbers }
     requires unkept { kept.old ≡ None }
-    requires camera { IsNew (P.L.received ends.camera) (P.L.sent ends.camera) (P.L.faults ends.camera) }
-    requires stream { IsNew (P.L.received ends.stream) (P.L.sent ends.stream) (P.L.faults ends.stream) }
-    requires control { IsNew (P.L.received ends.control) (P.L.sent ends.control) (P.L.faults ends.control) }
-    requires camera_clock { IsBlank (P.C.told ends.camera_clock) }
-    requires host_clock { IsBlank (P.C.told ends.host_clock) }
-    requires app_clock { IsBlank (P.C.told ends.app_clock) }
+    requires untold { IsUntold ends.told }
     ensures live { IfSome kept.new (λ k. RunsOver P.L.received P.L.sent P.L.faults P.C.told numbers (P.L.address ends.camera) (P.L.address ends.stream) result (P.links ports.old) (P.links ports.new)
         (P.clocks ports.old) (P.clocks ports.new) (K.written sink.old) (K.written sink.new) (K.faults sink.old) (K.faults sink.new) k.1.seen) }
     ensures alone { IfSome kept.new (λ k. IsAlone (After k.1.seen) 0) }

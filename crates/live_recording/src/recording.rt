@@ -8,7 +8,6 @@ ghost use Rattle.board_machine.specs.Histories.{After};
 ghost use Rattle.board_machine.specs.Laws.{IsAlone};
 ghost use Rattle.buffer_words.specs.Boards.{board_id};
 ghost use Rattle.buffer_words.specs.Passes.{SameHands};
-ghost use Rattle.gev_serve.specs.Wires.{wire};
 ghost use Rattle.gev_live.specs.Endings.{is_told};
 ghost use Rattle.mode_calls.specs.declared.mode.Mode.TheVariants as Mode;
 ghost use Rattle.live_recording.specs.Recorded.{answer_by, Finishes, RecordsLive};
@@ -159,27 +158,11 @@ pub fn record_over<
     ensures hands { SameHands pass.old pass.new }
     ensures alone { IsAlone (After pass.new.seen) 0 }
     ensures records { RecordsLive (record { seed = seed; frames = frames; buffers = buffers; lanes = 1; turns = turns; mode = Mode.OldestFirst }) (L.address ends.camera) (L.address ends.stream.inner) result.0
-        (record {
-          camera = wire (L.received ends.camera) (L.sent ends.camera) (L.faults ends.camera);
-          stream = wire (L.received ends.stream.inner) (L.sent ends.stream.inner) (L.faults ends.stream.inner);
-          control = wire (L.received ends.control) (L.sent ends.control) (L.faults ends.control);
-          camera_clock = C.told ends.camera_clock;
-          host_clock = C.told ends.host_clock;
-          app_clock = C.told ends.app_clock;
-        })
-        (record {
-          camera = wire (L.received result.1.camera) (L.sent result.1.camera) (L.faults result.1.camera);
-          stream = wire (L.received result.1.stream.inner) (L.sent result.1.stream.inner) (L.faults result.1.stream.inner);
-          control = wire (L.received result.1.control) (L.sent result.1.control) (L.faults result.1.control);
-          camera_clock = C.told result.1.camera_clock;
-          host_clock = C.told result.1.host_clock;
-          app_clock = C.told result.1.app_clock;
-        })
-        result.1.stream.kept (K.written sink.old) (K.written sink.new) (K.faults sink.old) (K.faults sink.new) pass.new.seen }
+        ends.told result.1.told result.1.stream.kept (K.written sink.old) (K.written sink.new) (K.faults sink.old) (K.faults sink.new) pass.new.seen }
     ensures links_steady { result.0 ≢ Status.LinkFault
-        → (L.faults result.1.camera ≡ L.faults ends.camera) × (L.faults result.1.stream.inner ≡ L.faults ends.stream.inner) × (L.faults result.1.control ≡ L.faults ends.control) }
+        → (result.1.told.camera.faults ≡ ends.told.camera.faults) × (result.1.told.stream.faults ≡ ends.told.stream.faults) × (result.1.told.control.faults ≡ ends.told.control.faults) }
     ensures link_fault { result.0 ≡ Status.LinkFault
-        → Rose (L.faults ends.camera) (L.faults result.1.camera) ⊎ Rose (L.faults ends.stream.inner) (L.faults result.1.stream.inner) ⊎ Rose (L.faults ends.control) (L.faults result.1.control) }
+        → Rose ends.told.camera.faults result.1.told.camera.faults ⊎ Rose ends.told.stream.faults result.1.told.stream.faults ⊎ Rose ends.told.control.faults result.1.told.control.faults }
     ensures writes_steady { result.0 ≢ Status.WriteFault → K.faults sink.new ≡ K.faults sink.old }
 {
     let mut nowhere = Nowhere::new(alloc);

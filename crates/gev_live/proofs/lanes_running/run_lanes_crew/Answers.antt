@@ -18,7 +18,7 @@ returns-clause-hands g c = hands_then c.args.pass.now c.split_lanes-tools.new.pa
 pub returns-clause-ran : goal.returns-clause-ran
 returns-clause-ran g c =
     let r = c.work_with_lanes.ensures.ran in
-    record {
+    rw (← c.ends.view_is) (record {
       off = c.split_lanes-tools.new.pass;
       one = r.one;
       two = r.two;
@@ -58,4 +58,4 @@ returns-clause-ran g c =
       applies = applies_new _ _ _ _ _ _ _ _ _ c.new-2.ensures.items r.did_third.0;
       owned = r.owned;
       legal = r.legal;
-    }
+    })

@@ -1,12 +1,11 @@
-use Rattle.std.proofs.Common.{ap, inl, inr}
+use Rattle.std.proofs.Common.{inl, inr}
 use Rattle.buffer_words.proofs.Hands.{hands_then}
-use Rattle.gev_live.specs.Told.{told_by}
 use Rattle.gev_live.proofs.Telling.{ran_with_journal, noted_as, never_begun}
 use Rattle.gev_live.proofs.live.live_with_journal.Goals as goal
 
 pub returns-in-Ok-prepare-clause-live : goal.returns-in-Ok-prepare-clause-live
 returns-in-Ok-prepare-clause-live g c =
-    inl (noted_as _ _ _ _ _ _ _ _ _ _ _ _ _ _ (ap (told_by g.L.Link.received g.L.Link.sent g.L.Link.faults g.S.Link.received g.S.Link.sent g.S.Link.faults g.C.Clock.told) c.end_run.ensures.back) c.end_run.ensures.journal
+    inl (noted_as _ _ _ _ _ _ _ _ _ _ _ _ _ _ c.end_run.ensures.back c.end_run.ensures.journal
     (ran_with_journal c.args.numbers _ _ _ _ _ c.run_crew-done.result.0.end c.run_crew-done.result.1.end c.run_crew-done.result.2.answer c.run_crew-done.result.2.lines.items _ _ _ _ c.prepare.new.pass _ _
     c.in-Ok-prepare.ensures.prepares c.run_crew-done.ensures.ran c.end_run.ensures.ends))
 

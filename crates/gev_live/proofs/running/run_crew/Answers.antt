@@ -4,7 +4,8 @@ use Rattle.gev_live.proofs.running.run_crew.Goals as goal
 
 pub returns-clause-ran : goal.returns-clause-ran
 returns-clause-ran g c =
-    let r = c.work_with_reader.ensures.ran in (
+    let r = c.work_with_reader.ensures.ran in
+    rw (← c.ends.view_is) (
       record {
         one = r.one;
         two = r.two;

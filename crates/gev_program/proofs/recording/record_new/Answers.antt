@@ -13,14 +13,7 @@ returns-in-Err-clause-back g c =
       camera_clock = c.args.ends.camera_clock;
       host_clock = c.args.ends.host_clock;
       app_clock = c.args.ends.app_clock;
-      untold = record {
-        camera = c.requires.camera;
-        stream = c.requires.stream;
-        control = c.requires.control;
-        camera_clock = c.requires.camera_clock;
-        host_clock = c.requires.host_clock;
-        app_clock = c.requires.app_clock;
-      };
+      untold = rw (rw c.in-Err.ensures.back at c.give_back.ensures.told) at c.requires.untold;
       links_back = subst (λ same. AllToldOfThree (g.P.Ports.links c.args.ports.now) (g.P.Ports.links c.give_back.new.ports) (same.camera ∷ same.stream ∷ same.control ∷ []))
           c.in-Err.ensures.back c.give_back.ensures.links;
       clocks_back = subst (λ same. AllToldOfThree (g.P.Ports.clocks c.args.ports.now) (g.P.Ports.clocks c.give_back.new.ports) (same.camera_clock ∷ same.host_clock ∷ same.app_clock ∷ []))

@@ -7,29 +7,21 @@ use Rattle.gev_program.proofs.recording.record_on.Goals as goal
 pub returns-in-Ok-clause-recorded : goal.returns-in-Ok-clause-recorded
 returns-in-Ok-clause-recorded g c =
     recorded_over _ _ _ _ _ _ _ _ _ _ _ _ _ _ _ _ _ _ _ _ _ _ _ _ _
-    (record {
-      camera = c.requires.camera;
-      stream = c.requires.stream;
-      control = c.requires.control;
-      camera_clock = c.requires.camera_clock;
-      host_clock = c.requires.host_clock;
-      app_clock = c.requires.app_clock;
-    })
-    c.requires.within.mode c.record_over-status.ensures.records c.give_taped.ensures.links c.give_taped.ensures.clocks
+    c.requires.untold c.requires.within.mode (rw c.give_taped.ensures.told at c.record_over-status.ensures.records) c.give_taped.ensures.links c.give_taped.ensures.clocks
 
 pub returns-in-Ok-clause-link_fault : goal.returns-in-Ok-clause-link_fault
 returns-in-Ok-clause-link_fault g c =
     λ is.
     c.give_taped.ensures.faults.rises
-    (one_rose _ _ _ _ _ _ c.requires.camera.no_fault c.requires.stream.no_fault c.requires.control.no_fault
-    (c.record_over-status.ensures.link_fault is))
+    (one_rose _ _ _ _ _ _ c.requires.untold.camera.no_fault c.requires.untold.stream.no_fault c.requires.untold.control.no_fault
+    ((rw c.give_taped.ensures.told at c.record_over-status.ensures.link_fault) is))
 
 pub returns-in-Ok-clause-links_steady : goal.returns-in-Ok-clause-links_steady
 returns-in-Ok-clause-links_steady g c =
     λ other.
-    let kept = c.record_over-status.ensures.links_steady other in
+    let kept = (rw c.give_taped.ensures.told at c.record_over-status.ensures.links_steady) other in
     c.give_taped.ensures.faults.stays
-    (omega (arith, kept.0, kept.1, kept.2, c.requires.camera.no_fault, c.requires.stream.no_fault, c.requires.control.no_fault))
+    (omega (arith, kept.0, kept.1, kept.2, c.requires.untold.camera.no_fault, c.requires.untold.stream.no_fault, c.requires.untold.control.no_fault))
 
 pub returns-in-Ok-clause-understood : goal.returns-in-Ok-clause-understood
 returns-in-Ok-clause-understood g c = λ place. record_understood _ _ _ _ _ _ _ _ _ _ _ _ c.record_over-status.ensures.records place

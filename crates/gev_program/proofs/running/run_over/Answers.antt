@@ -9,29 +9,21 @@ use Rattle.gev_program.proofs.running.run_over.Goals as goal
 pub returns-in-Ok-clause-live : goal.returns-in-Ok-clause-live
 returns-in-Ok-clause-live g c =
     ran_over _ _ _ _ _ _ _ _ _ _ _ _ _ _ _ _ _ _ _ _ _ _ _ _
-    (record {
-      camera = c.requires.camera;
-      stream = c.requires.stream;
-      control = c.requires.control;
-      camera_clock = c.requires.camera_clock;
-      host_clock = c.requires.host_clock;
-      app_clock = c.requires.app_clock;
-    })
-    c.live_over-status.ensures.live c.witness.ensures.run c.give_back.ensures.links c.give_back.ensures.clocks
+    c.requires.untold (rw c.give_back.ensures.told at c.live_over-status.ensures.live) c.witness.ensures.run c.give_back.ensures.links c.give_back.ensures.clocks
 
 pub returns-in-Ok-clause-link_fault : goal.returns-in-Ok-clause-link_fault
 returns-in-Ok-clause-link_fault g c =
     λ is.
     c.give_back.ensures.faults.rises
-    (one_rose _ _ _ _ _ _ c.requires.camera.no_fault c.requires.stream.no_fault c.requires.control.no_fault
-    (link_failed c.args.numbers _ _ _ _ _ _ _ _ _ _ c.live_over-status.ensures.live is))
+    (one_rose _ _ _ _ _ _ c.requires.untold.camera.no_fault c.requires.untold.stream.no_fault c.requires.untold.control.no_fault
+    (link_failed c.args.numbers _ _ _ _ _ _ _ _ _ _ (rw c.give_back.ensures.told at c.live_over-status.ensures.live) is))
 
 pub returns-in-Ok-clause-links_steady : goal.returns-in-Ok-clause-links_steady
 returns-in-Ok-clause-links_steady g c =
     λ other.
-    let kept = links_kept c.args.numbers _ _ _ _ _ _ _ _ _ _ c.live_over-status.ensures.live other in
+    let kept = links_kept c.args.numbers _ _ _ _ _ _ _ _ _ _ (rw c.give_back.ensures.told at c.live_over-status.ensures.live) other in
     c.give_back.ensures.faults.stays
-    (omega (arith, kept.camera, kept.stream, kept.control, c.requires.camera.no_fault, c.requires.stream.no_fault, c.requires.control.no_fault))
+    (omega (arith, kept.camera, kept.stream, kept.control, c.requires.untold.camera.no_fault, c.requires.untold.stream.no_fault, c.requires.untold.control.no_fault))
 
 pub returns-in-Ok-clause-writes_steady : goal.returns-in-Ok-clause-writes_steady
 returns-in-Ok-clause-writes_steady g c = λ other. writes_kept c.args.numbers _ _ _ _ _ _ _ _ _ _ c.live_over-status.ensures.live other

@@ -5,8 +5,9 @@ use Rattle.live_recording.proofs.recording.record_over.Goals as goal
 
 pub returns-clause-records : goal.returns-clause-records
 returns-clause-records g c =
-    recorded _ _ _ c.live_with_journal-lived.result.0 _ _ _ _ _ c.live_with_journal-lived.result.2.items c.as_slice.result.now _ _ _ _ _ refl c.requires.few_turns c.witness-2.ensures.front c.witness-2.ensures.received
-    c.live_with_journal-lived.ensures.live c.witness.ensures.run c.as_slice.ensures.value c.finish-status.ensures
+    rw (← c.ends.view_is)
+    (recorded _ _ _ c.live_with_journal-lived.result.0 _ _ _ _ _ c.live_with_journal-lived.result.2.items c.as_slice.result.now _ _ _ _ _ refl c.requires.few_turns c.witness-2.ensures.front c.witness-2.ensures.received
+    (rw (← c.ends.view_is) at c.live_with_journal-lived.ensures.live) c.witness.ensures.run c.as_slice.ensures.value c.finish-status.ensures)
 
 pub returns-clause-alone : goal.returns-clause-alone
 returns-clause-alone g c = recorded_alone _ _ _ _ _ _ _ _ _ _ _ _ (returns-clause-records g c)
