@@ -19,7 +19,7 @@ mod words; // how it reads
 
 pub use gev_acq::Host;
 pub use laws::{nothing_is_asked, silence_is_waited};
-pub use looping::read_turns;
+pub use looping::read_camera;
 pub use reader_end::ReaderEnd;
 pub use telling::tell_begin;
 pub use turns_done::TurnsDone;

@@ -31,7 +31,7 @@ use std::sync::Wait;
 /// was refused, or told that control was lost. It ends too where no datagram came for `silence` milliseconds, not even one
 /// that widening refuses; a turn whose moment is further behind the one before it ends nothing by that, and the next one
 /// decides.
-pub fn read_turns<R: Wait, L: Link, M: Link, C: Clock, G: Gate>(
+pub fn read_camera<R: Wait, L: Link, M: Link, C: Clock, G: Gate>(
     rt: &R,
     board: &Board,
     pass: &mut Pass,

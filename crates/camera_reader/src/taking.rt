@@ -36,7 +36,7 @@ pub(crate) struct Taken {
 /// the moment of its own clock. The requests that the moment brought are sent on the control link in the form of the
 /// stream's identifiers, and the client has its part there, with the turn's own moment. After a receive or a send that
 /// failed the turn sends and receives nothing more.
-fn turn_once<R: Wait, L: Link, M: Link, C: Clock, G: Gate>(
+fn hear_once<R: Wait, L: Link, M: Link, C: Clock, G: Gate>(
     rt: &R,
     board: &Board,
     pass: &mut Pass,
@@ -110,7 +110,7 @@ pub(crate) fn take_turn<R: Wait, L: Link, M: Link, C: Clock, G: Gate>(
     ensures alone { HoldsAlone pass.old (buffers acq.old) → HoldsAlone pass.new (buffers acq.new) }
 {
     let waited = !host.client.is_idle();
-    let (turn, end) = turn_once(rt, board, pass, acq, host, gate, state, words);
+    let (turn, end) = hear_once(rt, board, pass, acq, host, gate, state, words);
     let cause = beat_cause(end, heartbeat_value(&host.client, waited));
     (turn, cause)
 }

@@ -10,12 +10,12 @@ ghost use Rattle.gev_receive.specs.Starting.{leader_counts as counts_behind, wit
 ghost use Rattle.gev_receive.specs.Frames.{Runs, seen_by};
 
 use crate::answers::{handed_status, is_reader_lost, reader_status, weightier};
-use crate::crew::{Crew, work_two};
 use crate::ran::Ran;
-use crate::reading::ReadDone;
+use crate::reading::FramesRead;
 use crate::sides::Sides;
 use crate::starting::{buffer_size, config_of, leader_counts, mode_of, with_counts};
 use crate::threads::has_thread;
+use crate::workers::{Crew, work_two};
 use acq_core::Acq;
 use acquisition_machine::Counts;
 use buffer_words::{Board, Pass};
@@ -147,7 +147,7 @@ pub(crate) fn run_frames<
     };
     let (read, took) = work_two(rt, alloc, &board, &mut pass, crew, gate, sink, input);
     *kept = Some((board, pass));
-    let ReadDone { host, counts, end } = read;
+    let FramesRead { host, counts, end } = read;
     let FramesDone { outlet, handed } = took;
     let ran = ran_so(asked, end, counts, handed);
     (ran, Sides { host, outlet })

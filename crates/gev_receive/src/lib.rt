@@ -3,7 +3,6 @@
 #![tactic(auto)]
 
 mod answers; // how a run ends, of several causes
-mod crew; // reader and application as threads
 mod drops; // datagrams that the system dropped
 mod ending; // the last line
 mod frames; // the frames of a stream
@@ -17,6 +16,7 @@ mod sides; // what host and application work with
 mod starting; // what a stream is received with
 mod threads; // whether a thread can be made
 mod tools; // what ports give and get back
+mod workers; // reader and application as threads
 mod writes; // the writes of each stage
 
 pub use receiving::receive_over;

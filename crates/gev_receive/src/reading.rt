@@ -17,7 +17,7 @@ ghost use Rattle.gev_receive.specs.Reader.{ReadsTo, with_refused as counts_with,
 use acq_core::Acq;
 use acquisition_machine::Counts;
 use buffer_words::{Board, Pass};
-use camera_reader::{ReaderEnd, ReaderWords, TurnsDone, read_turns};
+use camera_reader::{ReaderEnd, ReaderWords, TurnsDone, read_camera};
 use gev_acq::{Host, drain};
 use gev_links::{Clock, Gate, Link};
 use live_crew::Worked;
@@ -25,7 +25,7 @@ use std::sync::Wait;
 
 /// What the reader's worker gives back beside its pass.
 #[derive(Drop)]
-pub(crate) struct ReadDone<S: Drop, M: Drop, C: Drop> {
+pub(crate) struct FramesRead<S: Drop, M: Drop, C: Drop> {
     /// What it worked with.
     pub(crate) host: Host<S, M, C>,
     /// What the receiver counted, with what was refused in widening.
@@ -77,7 +77,7 @@ fn read_on<R: Wait, S: Link + Drop, M: Link + Drop, C: Clock + Drop, G: Gate>(
 {
     let begin = host.clock.now();
     begin_receiver(acq, begin);
-    read_turns(rt, board, pass, acq, host, gate, words, begin)
+    read_camera(rt, board, pass, acq, host, gate, words, begin)
 }
 
 /// What was counted, with the datagrams that were refused in widening.
@@ -98,7 +98,7 @@ pub(crate) fn read_frames<R: Wait, S: Link + Drop, M: Link + Drop, C: Clock + Dr
     mut host: Host<S, M, C>,
     gate: &G,
     words: ReaderWords,
-) -> Worked<ReadDone<S, M, C>>
+) -> Worked<FramesRead<S, M, C>>
     requires table { pass.table ≡ board_id board.now }
     requires hands { IsEmptyHanded pass }
     requires new { Stands acq [] }
@@ -117,7 +117,7 @@ pub(crate) fn read_frames<R: Wait, S: Link + Drop, M: Link + Drop, C: Clock + Dr
     let _stopped = board.stop(&mut pass, false);
     Worked {
         pass,
-        done: ReadDone {
+        done: FramesRead {
             host,
             counts: with_refused(acq.counts(), read.refused),
             end: read.end,

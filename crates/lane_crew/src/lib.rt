@@ -8,7 +8,6 @@
 #![tactic(auto)]
 
 mod cell_serving; // one cell
-mod crew; // reader and lanes as threads, and the stop
 mod homing; // passes are joined, and queues' ends meet
 mod lane_running; // all cells of a lane
 mod lane_tools; // what the thread of a lane works with
@@ -18,9 +17,10 @@ mod putting; // a lane's requests, to the reader
 mod reading; // the reader, from the setup to its end
 mod serving; // the lanes as threads
 mod summing; // what all lanes counted
+mod threads; // reader and lanes as threads, and the stop
 
-pub use crew::read_by_lanes;
 pub use lane_running::lane;
 pub use lane_tools::LaneTools;
 pub use lanes_reader::LanesReader;
 pub use laws::lanes_parts_stay;
+pub use threads::read_by_lanes;

@@ -23,7 +23,7 @@ use std::sync::Wait;
 const RECEIVE_ROOM: usize = 9000;
 
 // The turns alone.
-fn read_turns<R: Wait, L: Link, M: Link, C: Clock>(
+fn make_turns<R: Wait, L: Link, M: Link, C: Clock>(
     rt: &R,
     board: &Board,
     pass: &mut Pass,
@@ -107,7 +107,7 @@ pub fn read_lanes<R: Wait, L: Link, M: Link, C: Clock>(
         clock,
         client,
     };
-    let end = read_turns(rt, board, pass, lanes, reader, &mut lent, camera, turns);
+    let end = make_turns(rt, board, pass, lanes, reader, &mut lent, camera, turns);
     end_lanes(rt, lanes, reader);
     end
 }

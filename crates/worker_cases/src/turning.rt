@@ -12,7 +12,7 @@ use crate::links::{CAMERA, HOST, control_link, print_sent, stream_link};
 use acq_core::{Acq, AcqConfig};
 use anyhow::Result;
 use buffer_words::{Board, Pass};
-use camera_reader::{Host, ReaderWords, read_turns, tell_begin};
+use camera_reader::{Host, ReaderWords, read_camera, tell_begin};
 use control_client::Client;
 use gev_acq::drain;
 use gev_links::{Clock, MemoryClock, OpenGate};
@@ -96,7 +96,7 @@ fn read_over<R: Wait>(
         words,
         begin,
     );
-    let done = read_turns(
+    let done = read_camera(
         handles, board, pass, acq, &mut host, &OpenGate, words, begin,
     );
     print!(rt;

@@ -2,7 +2,7 @@
 use Rattle.std.proofs.Common.{◌≡◌, ◌∙◌, refl, length, arith, rules}
 use Rattle.buffer_words.proofs.Retries.{hands_self, hands_then}
 use Rattle.lane_reader.proofs.Turns.{begins, goes_on, ends_fault, ends_unanswered, ends_refused, ends_stopped, ends_spent, counts_stay}
-use Rattle.lane_reader.proofs.reading.read_turns.Goals as goal
+use Rattle.lane_reader.proofs.reading.make_turns.Goals as goal
 
 pub turns-init : goal.turns-init
 turns-init g c = record {

@@ -3,7 +3,7 @@ use Rattle.acq_core.specs.Receiver.{config_of, buffers, Stands}
 use Rattle.acq_core.specs.Waiting.{waiting_fills, waiting_requests}
 use Rattle.gev_acq.specs.Buffers.{Backs, HoldsAlone}
 use Rattle.camera_reader.proofs.Turning.{SoFar}
-use Rattle.camera_reader.proofs.looping.read_turns.Given as goal
+use Rattle.camera_reader.proofs.looping.read_camera.Given as goal
 
 abbrev pub invariant-turns : goal.invariant-turns
 invariant-turns g l = record {

@@ -6,7 +6,7 @@ use Rattle.lane_crew.specs.Kinds.{is_lane_readers}
 use Rattle.lane_crew.proofs.Lists.{served_back}
 use Rattle.lane_crew.proofs.Whole.{new_kept, crew_reads, crew_works}
 use Rattle.lane_crew.specs.Tools.{AreMet, ends_in}
-use Rattle.lane_crew.proofs.crew.read_by_lanes.Goals as goal
+use Rattle.lane_crew.proofs.threads.read_by_lanes.Goals as goal
 
 pub read_and_serve-served-requires-clause-kept : goal.read_and_serve-served-requires-clause-kept
 read_and_serve-served-requires-clause-kept g c = λ κs within. new_kept 0 c.args.mine.lanes c.args.mine.reader (ends_in c.args.mine.tools.items) c.requires.new

@@ -2,7 +2,7 @@ use Rattle.std.proofs.Common.{◌≡◌, length}
 use Rattle.buffer_words.specs.Passes.{SameHands}
 use Rattle.gev_lanes.specs.Sides.{AreReadersOf}
 use Rattle.lane_reader.proofs.Turns.{GoesOn}
-use Rattle.lane_reader.proofs.reading.read_turns.Given as goal
+use Rattle.lane_reader.proofs.reading.make_turns.Given as goal
 
 abbrev pub invariant-turns : goal.invariant-turns
 invariant-turns g l = record {

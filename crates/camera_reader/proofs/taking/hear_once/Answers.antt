@@ -5,7 +5,7 @@ use Rattle.acq_core.specs.Waiting.{waiting_requests}
 use Rattle.gev_acq.specs.Turning.{ServesTurn}
 use Rattle.gev_acq.proofs.OneTurn.{failed_is_lost}
 use Rattle.camera_reader.proofs.OneTurn.{takes_one}
-use Rattle.camera_reader.proofs.taking.turn_once.Goals as goal
+use Rattle.camera_reader.proofs.taking.hear_once.Goals as goal
 
 pub returns-clause-takes : goal.returns-clause-takes
 returns-clause-takes g c =

@@ -2,7 +2,7 @@ use Rattle.std.proofs.Common.{◌≡◌, None, ◌∙◌, sym, refl, rules, arit
 use Rattle.acq_core.specs.Receiver.{config_of, buffers, Stands}
 use Rattle.gev_acq.proofs.Backing.{same_backs, same_alone}
 use Rattle.camera_reader.proofs.Turning.{nothing_yet, one_more, ends_stopped, ends_silent, ends_ended, caused, still}
-use Rattle.camera_reader.proofs.looping.read_turns.Goals as goal
+use Rattle.camera_reader.proofs.looping.read_camera.Goals as goal
 
 pub turns-init : goal.turns-init
 turns-init g c =

@@ -15,7 +15,7 @@ ghost use Rattle.camera_reader.specs.Reading.{is_fault};
 ghost use Rattle.frame_writing.specs.Work.{HandsOutAndStops};
 ghost use Rattle.gev_receive.specs.Reader.{ReadsFrames};
 
-use crate::reading::{ReadDone, read_frames};
+use crate::reading::{FramesRead, read_frames};
 use acq_core::Acq;
 use buffer_words::{Board, Pass};
 use camera_reader::ReaderWords;
@@ -72,7 +72,7 @@ pub(crate) fn work_two<
     gate: &G,
     sink: &mut K,
     input: &mut I,
-) -> (ReadDone<S, M, C>, FramesDone<C, C>)
+) -> (FramesRead<S, M, C>, FramesDone<C, C>)
     requires table { pass.old.table ≡ board_id board.now }
     requires receiver { Stands crew.acq [] × (waiting_fills crew.acq ≡ []) × (waiting_requests crew.acq ≡ []) }
     ensures ran { RanTwo
@@ -100,7 +100,7 @@ pub(crate) fn work_two<
         rt,
         board,
         pass,
-        move |given: Pass| -> Worked<ReadDone<S, M, C>>
+        move |given: Pass| -> Worked<FramesRead<S, M, C>>
             requires { IsNewPass (board_id board.now) given × Stands acq [] × (waiting_fills acq ≡ []) × (waiting_requests acq ≡ []) }
             ensures { ReadsFrames words.mode (config_of acq) words.ids words.camera words.silence
                 (record { received = S.received host.stream; heard = M.received host.control; sent = M.sent host.control; told = C.told host.clock; client = host.client })
