@@ -154,14 +154,11 @@ fn call<R: Threads + Wait + Sync>(
         script,
         stream.as_slice(),
         control.as_slice(),
-        setting.moments.as_slice(),
-        setting.fails,
-        setting.piece,
-        &Pace::new(setting.pace.as_slice()),
+        setting,
     )
 }
 
-/// The same where the stream's link and the control link hear this, and the host's clock tells these moments.
+/// The same where the stream's link and the control link hear this.
 fn call_over<R: Threads + Wait + Sync>(
     rt: &R,
     alloc: Global,
@@ -169,18 +166,17 @@ fn call_over<R: Threads + Wait + Sync>(
     script: &[u8],
     stream: &[Option<(&[u8], Peer)>],
     control: &[Option<(&[u8], Peer)>],
-    moments: &[u64],
-    fails: Fails,
-    piece: usize,
-    gate: &Pace,
+    setting: &Setting,
 ) -> Result<Outcome, NoMemory> {
+    let moments = setting.moments.as_slice();
+    let gate = Pace::new(setting.pace.as_slice());
     let receives = match words.get(0) {
         Some(word) => word.as_str() == "receive",
         None => false,
     };
-    let mut ports = ports_of(alloc, receives, stream, control, moments, fails)?;
+    let mut ports = ports_of(alloc, receives, stream, control, moments, setting.fails)?;
     let mut source = SteadySource::new(script, 100_000);
-    let mut sink = MemorySink::new(alloc, piece, fails.write);
+    let mut sink = MemorySink::new(alloc, setting.piece, setting.fails.write);
     let mut kept = None;
     let status = gevacq_top(
         rt,
@@ -189,7 +185,7 @@ fn call_over<R: Threads + Wait + Sync>(
         &mut source,
         &mut sink,
         &mut ports,
-        gate,
+        &gate,
         &mut kept,
     );
     Ok(Outcome {

@@ -79,28 +79,36 @@ pub fn stop(
     )
 }
 
-/// Tells the moment, in milliseconds: old blocks retire, are filled and told, and each request is written, in
-/// the standard form or as it is, and told.
+/// What is told of time.
+#[derive(Drop)]
+struct Moment {
+    /// The moment, in milliseconds.
+    moment: u64,
+    /// Whether requests are written in the standard form.
+    standard: bool,
+}
+
+/// Tells the moment: old blocks retire, are filled and told, and each request is written, in the standard form or as it
+/// is, and told.
 fn tick_stream(
     alloc: Global,
     board: &mut PlainBoard,
     acq: &mut Acq,
     counts: &mut FillCounts,
     mode: Mode,
-    moment: u64,
-    standard: bool,
+    told: Moment,
     tape: &mut Vec<Told>,
     out: &mut Vec<u8>,
 ) -> Result<(), NoMemory>
     requires rest { IsAtRest board.old acq.old }
     requires empty { out.old.items ≡ [] }
-    ensures told { OnOk result (TicksTold mode moment standard board.old acq.old counts.old tape.old.items out.new.items board.new acq.new counts.new tape.new.items) }
+    ensures told { OnOk result (TicksTold mode told.moment told.standard board.old acq.old counts.old tape.old.items out.new.items board.new acq.new counts.new tape.new.items) }
     ensures rest { OnOk result (IsAtRest board.new acq.new) }
 {
     acq.tell_ends();
-    acq.tick(moment);
+    acq.tick(told.moment);
     tape_retired(board, acq, counts, mode, tape)?;
-    tape_requests(alloc, acq, standard, tape, out)
+    tape_requests(alloc, acq, told.standard, tape, out)
 }
 
 /// Runs a `t` line as `script_replay` does: adds its report to the empty `out`, and to the empty tape what
@@ -117,7 +125,10 @@ pub fn tick(
     requires empty { out.old.items ≡ [] }
     ensures { OnOk result (TellsLine (script_line.tick moment) script.old out.new.items tape.new.items script.new) }
 {
-    let standard = script.widening.widened;
+    let told = Moment {
+        moment,
+        standard: script.widening.widened,
+    };
     let running = &mut script.running;
     tick_stream(
         alloc,
@@ -125,8 +136,7 @@ pub fn tick(
         &mut running.acq,
         &mut running.counts,
         running.mode,
-        moment,
-        standard,
+        told,
         tape,
         out,
     )

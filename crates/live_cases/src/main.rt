@@ -21,6 +21,15 @@ use anyhow::Result;
 use std::sync::Wait;
 use std::thread::Threads;
 
+/// The fields of a row that are numbers, each as its `Case` has it.
+#[derive(Drop)]
+struct Row {
+    numbers: Vec<u64>,
+    moments: Vec<u64>,
+    receives: Vec<u64>,
+    sends: Vec<u64>,
+}
+
 fn main(rt: HostRuntime) -> Result<()> {
     for line in rt.lines(rt.alloc()) {
         let line = line?;
@@ -47,15 +56,18 @@ fn answer<R: Threads + Wait + Sync>(rt: &HostRuntime, handles: &R, line: &str) -
     let stream = datagrams(alloc, fields.next())?;
     let control_hears = heard(alloc, control.as_slice(), CAMERA)?;
     let stream_hears = heard(alloc, stream.as_slice(), CAMERA)?;
+    let row = Row {
+        numbers: numbers_of_row,
+        moments,
+        receives,
+        sends,
+    };
     answer_over(
         rt,
         handles,
         word,
-        numbers_of_row.as_slice(),
-        moments.as_slice(),
+        &row,
         control_hears.as_slice(),
-        receives.as_slice(),
-        sends.as_slice(),
         stream_hears.as_slice(),
     )
 }
@@ -65,19 +77,16 @@ fn answer_over<'x, R: Threads + Wait + Sync>(
     rt: &HostRuntime,
     handles: &R,
     word: &str,
-    numbers: &'x [u64],
-    moments: &'x [u64],
+    row: &'x Row,
     control: Heard<'x>,
-    receives: &'x [u64],
-    sends: &'x [u64],
     stream: Heard<'x>,
 ) -> Result<()> {
     let case = Case {
-        numbers,
-        moments,
+        numbers: row.numbers.as_slice(),
+        moments: row.moments.as_slice(),
         control,
-        receives,
-        sends,
+        receives: row.receives.as_slice(),
+        sends: row.sends.as_slice(),
         stream,
     };
     match word {
