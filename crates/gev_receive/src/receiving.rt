@@ -34,6 +34,45 @@ use std::thread::Threads;
 /// How many milliseconds after a send the next one comes.
 const SEND_LIMIT: u64 = 500;
 
+/// What the application works with, by what the words ask for.
+fn outlet_of<C: Drop>(settings: &Settings, clock: C, input_clock: C) -> Outlet<C, C>
+    ensures frames { result.frames ≡ settings.now.frames }
+    ensures output { result.output ≡ settings.now.output }
+    ensures watch { result.watch.on ≡ settings.now.until_input_ends }
+    ensures clock { result.clock ≡ clock }
+{
+    Outlet {
+        frames: settings.frames,
+        output: settings.output,
+        clock,
+        watch: InputWatch {
+            clock: input_clock,
+            on: settings.until_input_ends,
+            next: 0,
+        },
+        progress: Progress::each(settings.progress),
+    }
+}
+
+/// The application's clock, and the one by which standard input was looked at.
+fn clocks_of<C: Drop>(outlet: Outlet<C, C>) -> (C, C)
+    ensures { result.0 ≡ outlet.clock }
+{
+    let Outlet {
+        frames: _,
+        output: _,
+        clock,
+        watch,
+        progress: _,
+    } = outlet;
+    let InputWatch {
+        clock: input_clock,
+        on: _,
+        next: _,
+    } = watch;
+    (clock, input_clock)
+}
+
 /// The run over these links and clocks, which are given back.
 fn receive_from<
     R: Threads + Wait + Sync,
@@ -84,17 +123,7 @@ fn receive_from<
         control: RegisterReads::new(control),
         clock: host_clock,
     };
-    let outlet = Outlet {
-        frames: settings.frames,
-        output: settings.output,
-        clock: app_clock,
-        watch: InputWatch {
-            clock: input_clock,
-            on: settings.until_input_ends,
-            next: 0,
-        },
-        progress: Progress::each(settings.progress),
-    };
+    let outlet = outlet_of(settings, app_clock, input_clock);
     let sides = Sides { host, outlet };
     let (ran, sides) = meet_camera(rt, alloc, ways, sides, gate, sink, input, kept);
     let Sides { host, outlet } = sides;
@@ -107,18 +136,7 @@ fn receive_from<
     let control = control.into_inner();
     let strangers = control.strangers().saturating_add(stream.strangers());
     let status = finish(alloc, sink, settings.output, ran, strangers);
-    let Outlet {
-        frames: _,
-        output: _,
-        clock: app_clock,
-        watch,
-        progress: _,
-    } = outlet;
-    let InputWatch {
-        clock: input_clock,
-        on: _,
-        next: _,
-    } = watch;
+    let (app_clock, input_clock) = clocks_of(outlet);
     let ends = Ends {
         control: control.into_inner(),
         stream: stream.into_inner(),
