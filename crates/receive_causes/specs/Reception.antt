@@ -32,11 +32,11 @@ steps_to_leave settings = leave_steps None false (writes_at stages.Stop settings
 
 -- ---- control
 
--- Over the control link the client did these acts. The commands among them are those of the words, in order. Before the last
--- line the run's answer was NoAnswer only where three sends had no answer; RefusedAt only where the camera refused that
--- register with that status; Controlled exactly where the first acknowledge tells that another application controls the
--- camera; and ControlLost only where, behind the acknowledges by which the camera was taken, that of a heartbeat told that
--- none controls it any more.
+-- Over the control link the client did these acts. The commands among them are a front of those that take the camera, in
+-- order, and behind it a front of those that let it go. Before the last line the run's answer was NoAnswer only where three
+-- sends had no answer; RefusedAt only where the camera refused that register with that status; Controlled exactly where the
+-- first acknowledge tells that another application controls the camera; and ControlLost only where, behind the acknowledges
+-- by which the camera was taken, that of a heartbeat told that none controls it any more.
 pub record HasCauses (settings : Settings) (camera own : Address) (o n : WaitSide) (answer : Status) : Type 0 where
   pub acts : List Act
   pub acted : HasActed camera (control_part o) (control_part n) acts

@@ -23,9 +23,10 @@ pub fn leaving_makes_the_stop()
 {}
 
 /// Each whole run keeps its promises. Where reader and application ran they kept the headline, and where the camera wasn't
-/// taken, no leader came, or memory was wanting before they ran, no buffer was filled or taken. The stop was made of a
-/// camera that was taken, or was held, and hadn't let its controller go, whatever the answer. And what was written are the
-/// texts of the buffers that the application took, and the last line, all of it where the answer has that line.
+/// taken, no leader came, or memory was wanting before they ran, no buffer was filled or taken. The stop was made, or a
+/// front of it, of a camera that was taken, or was held, and hadn't let its controller go, whatever the answer. And what
+/// was written are the texts of the buffers that the application took, and the last line, all of it where the answer has
+/// that line.
 pub fn receptions_keep_promises()
     ensures { ReceptionsKeepPromises }
 {}
