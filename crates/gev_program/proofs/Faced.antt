@@ -1,8 +1,7 @@
 -- How the commands end that meet a camera on the network.
-use Rattle.std.proofs.Common.{◌≡◌, ◌≢◌, ℕ, false, refl, sym, ◌∙◌, subst}
+use Rattle.std.proofs.Common.{◌≡◌, ◌≢◌, ℕ, false, refl}
 use Rattle.gev_links.specs.Faults.{Rose}
 use Rattle.gev_control.specs.Sends.{Fails}
-use Rattle.gev_status.specs.declared.status.Status.{Status}
 use Rattle.gev_status.specs.declared.status.Status.TheVariants as status
 use Rattle.camera_search.specs.declared.search_end.SearchEnd.{SearchEnd}
 use Rattle.camera_search.specs.declared.search_end.SearchEnd.TheVariants as search
@@ -19,12 +18,6 @@ search_links search.Done is = let bad : ⊥ = cc in absurd bad
 search_links search.LinkFault is = refl
 search_links search.WriteFault is = let bad : ⊥ = cc in absurd bad
 search_links search.NoMemory is = let bad : ⊥ = cc in absurd bad
-
-pub search_writes : (end : SearchEnd) → search_status end ≡ status.WriteFault → end ≡ search.WriteFault
-search_writes search.Done is = let bad : ⊥ = cc in absurd bad
-search_writes search.LinkFault is = let bad : ⊥ = cc in absurd bad
-search_writes search.WriteFault is = refl
-search_writes search.NoMemory is = let bad : ⊥ = cc in absurd bad
 
 pub search_says : (end : SearchEnd) (place : ℕ) → search_status end ≢ status.Usage place
 search_says search.Done place = λ is. let bad : ⊥ = cc in bad

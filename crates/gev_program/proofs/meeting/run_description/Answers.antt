@@ -1,4 +1,4 @@
-use Rattle.std.proofs.Common.{ℕ, refl, sym, ◌∙◌, subst, arith}
+use Rattle.std.proofs.Common.{refl, sym, ◌∙◌, subst, arith}
 use Rattle.gev_top.specs.Completeness.{EndsDescription}
 use Rattle.gev_program.proofs.Faced.{describe_links, describe_steady, describe_says, describe_ends}
 use Rattle.gev_program.proofs.meeting.run_description.Goals as goal

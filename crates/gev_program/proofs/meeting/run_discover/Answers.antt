@@ -1,7 +1,6 @@
-use Rattle.std.proofs.Common.{ℕ, refl, sym, ◌∙◌, subst, arith}
-use Rattle.gev_status.specs.declared.status.Status.{Status}
+use Rattle.std.proofs.Common.{refl, sym, ◌∙◌, subst, arith}
 use Rattle.gev_top.specs.Completeness.{EndsSearch}
-use Rattle.gev_program.proofs.Faced.{search_links, search_writes, search_says, search_ends}
+use Rattle.gev_program.proofs.Faced.{search_links, search_says, search_ends}
 use Rattle.gev_program.proofs.meeting.run_discover.Goals as goal
 
 pub returns-clause-discovers : goal.returns-clause-discovers

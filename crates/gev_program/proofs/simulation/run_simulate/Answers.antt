@@ -1,4 +1,4 @@
-use Rattle.std.proofs.Common.{ℕ, refl, sym, ◌∙◌, subst, arith}
+use Rattle.std.proofs.Common.{refl, sym, ◌∙◌, subst, arith}
 use Rattle.gev_top.specs.Completeness.{EndsSimulation}
 use Rattle.gev_program.proofs.Simulated.{simulate_links, simulate_says, simulate_ends}
 use Rattle.gev_program.proofs.simulation.run_simulate.Goals as goal
