@@ -5,11 +5,11 @@ use Rattle.board_machine.specs.declared.events.Entry.{Entry}
 use Rattle.gev_links.specs.Links.{Address, Answer, IsBlank}
 use Rattle.gev_links.specs.PortsState.{IsNew}
 use Rattle.gev_program.specs.Bound.{AllToldOfThree, GivesBack, more_binds}
-use Rattle.gev_serve.specs.Wires.{Wire, wire}
+use Rattle.gev_serve.specs.Wires.{Wire}
 use Rattle.gev_status.specs.declared.status.Status.{Status}
 use Rattle.gev_status.specs.declared.status.Status.TheVariants.{LinkFault, NoMemory}
 use Rattle.gev_top.specs.declared.live_numbers.LiveNumbers.{LiveNumbers}
-use Rattle.gev_live.specs.Told.{Told}
+use Rattle.gev_live.specs.Told.{Told, told_by as told_by_two}
 use Rattle.gev_live.specs.declared.numbers.Numbers.{Numbers}
 use Rattle.gev_live.specs.LiveRun.{RunsLive}
 use Rattle.live_promises.specs.Promises.{KeepsLivePromises}
@@ -17,16 +17,10 @@ use Rattle.gev_live.specs.LanesRun.{RunsLanes}
 use Rattle.live_promises.specs.LanesPromises.{KeepsLanesPromises}
 use Rattle.live_recording.specs.Recorded.{RecordsLive}
 
--- what these three links and three clocks tell
+-- what these three links, of one kind, and three clocks tell
 abbrev pub told_by : {L C : Type 0} → (L → Option (List Answer)) → (L → Option (List (Address × List ℕ))) → (L → ℕ) → (C → Option (List ℕ)) → L → L → L → C → C → C → Told
-told_by received sent faults told camera stream control camera_clock host_clock app_clock = record {
-  camera = wire (received camera) (sent camera) (faults camera);
-  stream = wire (received stream) (sent stream) (faults stream);
-  control = wire (received control) (sent control) (faults control);
-  camera_clock = told camera_clock;
-  host_clock = told host_clock;
-  app_clock = told app_clock;
-}
+told_by received sent faults told camera stream control camera_clock host_clock app_clock =
+    told_by_two received sent faults received sent faults told camera stream control camera_clock host_clock app_clock
 
 abbrev pub IsNewWire : Wire → Type 0
 IsNewWire w = IsNew w.received w.sent w.faults

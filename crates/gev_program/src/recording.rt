@@ -37,6 +37,10 @@ fn with_tape<P: Ports>(
     ensures stream { IfOk result (λ made. made.stream.inner ≡ ends.stream) }
     ensures turns { IfOk result (λ made. made.stream.turns ≡ turns) }
     ensures kept { IfOk result (λ made. made.stream.kept ≡ []) }
+    ensures control { IfOk result (λ made. made.control ≡ ends.control) }
+    ensures camera_clock { IfOk result (λ made. made.camera_clock ≡ ends.camera_clock) }
+    ensures host_clock { IfOk result (λ made. made.host_clock ≡ ends.host_clock) }
+    ensures app_clock { IfOk result (λ made. made.app_clock ≡ ends.app_clock) }
     ensures told { IfOk result (λ made. made.told ≡ ends.told) }
     ensures back { IfErr result (λ same. same ≡ ends) }
 {
