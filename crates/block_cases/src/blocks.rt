@@ -8,7 +8,7 @@ ghost use Rattle.block_assembly.specs.Assembly.{block_of};
 ghost use Rattle.block_assembly.specs.Verdicts.{IsRead};
 
 use crate::bench::Datagrams;
-use crate::print::{add_bytes, number};
+use crate::print::{add_buffer, number};
 use block_assembly::{Account, Assembly, PACKET_IDS};
 use block_image::tells_its_size;
 use gev_types::{Buf, MAX_BUFFER_SIZE};
@@ -81,17 +81,27 @@ pub fn add_account(out: &mut String, account: &Account) -> Option<()> {
     .ok()
 }
 
+/// Whether the packet with an id was kept, or refused.
+fn look_up(assembly: &Assembly, call: &str, out: &mut String) -> Option<()> {
+    let (word, id) = call.split_once(':')?;
+    let id = number(id)?;
+    if id >= PACKET_IDS {
+        return None;
+    }
+    match word {
+        "kept" => write!(out, " {}", assembly.kept().has(id)).ok(),
+        "refused" => write!(out, " {}", assembly.refused().has(id)).ok(),
+        _ => None,
+    }
+}
+
 /// What the block tells of itself.
 fn look(assembly: &Assembly, call: &str, out: &mut String) -> Option<()> {
-    let (word, id) = call.split_once(':').unwrap_or((call, "0"));
-    let id = number(id)?;
-    match word {
+    match call {
         "whole" => write!(out, " {}", assembly.is_complete()).ok(),
         "top" => write!(out, " {:?}", assembly.top()).ok(),
         "account" => add_account(out, &assembly.account()),
-        "kept" if id < PACKET_IDS => write!(out, " {}", assembly.kept().has(id)).ok(),
-        "refused" if id < PACKET_IDS => write!(out, " {}", assembly.refused().has(id)).ok(),
-        _ => None,
+        _ => look_up(assembly, call, out),
     }
 }
 
@@ -113,19 +123,31 @@ fn call(assembly: &mut Assembly, datagrams: &Datagrams, call: &str, out: &mut St
     write!(out, " {verdict:?}").ok()
 }
 
+/// What becomes of the packets, and what the block tells of itself between them.
+fn add_calls(
+    assembly: &mut Assembly,
+    datagrams: &Datagrams,
+    calls: &[&str],
+    out: &mut String,
+) -> Option<()>
+    requires { block_of assembly.old ≡ 1 }
+{
+    for word in calls {
+        call(assembly, datagrams, word, out)?;
+    }
+    Some(())
+}
+
 /// What becomes of the packets, what the block tells of itself between them, and its buffer at the end.
 pub fn answer(
     alloc: Global,
     datagrams: &Datagrams,
-    size: &str,
-    calls: &[&str],
+    words: &[&str],
     out: &mut String,
 ) -> Option<()> {
+    let (size, calls) = words.split_first()?;
     let mut assembly = start(alloc, number(size)?)?;
-    for word in calls {
-        call(&mut assembly, datagrams, word, out)?;
-    }
+    add_calls(&mut assembly, datagrams, calls, out)?;
     let (buf, _, _) = assembly.finish();
-    write!(out, " {:?}", buf.rec()).ok()?;
-    add_bytes(out, buf.bytes())
+    add_buffer(out, &buf)
 }

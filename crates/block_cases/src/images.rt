@@ -8,7 +8,7 @@ ghost use Rattle.gvsp_wire.specs.View.{view, views};
 ghost use Rattle.block_image.specs.KeptFacts.{TellsSize, DoLeadersTellSizes};
 
 use crate::bench::Datagrams;
-use crate::print::{add_bytes, number};
+use crate::print::{add_buffer, number};
 use block_image::{block_image, info_of, kept_packets, tells_its_size};
 use gev_types::MAX_BUFFER_SIZE;
 use gvsp_wire::Packet;
@@ -49,43 +49,53 @@ fn packets<'a>(alloc: Global, datagrams: &'a Datagrams, names: &[&str]) -> Optio
 }
 
 /// The record and the bytes of the block's image in a buffer of this size.
-pub fn image(
-    alloc: Global,
-    datagrams: &Datagrams,
-    block: &str,
-    size: &str,
-    names: &[&str],
-    out: &mut String,
-) -> Option<()> {
+pub fn image(alloc: Global, datagrams: &Datagrams, words: &[&str], out: &mut String) -> Option<()> {
+    let [block, size, names @ ..] = words else {
+        return None;
+    };
     let block = block.parse::<u64>().ok()?;
     let size = number(size)?;
     let packets = packets(alloc, datagrams, names)?;
-    if size < 1 || MAX_BUFFER_SIZE < size || !tell_sizes(&packets) {
+    add_image(alloc, block, size, packets.as_slice(), out)
+}
+
+/// The record and the bytes of the image of these packets.
+fn add_image(
+    alloc: Global,
+    block: u64,
+    size: u32,
+    packets: &[Packet<'_>],
+    out: &mut String,
+) -> Option<()> {
+    if size < 1 || MAX_BUFFER_SIZE < size || !tell_sizes(packets) {
         return None;
     }
-    let buf = block_image(alloc, 528, block, size, &packets).ok()?;
-    write!(out, " {:?}", buf.rec()).ok()?;
-    add_bytes(out, buf.bytes())
+    let buf = block_image(alloc, 528, block, size, packets).ok()?;
+    add_buffer(out, &buf)
 }
 
 /// The ids of the packets that are kept of the block.
-pub fn kept(
-    alloc: Global,
-    datagrams: &Datagrams,
-    block: &str,
-    names: &[&str],
-    out: &mut String,
-) -> Option<()> {
+pub fn kept(alloc: Global, datagrams: &Datagrams, words: &[&str], out: &mut String) -> Option<()> {
+    let (block, names) = words.split_first()?;
     let block = block.parse::<u64>().ok()?;
     let packets = packets(alloc, datagrams, names)?;
-    for packet in &kept_packets(alloc, 528, block, &packets).ok()? {
+    let kept = kept_packets(alloc, 528, block, packets.as_slice()).ok()?;
+    add_ids(kept.as_slice(), out)
+}
+
+/// The ids of the packets.
+fn add_ids(packets: &[Packet<'_>], out: &mut String) -> Option<()> {
+    for packet in packets {
         write!(out, " {}", packet.head().id).ok()?;
     }
     Some(())
 }
 
 /// What is known of an image, by a leader and a trailer's lines, or without one of them.
-pub fn info(datagrams: &Datagrams, leader: &str, lines: &str, out: &mut String) -> Option<()> {
+pub fn info(datagrams: &Datagrams, words: &[&str], out: &mut String) -> Option<()> {
+    let [leader, lines] = words else {
+        return None;
+    };
     let leader = match datagrams.packet(leader) {
         Some(packet) => packet.leader_info(),
         None => None,

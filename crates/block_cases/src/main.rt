@@ -17,18 +17,25 @@ use std::io;
 
 fn main(rt: HostRuntime) -> io::Result<()> {
     let mut bench = Bench::new(rt.alloc());
+    write_lines(&rt, &mut bench)
+}
+
+/// Writes each line of the input again, rows with their answers.
+fn write_lines(rt: &HostRuntime, bench: &mut Bench) -> io::Result<()> {
     for line in rt.lines(rt.alloc()) {
-        let line = line?;
-        let row = line.as_str();
-        if row.starts_with('#') || row.is_empty() {
-            println!(rt; "{row}")?;
-            continue;
-        }
-        let mut out = String::new(rt.alloc());
-        match bench.answer(rt.alloc(), row, &mut out) {
-            Some(()) => println!(rt; "{row} ={out}")?,
-            None => println!(rt; "{row} = not understood")?,
-        }
+        write_line(rt, bench, line?.as_str())?;
     }
     Ok(())
+}
+
+/// Writes a line again, a row with its answer.
+fn write_line(rt: &HostRuntime, bench: &mut Bench, line: &str) -> io::Result<()> {
+    if line.is_empty() || line.starts_with('#') {
+        return println!(rt; "{line}");
+    }
+    let mut out = String::new(rt.alloc());
+    match bench.answer(rt.alloc(), line, &mut out) {
+        Some(()) => println!(rt; "{line} ={out}"),
+        None => println!(rt; "{line} = not understood"),
+    }
 }

@@ -1,5 +1,6 @@
 //! Numbers and bytes as text.
 
+use gev_types::Buf;
 use std::fmt::Write;
 
 /// A number, in decimal.
@@ -22,7 +23,7 @@ fn add_run(out: &mut String, run: Option<(u8, u32)>) -> Option<()> {
 }
 
 /// The bytes, in hex.
-pub fn add_bytes(out: &mut String, bytes: &[u8]) -> Option<()> {
+fn add_bytes(out: &mut String, bytes: &[u8]) -> Option<()> {
     let mut run: Option<(u8, u32)> = None;
     for byte in bytes {
         run = match run {
@@ -34,4 +35,10 @@ pub fn add_bytes(out: &mut String, bytes: &[u8]) -> Option<()> {
         };
     }
     add_run(out, run)
+}
+
+/// The record of a buffer, and its bytes.
+pub fn add_buffer(out: &mut String, buf: &Buf) -> Option<()> {
+    write!(out, " {:?}", buf.rec()).ok()?;
+    add_bytes(out, buf.bytes())
 }

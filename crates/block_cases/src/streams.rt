@@ -11,8 +11,8 @@ ghost use Rattle.acq_core.specs.Waiting.{waiting_fills, waiting_requests};
 
 use crate::bench::Datagrams;
 use crate::blocks::add_account;
-use crate::print::{add_bytes, number};
-use acq_core::{Acq, AcqConfig, Need};
+use crate::print::{add_buffer, number};
+use acq_core::{Acq, AcqConfig, Ended, Need, Retired};
 use gev_types::{Buf, MAX_BUFFER_SIZE, MAX_RECEIVED_PAYLOAD_SIZE, MIN_PAYLOAD_SIZE};
 use std::alloc::Global;
 use std::fmt::Write;
@@ -36,23 +36,29 @@ fn is_config(config: AcqConfig) -> bool
         && config.rounds <= 8
 }
 
-/// A stream that heard nothing, by the numbers of its row.
-pub fn start(alloc: Global, numbers: &[&str]) -> Option<Stream> {
-    let [p, window, timeout, age, rounds, size] = numbers else {
+/// The configuration with these numbers.
+fn config(numbers: &[&str]) -> Option<AcqConfig> {
+    let [p, window, timeout, age, rounds] = numbers else {
         return None;
     };
-    let config = AcqConfig {
+    Some(AcqConfig {
         p: number(p)?,
         window: window.parse::<u8>().ok()?,
         timeout: number(timeout)?,
         age: number(age)?,
         rounds: rounds.parse::<u8>().ok()?,
-    };
+    })
+}
+
+/// A stream that heard nothing, by the numbers of its row.
+pub fn start(alloc: Global, numbers: &[&str]) -> Option<Stream> {
+    let (size, numbers) = numbers.split_last()?;
+    let size = number(size)?;
+    let config = config(numbers)?;
     if !is_config(config) {
         return None;
     }
     let acq = Acq::new(alloc, config).ok()?;
-    let size = number(size)?;
     Some(Stream { acq, size })
 }
 
@@ -92,17 +98,32 @@ fn ask(acq: &mut Acq, bytes: &[u8]) -> Option<Need> {
     Some(acq.datagram(bytes))
 }
 
-/// Tells a payload with each of these ids in the place of its own, all of which have to be kept.
-fn tell_each(alloc: Global, acq: &mut Acq, bytes: &[u8], from: u32, to: u32) -> Option<()> {
-    let mut bytes = Vec::from_slice(alloc, bytes).ok()?;
-    for id in from..=to {
-        let place = bytes.as_mut_slice().get_mut(16..20)?;
-        place.copy_from_slice(&id.to_be_bytes());
-        if tell(acq, bytes.as_slice(), None)? != Need::Done {
-            return None;
-        }
+/// Tells a payload with this id in the place of its own, which has to be kept.
+fn tell_one(acq: &mut Acq, bytes: &mut [u8], id: u32) -> Option<()> {
+    let place = bytes.get_mut(16..20)?;
+    place.copy_from_slice(&id.to_be_bytes());
+    if tell(acq, bytes, None)? != Need::Done {
+        return None;
     }
     Some(())
+}
+
+/// Tells a payload with each of these ids in the place of its own, all of which have to be kept.
+fn tell_each(alloc: Global, acq: &mut Acq, bytes: &[u8], from: &str, to: &str) -> Option<()> {
+    let ids = number(from)?..=number(to)?;
+    let mut bytes = Vec::from_slice(alloc, bytes).ok()?;
+    for id in ids {
+        tell_one(acq, bytes.as_mut_slice(), id)?;
+    }
+    Some(())
+}
+
+/// Tells the payload with a name, with each of the ids from one to another.
+fn tell_named(alloc: Global, datagrams: &Datagrams, acq: &mut Acq, words: &[&str]) -> Option<()> {
+    let [name, from, to] = words else {
+        return None;
+    };
+    tell_each(alloc, acq, datagrams.find(name)?, from, to)
 }
 
 /// An input that is no datagram.
@@ -120,16 +141,29 @@ fn turn(acq: &mut Acq, call: &[&str]) -> Option<()> {
     Some(())
 }
 
-/// The blocks that retired with a buffer, by its place.
+/// A block that retired with a buffer, by its place.
+fn add_fill(fill: &Retired, out: &mut String) -> Option<()> {
+    write!(out, ", fill {}", fill.place).ok()?;
+    add_buffer(out, &fill.buf)
+}
+
+/// The blocks that retired with a buffer.
 fn add_fills(acq: &mut Acq, out: &mut String) -> Option<()> {
     for _ in 0..8 {
         let Some(fill) = acq.next_fill() else {
             return Some(());
         };
-        write!(out, ", fill {} {:?}", fill.place, fill.buf.rec()).ok()?;
-        add_bytes(out, fill.buf.bytes())?;
+        add_fill(&fill, out)?;
     }
     None
+}
+
+/// The bytes of a command, in hex.
+fn add_command(bytes: [u8; 28], out: &mut String) -> Option<()> {
+    for byte in bytes {
+        write!(out, "{byte:02x}").ok()?;
+    }
+    Some(())
 }
 
 /// What is asked for again, and the commands that ask for it.
@@ -138,13 +172,20 @@ fn add_requests(acq: &mut Acq, out: &mut String) -> Option<()> {
         let Some((resend, round)) = acq.first_request() else {
             return Some(());
         };
-        let bytes = acq.next_request()?;
         write!(out, ", round {round} {resend:?} ").ok()?;
-        for byte in bytes {
-            write!(out, "{byte:02x}").ok()?;
-        }
+        add_command(acq.next_request()?, out)?;
     }
     None
+}
+
+/// A block that retired, and what it gave where it had a buffer.
+fn add_end(end: &Ended, out: &mut String) -> Option<()> {
+    write!(out, ", end {} {:?} {:?}", end.block, end.floor, end.cause).ok()?;
+    let Some(held) = &end.held else {
+        return Some(());
+    };
+    write!(out, " of {}", held.place).ok()?;
+    add_account(out, &held.account)
 }
 
 /// The blocks that retired, where they are told.
@@ -153,43 +194,73 @@ fn add_ends(acq: &mut Acq, out: &mut String) -> Option<()> {
         let Some(end) = acq.next_ended() else {
             return Some(());
         };
-        write!(out, ", end {} {:?} {:?}", end.block, end.floor, end.cause).ok()?;
-        if let Some(held) = &end.held {
-            write!(out, " of {}", held.place).ok()?;
-            add_account(out, &held.account)?;
-        }
+        add_end(&end, out)?;
     }
     None
 }
 
-/// The answer to a datagram, if the call tells one.
+/// Tells a datagram, gives this buffer where it wants one, and adds the answer.
+fn add_told(
+    acq: &mut Acq,
+    bytes: &[u8],
+    buffer: Option<(u8, Buf)>,
+    out: &mut String,
+) -> Option<()> {
+    let need = tell(acq, bytes, buffer)?;
+    write!(out, " {need:?},").ok()
+}
+
+/// Tells a datagram, gives a buffer of this place where it wants one, and adds the answer.
+fn add_given(
+    alloc: Global,
+    stream: &mut Stream,
+    bytes: &[u8],
+    place: &str,
+    out: &mut String,
+) -> Option<()> {
+    let buffer = buffer(alloc, place.parse::<u8>().ok(), stream.size);
+    add_told(&mut stream.acq, bytes, buffer, out)
+}
+
+/// The answer to `told`: a datagram's name, and maybe the place of a buffer.
+fn add_heard(
+    alloc: Global,
+    datagrams: &Datagrams,
+    stream: &mut Stream,
+    words: &[&str],
+    out: &mut String,
+) -> Option<()> {
+    match words {
+        [name] => add_told(&mut stream.acq, datagrams.find(name)?, None, out),
+        [name, place] => add_given(alloc, stream, datagrams.find(name)?, place, out),
+        _ => None,
+    }
+}
+
+/// The answer to `asks`: a datagram's name.
+fn add_asked(datagrams: &Datagrams, acq: &mut Acq, words: &[&str], out: &mut String) -> Option<()> {
+    let [name] = words else {
+        return None;
+    };
+    let need = ask(acq, datagrams.find(name)?)?;
+    write!(out, " {need:?},").ok()
+}
+
+/// The answer to an input, if it has one of its own.
 fn add_need(
     alloc: Global,
     datagrams: &Datagrams,
     stream: &mut Stream,
-    calls: &[&str],
+    words: &[&str],
     out: &mut String,
 ) -> Option<()> {
-    match calls {
-        ["told", name] => {
-            let need = tell(&mut stream.acq, datagrams.find(name)?, None)?;
-            write!(out, " {need:?},").ok()
-        }
-        ["told", name, place] => {
-            let buffer = buffer(alloc, place.parse::<u8>().ok(), stream.size);
-            let need = tell(&mut stream.acq, datagrams.find(name)?, buffer)?;
-            write!(out, " {need:?},").ok()
-        }
-        ["asks", name] => {
-            let need = ask(&mut stream.acq, datagrams.find(name)?)?;
-            write!(out, " {need:?},").ok()
-        }
-        ["each", name, from, to] => {
-            let bytes = datagrams.find(name)?;
-            tell_each(alloc, &mut stream.acq, bytes, number(from)?, number(to)?)
-        }
-        ["counts"] => write!(out, " {:?},", stream.acq.counts()).ok(),
-        call => turn(&mut stream.acq, call),
+    let (word, rest) = words.split_first()?;
+    match *word {
+        "told" => add_heard(alloc, datagrams, stream, rest, out),
+        "asks" => add_asked(datagrams, &mut stream.acq, rest, out),
+        "each" => tell_named(alloc, datagrams, &mut stream.acq, rest),
+        "counts" if rest.is_empty() => write!(out, " {:?},", stream.acq.counts()).ok(),
+        _ => turn(&mut stream.acq, words),
     }
 }
 
@@ -198,10 +269,10 @@ pub fn answer(
     alloc: Global,
     datagrams: &Datagrams,
     stream: &mut Stream,
-    calls: &[&str],
+    words: &[&str],
     out: &mut String,
 ) -> Option<()> {
-    add_need(alloc, datagrams, stream, calls, out)?;
+    add_need(alloc, datagrams, stream, words, out)?;
     let acq = &mut stream.acq;
     write!(out, " {} open at {}", acq.open_blocks(), acq.now()).ok()?;
     add_fills(acq, out)?;

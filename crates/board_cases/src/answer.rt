@@ -108,30 +108,56 @@ impl Answer {
     }
 }
 
+/// The word of an answer that tells nothing more.
+fn word(answer: &Answer) -> &'static str {
+    match answer {
+        Answer::None => "none",
+        Answer::Closed => "closed",
+        Answer::Empty => "empty",
+        Answer::NotInHand => "not in hand",
+        Answer::NoPlace => "no such place",
+        _ => "ok",
+    }
+}
+
+/// This text, or none.
+fn text_if(is_told: bool, text: &'static str) -> &'static str {
+    if is_told { text } else { "" }
+}
+
+/// Writes an answer of lists, or of a word.
+fn show_lists<W: fmt::Write>(answer: &Answer, f: &mut fmt::Formatter<W>) -> fmt::Result {
+    match answer {
+        Answer::Places(places) => write!(f, "{:?}", places.as_slice()),
+        Answer::Output(places, closed) => {
+            write!(f, "{:?}{}", places.as_slice(), text_if(*closed, " closed"))
+        }
+        Answer::Serials(serials) => write!(f, "{:?}", serials.as_slice()),
+        _ => f.write_str(word(answer)),
+    }
+}
+
+/// Writes an answer of numbers, or of lists or a word.
+fn show_numbers<W: fmt::Write>(answer: &Answer, f: &mut fmt::Formatter<W>) -> fmt::Result {
+    match answer {
+        Answer::Value(value) => write!(f, "{value}"),
+        Answer::Place(place) => write!(f, "{place}"),
+        Answer::Claimed(place, dropped) => { write!(f, "{place}{}", text_if(*dropped, " dropped")) }
+        Answer::Loan(place, block, first) => write!(f, "{place} block {block} byte {first}"),
+        Answer::Filled(dropped) => write!(f, "ok, dropped {dropped}"),
+        Answer::Run(run) => write!(f, "run {run}"),
+        _ => show_lists(answer, f),
+    }
+}
+
 impl fmt::Display for Answer {
     fn fmt<W: fmt::Write>(&self, f: &mut fmt::Formatter<W>) -> fmt::Result {
         match self {
-            Answer::Done => write!(f, "ok"),
             Answer::Refused(error) => write!(f, "{} {error}", error.code()),
             Answer::Found(word) => write!(f, "{word}"),
             Answer::Announced(id) => write!(f, "{}.{}", id.place, id.generation),
-            Answer::Value(value) => write!(f, "{value}"),
-            Answer::Place(place) => write!(f, "{place}"),
-            Answer::Claimed(place, false) => write!(f, "{place}"),
-            Answer::Claimed(place, true) => write!(f, "{place} dropped"),
-            Answer::Loan(place, block, first) => write!(f, "{place} block {block} byte {first}"),
-            Answer::Places(places) => write!(f, "{:?}", places.as_slice()),
-            Answer::Output(places, false) => write!(f, "{:?}", places.as_slice()),
-            Answer::Output(places, true) => write!(f, "{:?} closed", places.as_slice()),
-            Answer::Filled(dropped) => write!(f, "ok, dropped {dropped}"),
-            Answer::Run(run) => write!(f, "run {run}"),
             Answer::Level(level) => write!(f, "{level:?}"),
-            Answer::Serials(serials) => write!(f, "{:?}", serials.as_slice()),
-            Answer::None => write!(f, "none"),
-            Answer::Closed => write!(f, "closed"),
-            Answer::Empty => write!(f, "empty"),
-            Answer::NotInHand => write!(f, "not in hand"),
-            Answer::NoPlace => write!(f, "no such place"),
+            _ => show_numbers(self, f),
         }
     }
 }

@@ -176,16 +176,26 @@ fn seen(alloc: Global, record: Record) -> Result<String> {
     }
 }
 
-/// `frames DATAGRAM ..`: how many buffers the application got, and what it knows of each.
-pub fn frames<R: Threads + Wait + Sync>(rt: &R, alloc: Global, words: &[&str]) -> Result<String> {
+/// The datagrams of a row, each of hexadecimal digits.
+fn datagrams_of(alloc: Global, words: &[&str]) -> Result<Vec<Vec<u8>>> {
     let mut datagrams = Vec::new(alloc);
     for digits in words.iter().skip(1) {
         datagrams.push(hex::decode(alloc, digits.as_bytes())?)?;
     }
-    let records = records(rt, alloc, datagrams.as_slice())?;
+    Ok(datagrams)
+}
+
+/// How many records there are, and what the application knows of each.
+fn all_seen(alloc: Global, records: &Records) -> Result<String> {
     let mut text = format!(in alloc; "{} buffers", records.len())?;
-    for record in &records {
+    for record in records {
         text.push_str(seen(alloc, *record)?.as_str())?;
     }
     Ok(text)
+}
+
+/// `frames DATAGRAM ..`: how many buffers the application got, and what it knows of each.
+pub fn frames<R: Threads + Wait + Sync>(rt: &R, alloc: Global, words: &[&str]) -> Result<String> {
+    let datagrams = datagrams_of(alloc, words)?;
+    all_seen(alloc, &records(rt, alloc, datagrams.as_slice())?)
 }

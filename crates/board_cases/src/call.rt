@@ -75,24 +75,60 @@ pub enum Act {
     Deed(u8, Deed),
 }
 
-/// The call of GenTL that a row names.
-fn call_of(words: &[&str]) -> Option<Call> {
-    match word(words, 0)? {
-        "announce" => Some(Call::Announce(number(words, 1)?)),
-        "queue" => Some(Call::Queue(buffer_id(words, 1)?)),
-        "revoke" => Some(Call::Revoke(buffer_id(words, 1)?)),
-        "borrow" => Some(Call::Borrow(buffer_id(words, 1)?)),
-        "flush" => Some(Call::Flush(long(words, 1)?)),
+/// The call that has no arguments and this name.
+fn bare_call(name: &str) -> Option<Call> {
+    match name {
         "start" => Some(Call::Start),
-        "stop" => Some(Call::Stop(long(words, 1)?)),
-        "info" => Some(Call::Info(long(words, 1)?)),
-        "buffer-info" => Some(Call::BufferInfo(buffer_id(words, 1)?, long(words, 3)?)),
         "close" => Some(Call::Close),
         "get" => Some(Call::Get),
         "kill" => Some(Call::Kill),
         "flush-event" => Some(Call::FlushEvent),
         _ => None,
     }
+}
+
+/// The call on the stream with this name and number.
+fn stream_call(name: &str, number: u32) -> Option<Call> {
+    match name {
+        "flush" => Some(Call::Flush(number)),
+        "stop" => Some(Call::Stop(number)),
+        "info" => Some(Call::Info(number)),
+        _ => None,
+    }
+}
+
+/// The call on a buffer that a row names.
+fn buffer_call(words: &[&str]) -> Option<Call> {
+    let name = word(words, 0)?;
+    let id = buffer_id(words, 1)?;
+    match name {
+        "queue" => Some(Call::Queue(id)),
+        "revoke" => Some(Call::Revoke(id)),
+        "borrow" => Some(Call::Borrow(id)),
+        "buffer-info" => Some(Call::BufferInfo(id, long(words, 3)?)),
+        _ => None,
+    }
+}
+
+/// The call that a row names by its name and one number.
+fn number_call(words: &[&str]) -> Option<Call> {
+    let name = word(words, 0)?;
+    let number = number(words, 1)?;
+    if name == "announce" {
+        return Some(Call::Announce(number));
+    }
+    stream_call(name, u32::try_from(number).ok()?)
+}
+
+/// The call of GenTL that a row names.
+fn call_of(words: &[&str]) -> Option<Call> {
+    if let Some(call) = bare_call(word(words, 0)?) {
+        return Some(call);
+    }
+    if let Some(call) = buffer_call(words) {
+        return Some(call);
+    }
+    number_call(words)
 }
 
 /// The mode with this number.
@@ -105,19 +141,38 @@ fn mode(words: &[&str], at: usize) -> Option<Mode> {
     }
 }
 
-/// The step without a place in hand that a row names.
-fn look_of(words: &[&str]) -> Option<Look> {
-    match word(words, 0)? {
-        "load" => Some(Look::Load(byte(words, 1)?)),
-        "put-in" => Some(Look::PutIn(byte(words, 1)?, long(words, 2)?)),
+/// The step without a place in hand that has no arguments and this name.
+fn bare_look(name: &str) -> Option<Look> {
+    match name {
         "look-pool" => Some(Look::Pool),
         "look-out" => Some(Look::Output),
         "mark" => Some(Look::Mark),
         "run" => Some(Look::Run),
         "start-run" => Some(Look::StartRun),
-        "stop-run" => Some(Look::StopRun(number(words, 1)? != 0)),
         "post" => Some(Look::Post),
         "unpost" => Some(Look::Unpost),
+        _ => None,
+    }
+}
+
+/// The step without a place in hand that a row names.
+fn look_of(words: &[&str]) -> Option<Look> {
+    let name = word(words, 0)?;
+    match name {
+        "load" => Some(Look::Load(byte(words, 1)?)),
+        "put-in" => Some(Look::PutIn(byte(words, 1)?, long(words, 2)?)),
+        "stop-run" => Some(Look::StopRun(number(words, 1)? != 0)),
+        _ => bare_look(name),
+    }
+}
+
+/// The step on a place with this number that a row names.
+fn place_step(words: &[&str]) -> Option<Step> {
+    let place = byte(words, 1)?;
+    let number = long(words, 2)?;
+    match word(words, 0)? {
+        "enrol" => Some(Step::Enrol(place, number)),
+        "grab" => Some(Step::Grab(place, number)),
         _ => None,
     }
 }
@@ -125,31 +180,34 @@ fn look_of(words: &[&str]) -> Option<Look> {
 /// The step that brings a place to hand that a row names.
 fn step_of(words: &[&str]) -> Option<Step> {
     match word(words, 0)? {
-        "enrol" => Some(Step::Enrol(byte(words, 1)?, long(words, 2)?)),
-        "grab" => Some(Step::Grab(byte(words, 1)?, long(words, 2)?)),
         "claim" => Some(Step::Claim),
         "claim-for" => Some(Step::ClaimFor(mode(words, 1)?)),
         "take" => Some(Step::Take),
         "sweep-pool" => Some(Step::SweepPool),
         "sweep-out" => Some(Step::SweepOut),
+        _ => place_step(words),
+    }
+}
+
+/// The fill of a place in hand that a row names.
+fn fill_of(words: &[&str]) -> Option<Deed> {
+    let block = byte(words, 2)?;
+    match word(words, 0)? {
+        "fill" => Some(Deed::Fill(None, block)),
+        "fill-for" => Some(Deed::Fill(Some(mode(words, 3)?), block)),
         _ => None,
     }
 }
 
-/// The step on a place in hand that a row names, and the place.
-fn deed_of(words: &[&str]) -> Option<(u8, Deed)> {
-    let name = word(words, 0)?;
-    let place = byte(words, 1)?;
-    let deed = match name {
-        "lay" => Deed::Lay,
-        "pool" => Deed::Pool,
-        "vacate" => Deed::Vacate,
-        "lend" => Deed::Lend(long(words, 2)?),
-        "fill" => Deed::Fill(None, byte(words, 2)?),
-        "fill-for" => Deed::Fill(Some(mode(words, 3)?), byte(words, 2)?),
-        _ => return None,
-    };
-    Some((place, deed))
+/// The step on a place in hand that a row names.
+fn deed_of(words: &[&str]) -> Option<Deed> {
+    match word(words, 0)? {
+        "lay" => Some(Deed::Lay),
+        "pool" => Some(Deed::Pool),
+        "vacate" => Some(Deed::Vacate),
+        "lend" => Some(Deed::Lend(long(words, 2)?)),
+        _ => fill_of(words),
+    }
 }
 
 /// What the row of an actor names.
@@ -163,6 +221,6 @@ pub fn act_of(words: &[&str]) -> Option<Act> {
     if let Some(step) = step_of(words) {
         return Some(Act::Step(step));
     }
-    let (place, deed) = deed_of(words)?;
-    Some(Act::Deed(place, deed))
+    let deed = deed_of(words)?;
+    Some(Act::Deed(byte(words, 1)?, deed))
 }

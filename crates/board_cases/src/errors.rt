@@ -30,25 +30,57 @@ fn shown(words: &[&str]) -> Option<Shown> {
     }
 }
 
+/// The error that tells nothing more and has this name.
+fn bare_error(name: &str) -> Option<GcError> {
+    match name {
+        "abort" => Some(GcError::Abort),
+        "exhausted" => Some(GcError::ResourceExhausted),
+        "memory" => Some(GcError::OutOfMemory),
+        _ => None,
+    }
+}
+
+/// The error of a row that tells what the call found.
+fn found_error(words: &[&str]) -> Option<GcError> {
+    match word(words, 1)? {
+        "in-use" => Some(GcError::ResourceInUse(shown(words)?)),
+        "handle" => Some(GcError::InvalidHandle(shown(words)?)),
+        "busy" => Some(GcError::Busy(place_word(words)?)),
+        _ => None,
+    }
+}
+
+/// The error with this name that tells a number of four bytes.
+fn long_error(name: &str, number: u32) -> Option<GcError> {
+    match name {
+        "not-available" => Some(GcError::NotAvailable(number)),
+        "index" => Some(GcError::InvalidIndex(number)),
+        _ => None,
+    }
+}
+
+/// The error of a row that tells numbers.
+fn number_error(words: &[&str]) -> Option<GcError> {
+    let first = number(words, 2)?;
+    match word(words, 1)? {
+        "parameter" => Some(GcError::InvalidParameter(first)),
+        "timeout" => Some(GcError::Timeout {
+            first,
+            last: number(words, 3)?,
+        }),
+        name => long_error(name, u32::try_from(first).ok()?),
+    }
+}
+
 /// `error NAME` and what it has.
 pub fn error(words: &[&str]) -> Option<Answer> {
-    let error = match word(words, 1)? {
-        "in-use" => GcError::ResourceInUse(shown(words)?),
-        "handle" => GcError::InvalidHandle(shown(words)?),
-        "parameter" => GcError::InvalidParameter(number(words, 2)?),
-        "timeout" => GcError::Timeout {
-            first: number(words, 2)?,
-            last: number(words, 3)?,
-        },
-        "abort" => GcError::Abort,
-        "not-available" => GcError::NotAvailable(long(words, 2)?),
-        "index" => GcError::InvalidIndex(long(words, 2)?),
-        "exhausted" => GcError::ResourceExhausted,
-        "memory" => GcError::OutOfMemory,
-        "busy" => GcError::Busy(place_word(words)?),
-        _ => return None,
-    };
-    Some(Answer::Refused(error))
+    if let Some(error) = bare_error(word(words, 1)?) {
+        return Some(Answer::Refused(error));
+    }
+    if let Some(error) = found_error(words) {
+        return Some(Answer::Refused(error));
+    }
+    Some(Answer::Refused(number_error(words)?))
 }
 
 /// `loan-info BLOCK COMPLETE LARGER FILLED NUMBER`: what a record tells, by the number of GenTL's list.

@@ -33,7 +33,6 @@ use std::thread::Threads;
 /// What a row asks for.
 #[derive(Clone, Copy)]
 enum Row {
-    Remark,
     NewBoards,
     NewHandles,
     /// A wait of the host of the shared board.
@@ -54,18 +53,13 @@ fn act_row(words: &[&str]) -> Option<Row> {
     }
 }
 
+/// What the row of these words asks for.
 fn row_of(words: &[&str]) -> Row {
-    let Some(name) = word(words, 0) else {
-        return Row::Remark;
-    };
-    if name.starts_with('#') {
-        return Row::Remark;
-    }
-    match name {
-        "board" => Row::NewBoards,
-        "tree" => Row::NewHandles,
-        "wait" => Row::Wait,
-        "frames" => Row::Frames,
+    match word(words, 0) {
+        Some("board") => Row::NewBoards,
+        Some("tree") => Row::NewHandles,
+        Some("wait") => Row::Wait,
+        Some("frames") => Row::Frames,
         _ => act_row(words).unwrap_or(Row::Alone),
     }
 }
@@ -98,14 +92,65 @@ fn alone(alloc: Global, handles: &mut Handles, words: &[&str]) -> Result<String,
     one(alloc, answer)
 }
 
-/// The answer of a row, if it has one.
+/// Begins two boards anew.
+fn renew_boards(alloc: Global, boards: &mut Boards) -> Result<String>
+    requires host { IsReady (board_id boards.old.board) boards.old.host.pass boards.old.host.held }
+    requires first { IsReady (board_id boards.old.board) boards.old.first.pass boards.old.first.held }
+    requires second { IsReady (board_id boards.old.board) boards.old.second.pass boards.old.second.held }
+    requires third { IsReady (board_id boards.old.board) boards.old.third.pass boards.old.third.held }
+    ensures host { IsReady (board_id boards.new.board) boards.new.host.pass boards.new.host.held }
+    ensures first { IsReady (board_id boards.new.board) boards.new.first.pass boards.new.first.held }
+    ensures second { IsReady (board_id boards.new.board) boards.new.second.pass boards.new.second.held }
+    ensures third { IsReady (board_id boards.new.board) boards.new.third.pass boards.new.third.held }
+{
+    *boards = new_boards(alloc)?;
+    Ok(String::from_str(alloc, "new")?)
+}
+
+/// Begins the handles anew.
+fn renew_handles(alloc: Global, handles: &mut Handles) -> Result<String> {
+    *handles = new_handles(alloc)?;
+    Ok(String::from_str(alloc, "new")?)
+}
+
+/// The answer of a wait of the host of the shared board.
+fn wait<R: Wait>(rt: &R, alloc: Global, boards: &mut Boards, words: &[&str]) -> Result<String>
+    requires host { IsReady (board_id boards.old.board) boards.old.host.pass boards.old.host.held }
+    requires first { IsReady (board_id boards.old.board) boards.old.first.pass boards.old.first.held }
+    requires second { IsReady (board_id boards.old.board) boards.old.second.pass boards.old.second.held }
+    requires third { IsReady (board_id boards.old.board) boards.old.third.pass boards.old.third.held }
+    ensures host { IsReady (board_id boards.new.board) boards.new.host.pass boards.new.host.held }
+    ensures first { IsReady (board_id boards.new.board) boards.new.first.pass boards.new.first.held }
+    ensures second { IsReady (board_id boards.new.board) boards.new.second.pass boards.new.second.held }
+    ensures third { IsReady (board_id boards.new.board) boards.new.third.pass boards.new.third.held }
+{
+    let answer = shared::wait_row(rt, alloc, &boards.board, &mut boards.host, words)?;
+    Ok(one(alloc, answer)?)
+}
+
+/// The answer of a row that is an actor's act.
+fn act<R: Wait>(rt: &R, alloc: Global, boards: &mut Boards, number: u8, act: Act) -> Result<String>
+    requires host { IsReady (board_id boards.old.board) boards.old.host.pass boards.old.host.held }
+    requires first { IsReady (board_id boards.old.board) boards.old.first.pass boards.old.first.held }
+    requires second { IsReady (board_id boards.old.board) boards.old.second.pass boards.old.second.held }
+    requires third { IsReady (board_id boards.old.board) boards.old.third.pass boards.old.third.held }
+    ensures host { IsReady (board_id boards.new.board) boards.new.host.pass boards.new.host.held }
+    ensures first { IsReady (board_id boards.new.board) boards.new.first.pass boards.new.first.held }
+    ensures second { IsReady (board_id boards.new.board) boards.new.second.pass boards.new.second.held }
+    ensures third { IsReady (board_id boards.new.board) boards.new.third.pass boards.new.third.held }
+{
+    let (plain, shared) = boards::act(rt, alloc, boards, number, act);
+    Ok(both(alloc, plain, shared)?)
+}
+
+/// The answer of a row.
 fn answer_row<R: Threads + Wait + Sync>(
     rt: &R,
     alloc: Global,
     boards: &mut Boards,
     handles: &mut Handles,
     words: &[&str],
-) -> Result<Option<String>>
+) -> Result<String>
     requires host { IsReady (board_id boards.old.board) boards.old.host.pass boards.old.host.held }
     requires first { IsReady (board_id boards.old.board) boards.old.first.pass boards.old.first.held }
     requires second { IsReady (board_id boards.old.board) boards.old.second.pass boards.old.second.held }
@@ -116,40 +161,94 @@ fn answer_row<R: Threads + Wait + Sync>(
     ensures third { IsReady (board_id boards.new.board) boards.new.third.pass boards.new.third.held }
 {
     match row_of(words) {
-        Row::Remark => Ok(None),
-        Row::NewBoards => {
-            *boards = new_boards(alloc)?;
-            Ok(Some(String::from_str(alloc, "new")?))
-        }
-        Row::NewHandles => {
-            *handles = new_handles(alloc)?;
-            Ok(Some(String::from_str(alloc, "new")?))
-        }
-        Row::Wait => {
-            let answer = shared::wait_row(rt, alloc, &boards.board, &mut boards.host, words)?;
-            Ok(Some(one(alloc, answer)?))
-        }
-        Row::Frames => Ok(Some(application::frames(rt, alloc, words)?)),
-        Row::Act(number, act) => {
-            let (plain, shared) = boards::act(rt, alloc, boards, number, act);
-            Ok(Some(both(alloc, plain, shared)?))
-        }
-        Row::Alone => Ok(Some(alone(alloc, handles, words)?)),
+        Row::NewBoards => renew_boards(alloc, boards),
+        Row::NewHandles => renew_handles(alloc, handles),
+        Row::Wait => wait(rt, alloc, boards, words),
+        Row::Frames => application::frames(rt, alloc, words),
+        Row::Act(number, asked) => act(rt, alloc, boards, number, asked),
+        Row::Alone => Ok(alone(alloc, handles, words)?),
     }
 }
 
-fn main(rt: HostRuntime) -> Result<()> {
-    let alloc = rt.alloc();
-    let mut boards = new_boards(alloc)?;
-    let mut handles = new_handles(alloc)?;
-    for line in rt.lines(alloc) {
-        let line = line?;
-        let text = line.as_str();
-        let words: Vec<&str> = text.split_whitespace().collect(alloc)?;
-        match answer_row(&rt, alloc, &mut boards, &mut handles, &words)? {
-            Some(answer) => println!(rt; "{text} = {answer}")?,
-            None => println!(rt; "{text}")?,
-        }
+/// The answer of the row that a line is.
+fn answer_line<R: Threads + Wait + Sync>(
+    rt: &R,
+    alloc: Global,
+    boards: &mut Boards,
+    handles: &mut Handles,
+    line: &str,
+) -> Result<String>
+    requires host { IsReady (board_id boards.old.board) boards.old.host.pass boards.old.host.held }
+    requires first { IsReady (board_id boards.old.board) boards.old.first.pass boards.old.first.held }
+    requires second { IsReady (board_id boards.old.board) boards.old.second.pass boards.old.second.held }
+    requires third { IsReady (board_id boards.old.board) boards.old.third.pass boards.old.third.held }
+    ensures host { IsReady (board_id boards.new.board) boards.new.host.pass boards.new.host.held }
+    ensures first { IsReady (board_id boards.new.board) boards.new.first.pass boards.new.first.held }
+    ensures second { IsReady (board_id boards.new.board) boards.new.second.pass boards.new.second.held }
+    ensures third { IsReady (board_id boards.new.board) boards.new.third.pass boards.new.third.held }
+{
+    let words: Vec<&str> = line.split_whitespace().collect(alloc)?;
+    answer_row(rt, alloc, boards, handles, &words)
+}
+
+/// Whether a line is no row.
+fn is_remark(line: &str) -> bool {
+    let text = line.trim_start();
+    text.is_empty() || text.starts_with('#')
+}
+
+/// Writes a row with its answer.
+fn show_row(rt: &HostRuntime, row: &str, answer: &str) -> Result<()> {
+    Ok(println!(rt; "{row} = {answer}")?)
+}
+
+/// Writes a line again, a row with its answer. The row has its threads of `threads`.
+fn show_line<R: Threads + Wait + Sync>(
+    rt: &HostRuntime,
+    threads: &R,
+    boards: &mut Boards,
+    handles: &mut Handles,
+    line: &str,
+) -> Result<()>
+    requires host { IsReady (board_id boards.old.board) boards.old.host.pass boards.old.host.held }
+    requires first { IsReady (board_id boards.old.board) boards.old.first.pass boards.old.first.held }
+    requires second { IsReady (board_id boards.old.board) boards.old.second.pass boards.old.second.held }
+    requires third { IsReady (board_id boards.old.board) boards.old.third.pass boards.old.third.held }
+    ensures host { IsReady (board_id boards.new.board) boards.new.host.pass boards.new.host.held }
+    ensures first { IsReady (board_id boards.new.board) boards.new.first.pass boards.new.first.held }
+    ensures second { IsReady (board_id boards.new.board) boards.new.second.pass boards.new.second.held }
+    ensures third { IsReady (board_id boards.new.board) boards.new.third.pass boards.new.third.held }
+{
+    if is_remark(line) {
+        return Ok(println!(rt; "{line}")?);
+    }
+    show_row(
+        rt,
+        line,
+        &answer_line(threads, rt.alloc(), boards, handles, line)?,
+    )
+}
+
+/// Writes each line of standard input again, a row with its answer.
+fn show_lines<R: Threads + Wait + Sync>(
+    rt: &HostRuntime,
+    threads: &R,
+    boards: &mut Boards,
+    handles: &mut Handles,
+) -> Result<()>
+    requires host { IsReady (board_id boards.old.board) boards.old.host.pass boards.old.host.held }
+    requires first { IsReady (board_id boards.old.board) boards.old.first.pass boards.old.first.held }
+    requires second { IsReady (board_id boards.old.board) boards.old.second.pass boards.old.second.held }
+    requires third { IsReady (board_id boards.old.board) boards.old.third.pass boards.old.third.held }
+{
+    for line in rt.lines(rt.alloc()) {
+        show_line(rt, threads, boards, handles, line?.as_str())?;
     }
     Ok(())
+}
+
+fn main(rt: HostRuntime) -> Result<()> {
+    let mut boards = new_boards(rt.alloc())?;
+    let mut handles = new_handles(rt.alloc())?;
+    show_lines(&rt, &rt, &mut boards, &mut handles)
 }

@@ -32,27 +32,37 @@ pub enum Heard {
 /// Puts what this names: `xBYTES` a datagram, `sxBYTES` one of another address, `-TIMES` so many receives that get
 /// nothing, `tBLOCK` a frame's trailer, `BLOCK` its packets, and `BLOCK.LOST` these without a payload.
 pub fn put_datagram(alloc: Global, packets: &mut Vec<Heard>, name: &str) -> Result<(), Wrong> {
-    if let Some(digits) = name.strip_prefix("x") {
-        packets.push(Heard::Camera(bytes_of(alloc, digits)?))?;
-        return Ok(());
-    }
-    if let Some(digits) = name.strip_prefix("sx") {
-        packets.push(Heard::Stranger(bytes_of(alloc, digits)?))?;
+    if let Some(heard) = one_datagram(alloc, name)? {
+        packets.push(heard)?;
         return Ok(());
     }
     if let Some(times) = name.strip_prefix("-") {
-        for _ in 0..block_of(times)? {
-            packets.push(Heard::Nothing)?;
-        }
-        return Ok(());
-    }
-    if let Some(block) = name.strip_prefix("t") {
-        packets.push(Heard::Camera(trailer(alloc, block_of(block)?)?))?;
-        return Ok(());
+        return put_nothing(packets, times);
     }
     let (block, lost) = name.split_once(".").unwrap_or((name, "0"));
-    let lost = block_of(lost)?;
-    put_frame(alloc, packets, block_of(block)?, lost)?;
+    put_frame(alloc, packets, block_of(block)?, block_of(lost)?)?;
+    Ok(())
+}
+
+/// The datagram that this names, if it names a single one.
+fn one_datagram(alloc: Global, name: &str) -> Result<Option<Heard>, Wrong> {
+    if let Some(digits) = name.strip_prefix("x") {
+        return Ok(Some(Heard::Camera(bytes_of(alloc, digits)?)));
+    }
+    if let Some(digits) = name.strip_prefix("sx") {
+        return Ok(Some(Heard::Stranger(bytes_of(alloc, digits)?)));
+    }
+    match name.strip_prefix("t") {
+        Some(block) => Ok(Some(Heard::Camera(trailer(alloc, block_of(block)?)?))),
+        None => Ok(None),
+    }
+}
+
+/// Puts so many receives that get nothing.
+fn put_nothing(packets: &mut Vec<Heard>, times: &str) -> Result<(), Wrong> {
+    for _ in 0..block_of(times)? {
+        packets.push(Heard::Nothing)?;
+    }
     Ok(())
 }
 
@@ -96,6 +106,32 @@ fn trailer(alloc: Global, block: u64) -> Result<Vec<u8>, NoMemory> {
     Ok(packet)
 }
 
+/// A payload of a frame.
+fn payload(alloc: Global, block: u64, id: u32, bytes: &[u8]) -> Result<Vec<u8>, NoMemory> {
+    let mut packet = Vec::new(alloc);
+    put_header(&mut packet, 3, block, id)?;
+    packet.extend_from_slice(bytes)?;
+    Ok(packet)
+}
+
+/// Puts the payloads of a frame with these bytes, without the payload `lost`; number 0 leaves none out.
+fn put_payloads(
+    alloc: Global,
+    packets: &mut Vec<Heard>,
+    block: u64,
+    lost: u64,
+    pixels: &[u8],
+) -> Result<(), NoMemory> {
+    let mut id = 0u32;
+    for bytes in pixels.chunks(PAYLOAD_SIZE) {
+        id = id.saturating_add(1);
+        if u64::from(id) != lost {
+            packets.push(Heard::Camera(payload(alloc, block, id, bytes)?))?;
+        }
+    }
+    Ok(())
+}
+
 /// Puts the packets of a frame of seed 1, without its payload `lost`; number 0 leaves none out.
 fn put_frame(
     alloc: Global,
@@ -105,16 +141,7 @@ fn put_frame(
 ) -> Result<(), NoMemory> {
     let frame = frame_of(alloc, 1, block, SHAPE)?;
     packets.push(Heard::Camera(leader(alloc, block)?))?;
-    let mut id = 0u32;
-    for payload in frame.pixels.as_slice().chunks(PAYLOAD_SIZE) {
-        id = id.saturating_add(1);
-        if u64::from(id) != lost {
-            let mut packet = Vec::new(alloc);
-            put_header(&mut packet, 3, block, id)?;
-            packet.extend_from_slice(payload)?;
-            packets.push(Heard::Camera(packet))?;
-        }
-    }
+    put_payloads(alloc, packets, block, lost, frame.pixels.as_slice())?;
     packets.push(Heard::Camera(trailer(alloc, block)?))?;
     Ok(())
 }

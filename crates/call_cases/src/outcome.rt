@@ -12,53 +12,75 @@ pub struct Sent {
     pub front: String,
 }
 
-/// How a call ended: what it answered and wrote, how many links came back, how many faults the ports count, the run word
-/// of the board that was kept, what the control link sent, and whether a worker waited in vain at the gate.
+/// How a call ended: what it answered, the run word of the board that was kept, and whether a worker waited in vain at the
+/// gate.
+#[derive(Drop)]
+pub struct End {
+    pub status: Status,
+    pub run: Option<u8>,
+    pub is_missed: bool,
+}
+
+/// The same with what it wrote, how many links came back, how many faults the ports count, and what the control link sent.
 #[derive(Drop)]
 pub struct Outcome {
-    pub status: Status,
+    pub end: End,
     pub written: Vec<u8>,
     pub links: usize,
     pub faults: u64,
-    pub run: Option<u8>,
     pub sent: Vec<Sent>,
-    pub is_missed: bool,
 }
 
 /// Writes a row with how it ended, and the lines of its report that it shows.
 pub fn show(rt: &HostRuntime, line: &str, setting: &Setting, outcome: &Outcome) -> io::Result<()> {
+    show_end(rt, line, setting, outcome)?;
+    show_report(rt, setting, outcome.written.as_slice())?;
+    if setting.kept {
+        return show_kept(rt, outcome);
+    }
+    Ok(())
+}
+
+/// Writes a row with how it ended.
+fn show_end(rt: &HostRuntime, line: &str, setting: &Setting, outcome: &Outcome) -> io::Result<()> {
     let Outcome {
-        status,
+        end,
         links,
         faults,
         ..
     } = outcome;
-    let board = if outcome.run.is_some() {
-        "a board"
-    } else {
-        "no board"
-    };
-    let missed = if outcome.is_missed { ", missed" } else { "" };
+    let status = &end.status;
+    let rest = rest_of(end);
     if setting.either && may_end_so(status) {
-        println!(rt; "{line} = done or spent, {links} links, {faults} faults, {board}{missed}")?;
-    } else {
-        println!(rt; "{line} = {status}, {links} links, {faults} faults, {board}{missed}")?;
+        return println!(rt; "{line} = done or spent, {links} links, {faults} faults, {rest}");
     }
-    let text = str::from_utf8(outcome.written.as_slice()).unwrap_or("not a text");
+    println!(rt; "{line} = {status}, {links} links, {faults} faults, {rest}")
+}
+
+/// Whether a board was kept, and whether a worker waited in vain.
+fn rest_of(end: &End) -> &'static str {
+    match (end.run, end.is_missed) {
+        (Some(_), false) => "a board",
+        (Some(_), true) => "a board, missed",
+        (None, false) => "no board",
+        (None, true) => "no board, missed",
+    }
+}
+
+/// Writes the lines of a report that are shown.
+fn show_report(rt: &HostRuntime, setting: &Setting, written: &[u8]) -> io::Result<()> {
+    let text = str::from_utf8(written).unwrap_or("not a text");
     for each in text.split('\n') {
         if !each.is_empty() && is_shown(setting, each) {
             show_line(rt, setting.shown, each)?;
         }
-    }
-    if setting.kept {
-        show_kept(rt, outcome)?;
     }
     Ok(())
 }
 
 /// Writes the run word of the board that was kept, and what the control link sent.
 fn show_kept(rt: &HostRuntime, outcome: &Outcome) -> io::Result<()> {
-    if let Some(run) = outcome.run {
+    if let Some(run) = outcome.end.run {
         println!(rt; "  run word {run}")?;
     }
     for sent in &outcome.sent {

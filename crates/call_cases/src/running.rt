@@ -4,7 +4,7 @@ ghost use Rattle.std.specs.Prelude.{◌≡◌, IfSome};
 ghost use Rattle.buffer_words.specs.Boards.{board_id};
 
 use crate::datagrams::Heard;
-use crate::outcome::{Outcome, Sent};
+use crate::outcome::{End, Outcome, Sent};
 use crate::pacing::Pace;
 use crate::setting::{Fails, Setting};
 use buffer_words::{Board, Pass};
@@ -170,13 +170,10 @@ fn call_over<R: Threads + Wait + Sync>(
 ) -> Result<Outcome, NoMemory> {
     let moments = setting.moments.as_slice();
     let gate = Pace::new(setting.pace.as_slice());
-    let receives = match words.get(0) {
-        Some(word) => word.as_str() == "receive",
-        None => false,
-    };
-    let mut ports = ports_of(alloc, receives, stream, control, moments, setting.fails)?;
+    let fails = setting.fails;
+    let mut ports = ports_of(alloc, receives(words), stream, control, moments, fails)?;
     let mut source = SteadySource::new(script, 100_000);
-    let mut sink = MemorySink::new(alloc, setting.piece, setting.fails.write);
+    let mut sink = MemorySink::new(alloc, setting.piece, fails.write);
     let mut kept = None;
     let status = gevacq_top(
         rt,
@@ -188,13 +185,36 @@ fn call_over<R: Threads + Wait + Sync>(
         &gate,
         &mut kept,
     );
-    Ok(Outcome {
+    let end = End {
         status,
-        written: sink.written().to_vec(alloc)?,
+        run: run_word(&mut kept),
+        is_missed: gate.is_missed(),
+    };
+    outcome_of(alloc, end, &sink, &ports)
+}
+
+/// Whether these words are `receive` and what it's given.
+fn receives(words: &[String]) -> bool {
+    match words.first() {
+        Some(word) => word.as_str() == "receive",
+        None => false,
+    }
+}
+
+/// What a call that ended so has left in its sink and its ports.
+fn outcome_of(
+    alloc: Global,
+    end: End,
+    sink: &MemorySink<'_>,
+    ports: &MemoryPorts<'_, MemoryLink<'_>>,
+) -> Result<Outcome, NoMemory> {
+    let sent = sent_by(alloc, ports.links())?;
+    let written = sink.written().to_vec(alloc)?;
+    Ok(Outcome {
+        end,
+        written,
         links: ports.links().len(),
         faults: ports.faults(),
-        run: run_word(&mut kept),
-        sent: sent_by(alloc, ports.links())?,
-        is_missed: gate.is_missed(),
+        sent,
     })
 }

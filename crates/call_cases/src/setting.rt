@@ -44,6 +44,32 @@ pub struct Fails {
     pub write: &'static [u64],
 }
 
+impl Fails {
+    /// No call fails.
+    fn none() -> Fails {
+        Fails {
+            bind: &[],
+            hear: &[],
+            answer: &[],
+            send: &[],
+            write: &[],
+        }
+    }
+
+    /// Sets which calls of this name fail: whether it's such a name.
+    fn set(&mut self, name: &str, value: &str) -> Result<bool, Wrong> {
+        match name {
+            "bind" => self.bind = only(value)?,
+            "hear" => self.hear = only(value)?,
+            "answer" => self.answer = only(value)?,
+            "send" => self.send = only(value)?,
+            "write" => self.write = only(value)?,
+            _ => return Ok(false),
+        }
+        Ok(true)
+    }
+}
+
 /// The ports, the sink, the source and the gate of a call, and what is written of its report.
 #[derive(Drop)]
 pub struct Setting {
@@ -70,19 +96,13 @@ pub struct Setting {
 }
 
 impl Setting {
-    /// The settings of a row.
-    pub fn read(alloc: Global, text: &str) -> Result<Setting, Wrong> {
-        let mut setting = Setting {
+    /// The settings of a row without any, where the control link hears these datagrams.
+    fn new(alloc: Global, control: Vec<Heard>) -> Setting {
+        Setting {
             stream: Vec::new(alloc),
-            control: Vec::new(alloc),
+            control,
             moments: Vec::new(alloc),
-            fails: Fails {
-                bind: &[],
-                hear: &[],
-                answer: &[],
-                send: &[],
-                write: &[],
-            },
+            fails: Fails::none(),
             piece: 1000,
             pace: Vec::new(alloc),
             script: Vec::new(alloc),
@@ -91,39 +111,73 @@ impl Setting {
             known: Vec::new(alloc),
             either: false,
             kept: false,
-        };
-        setting.control = datagrams(alloc, ACKS)?;
-        for word in text.split_whitespace() {
-            let (name, value) = word.split_once("=").unwrap_or((word, ""));
-            setting.set(alloc, name, value)?;
         }
+    }
+
+    /// The settings of a row.
+    pub fn read(alloc: Global, text: &str) -> Result<Setting, Wrong> {
+        let mut setting = Setting::new(alloc, datagrams(alloc, ACKS)?);
+        setting.set_all(alloc, text)?;
         Ok(setting)
     }
 
+    /// Sets what the words of a text are of.
+    fn set_all(&mut self, alloc: Global, text: &str) -> Result<(), Wrong> {
+        for word in text.split_whitespace() {
+            let (name, value) = word.split_once("=").unwrap_or((word, ""));
+            self.set(alloc, name, value)?;
+        }
+        Ok(())
+    }
+
+    /// Sets what this name is of.
     fn set(&mut self, alloc: Global, name: &str, value: &str) -> Result<(), Wrong> {
+        if self.set_links(alloc, name, value)?
+            || self.fails.set(name, value)?
+            || self.set_run(alloc, name, value)?
+            || self.set_shown(alloc, name, value)?
+        {
+            return Ok(());
+        }
+        Err(Wrong::NotUnderstood)
+    }
+
+    /// Sets what the links hear and the clock tells: whether it's such a name.
+    fn set_links(&mut self, alloc: Global, name: &str, value: &str) -> Result<bool, Wrong> {
         match name {
             "stream" => self.stream = datagrams(alloc, value)?,
             "control" => self.control = datagrams(alloc, value)?,
             "again" => self.answer_again(alloc, value)?,
             "clock" => self.moments = moments(alloc, value)?,
             "steps" => self.moments = steps(alloc, value)?,
-            "bind" => self.fails.bind = only(value)?,
-            "hear" => self.fails.hear = only(value)?,
-            "answer" => self.fails.answer = only(value)?,
-            "send" => self.fails.send = only(value)?,
-            "write" => self.fails.write = only(value)?,
+            _ => return Ok(false),
+        }
+        Ok(true)
+    }
+
+    /// Sets what the sink, the gate and the source are: whether it's such a name.
+    fn set_run(&mut self, alloc: Global, name: &str, value: &str) -> Result<bool, Wrong> {
+        match name {
             "piece" => self.piece = number(value)? as usize,
             "pace" => self.pace = numbers(alloc, value)?,
             "script" => self.script = spaced(alloc, value)?,
             "replay" => self.replays = true,
+            _ => return Ok(false),
+        }
+        Ok(true)
+    }
+
+    /// Sets what is written of the report: whether it's such a name.
+    fn set_shown(&mut self, alloc: Global, name: &str, value: &str) -> Result<bool, Wrong> {
+        match name {
             "anyplace" => self.shown = Shown::AnyPlace,
             "takes" => self.shown = Shown::Takes,
             "known" => self.know(alloc, value)?,
             "either" => self.either = true,
             "kept" => self.kept = true,
-            _ => return Err(Wrong::NotUnderstood),
+            _ => return Ok(false),
         }
-        Ok(())
+        Ok(true)
     }
 
     /// The control link hears these behind the rest, a hundred times over.

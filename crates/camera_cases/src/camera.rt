@@ -27,15 +27,37 @@ fn set_camera(alloc: Global, short: bool) -> Result<Camera, NoMemory> {
 /// The answer to a row of the camera.
 pub fn answer(alloc: Global, camera: &mut Camera, row: &str) -> Result<String, Fault> {
     match word(row, 1) {
-        "new" => *camera = new_camera(alloc)?,
-        "short" => *camera = set_camera(alloc, true)?,
-        "whole" => *camera = set_camera(alloc, false)?,
-        "tick" => camera.tick(number(row, 2)?),
-        "state" => {}
-        "frame" => return frame(alloc, camera),
-        "next" => return next(alloc, camera),
-        _ => return command(alloc, camera, row),
+        "tick" => tick(alloc, camera, row),
+        "state" => told(alloc, state(camera)),
+        "frame" => frame(alloc, camera),
+        "next" => next(alloc, camera),
+        _ => answer_new(alloc, camera, row),
     }
+}
+
+/// The answer to a row of a new camera, or to a command.
+fn answer_new(alloc: Global, camera: &mut Camera, row: &str) -> Result<String, Fault> {
+    match word(row, 1) {
+        "new" => renew(alloc, camera, new_camera(alloc)),
+        "short" => renew(alloc, camera, set_camera(alloc, true)),
+        "whole" => renew(alloc, camera, set_camera(alloc, false)),
+        _ => command(alloc, camera, row),
+    }
+}
+
+/// Puts a new camera in place of the one before.
+fn renew(
+    alloc: Global,
+    camera: &mut Camera,
+    made: Result<Camera, NoMemory>,
+) -> Result<String, Fault> {
+    *camera = made?;
+    told(alloc, state(camera))
+}
+
+/// Tells the camera a moment.
+fn tick(alloc: Global, camera: &mut Camera, row: &str) -> Result<String, Fault> {
+    camera.tick(number(row, 2)?);
     told(alloc, state(camera))
 }
 
@@ -77,8 +99,19 @@ fn command(alloc: Global, camera: &mut Camera, row: &str) -> Result<String, Faul
         port: port(row, 2)?,
     };
     let sent = bytes(alloc, row, 3)?;
+    execute(alloc, camera, peer, sent.as_slice(), moment)
+}
+
+/// Has the camera execute a command: its acknowledge.
+fn execute(
+    alloc: Global,
+    camera: &mut Camera,
+    peer: Peer,
+    sent: &[u8],
+    moment: u64,
+) -> Result<String, Fault> {
     let mut out = [0; MESSAGE_SIZE];
-    match camera.command(peer, &sent, moment, &mut out) {
+    match camera.command(peer, sent, moment, &mut out) {
         Some(len) => Ok(hex::encode(alloc, &out[..len])?),
         None => told(alloc, ()),
     }

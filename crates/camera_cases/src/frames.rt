@@ -18,8 +18,8 @@ pub const SHAPE: Shape = Shape {
 pub fn answer(alloc: Global, row: &str) -> Result<String, Fault> {
     match word(row, 1) {
         "draw" => draw(alloc, number(row, 2)?),
-        "whole" => whole(alloc, number(row, 2)?, number(row, 3)?, shape(row)?),
-        "lines" => lines(alloc, row, shape(row)?),
+        "whole" => whole(alloc, row),
+        "lines" => lines(alloc, row),
         "camera" => of_camera(alloc, number(row, 2)?, number(row, 3)?),
         _ => Err(Fault::NotUnderstood),
     }
@@ -32,6 +32,7 @@ fn draw(alloc: Global, seed: u64) -> Result<String, Fault> {
     told(alloc, (drawn, generator))
 }
 
+/// The shape of an image, by the words of a row.
 fn shape(row: &str) -> Result<Shape, Fault> {
     Ok(Shape {
         pixel: short_number(row, 4)?,
@@ -40,6 +41,7 @@ fn shape(row: &str) -> Result<Shape, Fault> {
     })
 }
 
+/// An image as text.
 fn show(alloc: Global, frame: &Frame) -> Result<String, Fault> {
     let bytes = shown(alloc, frame.pixels.as_slice())?;
     Ok(format!(in alloc;
@@ -48,23 +50,44 @@ fn show(alloc: Global, frame: &Frame) -> Result<String, Fault> {
     )?)
 }
 
-fn whole(alloc: Global, seed: u64, block: u64, shape: Shape) -> Result<String, Fault> {
+/// A whole image, by the words of a row.
+fn whole(alloc: Global, row: &str) -> Result<String, Fault> {
+    let seed = number(row, 2)?;
+    let block = number(row, 3)?;
+    show_whole(alloc, seed, block, shape(row)?)
+}
+
+/// The whole image of this shape, where there are such.
+fn show_whole(alloc: Global, seed: u64, block: u64, shape: Shape) -> Result<String, Fault> {
     if frame_size(shape.pixel, shape.size_x, shape.size_y, 0, 0).is_none() {
         return Err(Fault::NotNow);
     }
     show(alloc, &frame_of(alloc, seed, block, shape)?)
 }
 
-fn lines(alloc: Global, row: &str, shape: Shape) -> Result<String, Fault> {
-    let lines = short_number(row, 7)?;
+/// An image of which the first lines are there, by the words of a row.
+fn lines(alloc: Global, row: &str) -> Result<String, Fault> {
+    let seed = number(row, 2)?;
+    let block = number(row, 3)?;
+    let shape = shape(row)?;
+    show_lines(alloc, seed, block, shape, short_number(row, 7)?)
+}
+
+/// The image of this shape with so many lines, where there are such.
+fn show_lines(
+    alloc: Global,
+    seed: u64,
+    block: u64,
+    shape: Shape,
+    lines: u32,
+) -> Result<String, Fault> {
     if frame_size(shape.pixel, shape.size_x, shape.size_y, 0, 0).is_none()
         || lines == 0
         || lines > shape.size_y
     {
         return Err(Fault::NotNow);
     }
-    let frame = short_frame_of(alloc, number(row, 2)?, number(row, 3)?, shape, lines)?;
-    show(alloc, &frame)
+    show(alloc, &short_frame_of(alloc, seed, block, shape, lines)?)
 }
 
 /// The lines of the camera's image in this block where images are whole and where they are short, and the

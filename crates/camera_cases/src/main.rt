@@ -19,20 +19,27 @@ use room::Room;
 use std::io;
 
 fn main(rt: HostRuntime) -> io::Result<()> {
-    let Ok(mut room) = Room::new(rt.alloc()) else {
-        return println!(rt; "no memory");
-    };
+    match Room::new(rt.alloc()) {
+        Ok(mut room) => answer_lines(&rt, &mut room),
+        Err(_) => println!(rt; "no memory"),
+    }
+}
+
+/// Writes each line of standard input with its answer.
+fn answer_lines(rt: &HostRuntime, room: &mut Room) -> io::Result<()> {
     for line in rt.lines(rt.alloc()) {
-        let line = line?;
-        let row = line.as_str();
-        if row.starts_with('#') {
-            println!(rt; "{row}")?;
-            continue;
-        }
-        match room.answer(rt.alloc(), row) {
-            Ok(answer) => println!(rt; "{row} = {answer}")?,
-            Err(fault) => println!(rt; "{row} = {fault:?}")?,
-        }
+        answer_line(rt, room, line?.as_str())?;
     }
     Ok(())
+}
+
+/// Writes a line, and behind a row its answer.
+fn answer_line(rt: &HostRuntime, room: &mut Room, row: &str) -> io::Result<()> {
+    if row.starts_with('#') {
+        return println!(rt; "{row}");
+    }
+    match room.answer(rt.alloc(), row) {
+        Ok(answer) => println!(rt; "{row} = {answer}"),
+        Err(fault) => println!(rt; "{row} = {fault:?}"),
+    }
 }

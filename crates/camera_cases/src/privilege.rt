@@ -18,12 +18,15 @@ pub fn answer(alloc: Global, privilege: &mut Privilege, row: &str) -> Result<Str
             told(alloc, ())
         }
         "primary" => told(alloc, privilege.primary()),
-        "tick" => {
-            let heartbeat = short_number(row, 3)?;
-            told(alloc, privilege.tick(number(row, 2)?, heartbeat))
-        }
+        "tick" => tick(alloc, privilege, row),
         _ => answer_peer(alloc, privilege, row),
     }
+}
+
+/// Tells the privilege a moment, where the heartbeat is so long.
+fn tick(alloc: Global, privilege: &mut Privilege, row: &str) -> Result<String, Fault> {
+    let heartbeat = short_number(row, 3)?;
+    told(alloc, privilege.tick(number(row, 2)?, heartbeat))
 }
 
 /// The answer to a row with a port.
@@ -33,17 +36,8 @@ fn answer_peer(alloc: Global, privilege: &mut Privilege, row: &str) -> Result<St
         port: port(row, 2)?,
     };
     match word(row, 1) {
-        "renew" => {
-            privilege.renew(peer, number(row, 3)?);
-            told(alloc, ())
-        }
-        "set" => set(
-            alloc,
-            privilege,
-            peer,
-            short_number(row, 3)?,
-            number(row, 4)?,
-        ),
+        "renew" => renew(alloc, privilege, peer, row),
+        "set" => set_by(alloc, privilege, peer, row),
         "may" => told(alloc, may(privilege, peer)),
         _ => Err(Fault::NotUnderstood),
     }
@@ -58,6 +52,24 @@ fn may(privilege: &Privilege, peer: Peer) -> (bool, bool, bool) {
     )
 }
 
+/// Has the peer keep control at a moment.
+fn renew(alloc: Global, privilege: &mut Privilege, peer: Peer, row: &str) -> Result<String, Fault> {
+    privilege.renew(peer, number(row, 3)?);
+    told(alloc, ())
+}
+
+/// Has the peer write a value at a moment.
+fn set_by(
+    alloc: Global,
+    privilege: &mut Privilege,
+    peer: Peer,
+    row: &str,
+) -> Result<String, Fault> {
+    let value = short_number(row, 3)?;
+    set(alloc, privilege, peer, value, number(row, 4)?)
+}
+
+/// Writes the privilege, where the peer may.
 fn set(
     alloc: Global,
     privilege: &mut Privilege,

@@ -29,9 +29,17 @@ fn answer_address(
         "initial" => told_word(alloc, Ok(initial_at(address))),
         "first" => told_word(alloc, Regs::new().read(address)),
         "read" => told_word(alloc, regs.read(address)),
-        "refusal" => told(alloc, value_refusal(address, short_number(row, 3)?)),
-        "write" => write(alloc, address, short_number(row, 3)?),
-        "put" => put(alloc, regs, address, short_number(row, 3)?),
+        _ => answer_value(alloc, regs, row, address),
+    }
+}
+
+/// The answer to a row with an address and a value.
+fn answer_value(alloc: Global, regs: &mut Regs, row: &str, address: u32) -> Result<String, Fault> {
+    let value = short_number(row, 3)?;
+    match word(row, 1) {
+        "refusal" => told(alloc, value_refusal(address, value)),
+        "write" => write(alloc, address, value),
+        "put" => put(alloc, regs, address, value),
         _ => Err(Fault::NotUnderstood),
     }
 }
@@ -47,6 +55,7 @@ fn write(alloc: Global, address: u32, value: u32) -> Result<String, Fault> {
     Ok(format!(in alloc; "{status:04x} {word}")?)
 }
 
+/// Puts a value into the registers.
 fn put(alloc: Global, regs: &mut Regs, address: u32, value: u32) -> Result<String, Fault> {
     if address_refusal(address).is_some() {
         return Err(Fault::NotNow);

@@ -41,6 +41,13 @@ impl Room {
             "privilege" => privilege::answer(alloc, &mut self.privilege, row),
             "frames" => frames::answer(alloc, row),
             "store" => store::answer(alloc, &mut self.store, row),
+            _ => self.answer_whole(alloc, row),
+        }
+    }
+
+    /// The answer to a row of the stream, the camera as a whole, its scripts, or the client.
+    fn answer_whole(&mut self, alloc: Global, row: &str) -> Result<String, Fault> {
+        match word(row, 0) {
             "stream" => stream::answer(alloc, &mut self.stream, row),
             "camera" => camera::answer(alloc, &mut self.camera, row),
             "script" => script::answer(alloc, row),

@@ -17,7 +17,12 @@ pub fn answer(alloc: Global, row: &str) -> Result<String, Fault> {
     };
     let mut lines = Vec::from_slice(alloc, script.as_bytes())?;
     exchange(&mut lines, b'/', b'\n');
-    let mut source = MemorySource::new(&lines, 50, &[]);
+    run_lines(alloc, lines.as_slice())
+}
+
+/// Runs a script: its report, and how its run ends.
+fn run_lines(alloc: Global, lines: &[u8]) -> Result<String, Fault> {
+    let mut source = MemorySource::new(lines, 50, &[]);
     let mut sink = MemorySink::new(alloc, 50, &[]);
     let mut run = CameraRun::new();
     let ending = run_modelled(alloc, &mut source, &mut sink, &mut run);

@@ -12,26 +12,43 @@ use std::alloc::Global;
 /// The answer to a row of the store.
 pub fn answer(alloc: Global, store: &mut Store, row: &str) -> Result<String, Fault> {
     match word(row, 1) {
-        "new" => {
-            *store = new_store(alloc, count(row, 2)?)?;
-            told(alloc, ())
-        }
+        "new" => renew(alloc, store, row),
         "push" => push(alloc, store, short_number(row, 2)?),
-        "reply" => {
-            let first = short_number(row, 2)?;
-            let last = short_number(row, 3)?;
-            told(alloc, store.reply(first, last, number(row, 4)?))
-        }
+        "clear" => clear(alloc, store),
+        _ => answer_held(alloc, store, row),
+    }
+}
+
+/// The answer to a row that asks what the store holds.
+fn answer_held(alloc: Global, store: &Store, row: &str) -> Result<String, Fault> {
+    match word(row, 1) {
+        "reply" => reply(alloc, store, row),
         "held" => held(alloc, store, number(row, 2)?),
         "count" => told(alloc, store.count()),
-        "clear" => {
-            store.clear();
-            told(alloc, ())
-        }
         _ => Err(Fault::NotUnderstood),
     }
 }
 
+/// A new store in place of the one before.
+fn renew(alloc: Global, store: &mut Store, row: &str) -> Result<String, Fault> {
+    *store = new_store(alloc, count(row, 2)?)?;
+    told(alloc, ())
+}
+
+/// Drops all frames.
+fn clear(alloc: Global, store: &mut Store) -> Result<String, Fault> {
+    store.clear();
+    told(alloc, ())
+}
+
+/// What a request of these packets of a block is answered with.
+fn reply(alloc: Global, store: &Store, row: &str) -> Result<String, Fault> {
+    let first = short_number(row, 2)?;
+    let last = short_number(row, 3)?;
+    told(alloc, store.reply(first, last, number(row, 4)?))
+}
+
+/// A store with room for so many frames.
 fn new_store(alloc: Global, room: u8) -> Result<Store, Fault> {
     if room < 1 || room > 8 {
         return Err(Fault::NotNow);

@@ -14,15 +14,30 @@ use std::alloc::Global;
 /// The answer to a row of the stream.
 pub fn answer(alloc: Global, stream: &mut CameraStream, row: &str) -> Result<String, Fault> {
     match word(row, 1) {
-        "new" => *stream = new_stream(alloc, count(row, 2)?)?,
-        "ask" => ask(stream, row)?,
-        "drop" => stream.drop_waiting(),
-        "forget" => stream.forget(),
-        "push" => return push(alloc, stream, short_number(row, 2)?),
-        "next" => return next(alloc, stream),
-        _ => return Err(Fault::NotUnderstood),
+        "push" => push(alloc, stream, short_number(row, 2)?),
+        "next" => next(alloc, stream),
+        _ => {
+            change(alloc, stream, row)?;
+            told(alloc, state(stream))
+        }
     }
-    told(alloc, state(stream))
+}
+
+/// Changes what waits, or takes a new stream.
+fn change(alloc: Global, stream: &mut CameraStream, row: &str) -> Result<(), Fault> {
+    match word(row, 1) {
+        "new" => renew(alloc, stream, row),
+        "ask" => ask(stream, row),
+        "drop" => Ok(stream.drop_waiting()),
+        "forget" => Ok(stream.forget()),
+        _ => Err(Fault::NotUnderstood),
+    }
+}
+
+/// A new stream in place of the one before.
+fn renew(alloc: Global, stream: &mut CameraStream, row: &str) -> Result<(), Fault> {
+    *stream = new_stream(alloc, count(row, 2)?)?;
+    Ok(())
 }
 
 /// How many packets wait, whether none does, and how many frames were made.
@@ -34,6 +49,7 @@ fn state(stream: &CameraStream) -> (usize, bool, u64) {
     )
 }
 
+/// A stream with room for so many frames.
 fn new_stream(alloc: Global, room: u8) -> Result<CameraStream, Fault> {
     if room < 1 || room > 8 {
         return Err(Fault::NotNow);
@@ -41,6 +57,7 @@ fn new_stream(alloc: Global, room: u8) -> Result<CameraStream, Fault> {
     Ok(CameraStream::new(alloc, room)?)
 }
 
+/// Asks for packets of a block again.
 fn ask(stream: &mut CameraStream, row: &str) -> Result<(), Fault> {
     stream.reply(Resend {
         channel: 0,
@@ -66,6 +83,7 @@ fn push(alloc: Global, stream: &mut CameraStream, payload_size: u32) -> Result<S
     told(alloc, fallen.map(|frame| frame.block))
 }
 
+/// The packet that waits first.
 fn next(alloc: Global, stream: &mut CameraStream) -> Result<String, Fault> {
     let mut out = [0; PACKET_ROOM];
     match stream.next_packet(&mut out) {

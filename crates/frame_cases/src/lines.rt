@@ -66,17 +66,21 @@ pub fn frame(rt: &HostRuntime, fields: &mut Fields<'_>) -> Result<()> {
 
 /// The last line, by its numbers; the block ids by a word.
 pub fn receive(rt: &HostRuntime, fields: &mut Fields<'_>) -> Result<()> {
-    let counts = ReceiveCounts {
+    let counts = counts(fields);
+    let mut out = Vec::new(rt.alloc());
+    add_receive(&mut out, &counts)?;
+    print_text(rt, out.as_slice())
+}
+
+/// What the last line tells, by the next fields.
+fn counts(fields: &mut Fields<'_>) -> ReceiveCounts {
+    ReceiveCounts {
         frames: fields.small(),
         taken: fields.small(),
         complete: fields.small(),
         p: fields.small(),
         bytes: fields.small(),
-        ids: match fields.word() {
-            "standard" => BlockIds::Standard,
-            "extended" => BlockIds::Extended,
-            _ => BlockIds::Unknown,
-        },
+        ids: block_ids(fields.word()),
         underrun: fields.number(),
         requests: fields.number(),
         foreign: fields.number(),
@@ -86,22 +90,39 @@ pub fn receive(rt: &HostRuntime, fields: &mut Fields<'_>) -> Result<()> {
         starved: fields.number(),
         notice: fields.number(),
         strangers: fields.number(),
-    };
-    let mut out = Vec::new(rt.alloc());
-    add_receive(&mut out, &counts)?;
-    print_text(rt, out.as_slice())
+    }
+}
+
+/// The kind of a stream's block ids, by its word.
+fn block_ids(word: &str) -> BlockIds {
+    match word {
+        "standard" => BlockIds::Standard,
+        "extended" => BlockIds::Extended,
+        _ => BlockIds::Unknown,
+    }
+}
+
+/// Prints a word.
+pub fn print_word(rt: &HostRuntime, word: &str) -> Result<()> {
+    print!(rt; "{word}")?;
+    Ok(())
 }
 
 /// Prints a text, each of its lines on a line of its own.
 pub fn print_text(rt: &HostRuntime, text: &[u8]) -> Result<()> {
     for line in text.split(|byte| *byte == b'\n') {
-        if line.is_empty() {
-            continue;
+        if !line.is_empty() {
+            print_line(rt, line)?;
         }
-        print!(rt; "\n  ")?;
-        for byte in line {
-            print!(rt; "{}", char::from(*byte))?;
-        }
+    }
+    Ok(())
+}
+
+/// Prints a line.
+fn print_line(rt: &HostRuntime, line: &[u8]) -> Result<()> {
+    print!(rt; "\n  ")?;
+    for byte in line {
+        print!(rt; "{}", char::from(*byte))?;
     }
     Ok(())
 }

@@ -13,15 +13,20 @@ use std::sync::Wait;
 
 fn main(rt: HostRuntime) -> Result<()> {
     for line in rt.lines(rt.alloc()) {
-        let line = line?;
-        let row = line.as_str();
-        print!(rt; "{row}")?;
-        if !row.is_empty() && !row.starts_with('#') {
-            print!(rt; " = ")?;
-            answer(&rt, &rt, row)?;
-        }
-        println!(rt)?;
+        answer_line(&rt, &rt, line?.as_str())?;
     }
+    Ok(())
+}
+
+/// Prints a line, and behind a row its answer.
+fn answer_line<R: Wait>(rt: &HostRuntime, handles: &R, line: &str) -> Result<()> {
+    if line.is_empty() || line.starts_with('#') {
+        println!(rt; "{line}")?;
+        return Ok(());
+    }
+    print!(rt; "{line} = ")?;
+    answer(rt, handles, line)?;
+    println!(rt)?;
     Ok(())
 }
 
@@ -33,13 +38,7 @@ fn answer<R: Wait>(rt: &HostRuntime, handles: &R, row: &str) -> Result<()> {
         "frame" => lines::frame(rt, &mut fields),
         "receive" => lines::receive(rt, &mut fields),
         "hand" => applying::hand_out(rt, handles, 0, &mut fields),
-        "tell" => {
-            let millis = fields.small();
-            applying::hand_out(rt, handles, millis, &mut fields)
-        }
-        _ => {
-            print!(rt; "not understood")?;
-            Ok(())
-        }
+        "tell" => applying::tell(rt, handles, &mut fields),
+        _ => lines::print_word(rt, "not understood"),
     }
 }

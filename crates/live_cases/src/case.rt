@@ -1,9 +1,11 @@
 //! A row's fields.
 
-use anyhow::Result;
+ghost use Rattle.std.specs.Prelude.{◌≤◌, IfOk};
+
+use anyhow::{Result, anyhow};
 use gev_types::{NoMemory, Peer};
 use mode_calls::Mode;
-use std::alloc::{AllocError, Global};
+use std::alloc::Global;
 
 /// What a link hears: datagrams, each with who sent it, and receives that get nothing.
 pub type Heard<'x> = &'x [Option<(&'x [u8], Peer)>];
@@ -44,30 +46,113 @@ impl<'x> Case<'x> {
             _ => Mode::NewestOnly,
         }
     }
+
+    /// How many buffers a run has, by the second number.
+    pub fn buffers(&self) -> Result<u8>
+        ensures some { IfOk result (λ buffers. 1 ≤ buffers) }
+        ensures few { IfOk result (λ buffers. buffers ≤ 15) }
+    {
+        let buffers = u8::try_from(self.number(1)).unwrap_or(0);
+        if buffers < 1 || buffers > 15 {
+            return Err(anyhow!("no such number of buffers"));
+        }
+        Ok(buffers)
+    }
 }
 
-/// A field of numbers. One that is `.` or left out is empty.
-pub fn numbers(alloc: Global, field: Option<&str>) -> Result<Vec<u64>, AllocError> {
-    let mut found = Vec::new(alloc);
-    for part in field.unwrap_or(".").split(',') {
+/// What the fields of a row hold.
+#[derive(Drop)]
+pub struct Row {
+    numbers: Vec<u64>,
+    moments: Vec<u64>,
+    control: Vec<Option<Vec<u8>>>,
+    receives: Vec<u64>,
+    sends: Vec<u64>,
+    stream: Vec<Option<Vec<u8>>>,
+}
+
+impl Row {
+    /// A row with empty fields.
+    pub fn new(alloc: Global) -> Row {
+        Row {
+            numbers: Vec::new(alloc),
+            moments: Vec::new(alloc),
+            control: Vec::new(alloc),
+            receives: Vec::new(alloc),
+            sends: Vec::new(alloc),
+            stream: Vec::new(alloc),
+        }
+    }
+
+    /// Reads the fields of a line behind its word.
+    pub fn read(&mut self, alloc: Global, line: &str) -> Result<()> {
+        read_numbers(field(line, 1), &mut self.numbers)?;
+        read_numbers(field(line, 2), &mut self.moments)?;
+        self.read_links(alloc, line)
+    }
+
+    /// Reads the fields of the control link and of the stream's.
+    fn read_links(&mut self, alloc: Global, line: &str) -> Result<()> {
+        read_datagrams(alloc, field(line, 3), &mut self.control)?;
+        read_numbers(field(line, 4), &mut self.receives)?;
+        read_numbers(field(line, 5), &mut self.sends)?;
+        read_datagrams(alloc, field(line, 6), &mut self.stream)
+    }
+
+    /// The datagrams of the control link.
+    pub fn control(&self) -> &[Option<Vec<u8>>] {
+        self.control.as_slice()
+    }
+
+    /// The datagrams of the stream's link.
+    pub fn stream(&self) -> &[Option<Vec<u8>>] {
+        self.stream.as_slice()
+    }
+
+    /// The row's case, whose links hear this.
+    pub fn case<'x>(&'x self, control: Heard<'x>, stream: Heard<'x>) -> Case<'x> {
+        Case {
+            numbers: self.numbers.as_slice(),
+            moments: self.moments.as_slice(),
+            control,
+            receives: self.receives.as_slice(),
+            sends: self.sends.as_slice(),
+            stream,
+        }
+    }
+}
+
+/// The field of a line at this place, `.` where it is left out.
+fn field(line: &str, place: usize) -> &str {
+    line.split(' ').nth(place).unwrap_or(".")
+}
+
+/// Reads a field of numbers. One that is `.` is empty.
+fn read_numbers(field: &str, into: &mut Vec<u64>) -> Result<()> {
+    for part in field.split(',') {
         if let Ok(number) = part.parse::<u64>() {
-            found.push(number)?;
+            into.push(number)?;
         }
     }
-    Ok(found)
+    Ok(())
 }
 
-/// A field of datagrams.
-pub fn datagrams(alloc: Global, field: Option<&str>) -> Result<Vec<Option<Vec<u8>>>> {
-    let mut found = Vec::new(alloc);
-    for part in field.unwrap_or(".").split(',') {
-        if part == "-" {
-            found.push(None)?;
-        } else if let Some(digits) = part.strip_prefix("0x") {
-            found.push(Some(hex::decode(alloc, digits)?))?;
-        }
+/// Reads a field of datagrams.
+fn read_datagrams(alloc: Global, field: &str, into: &mut Vec<Option<Vec<u8>>>) -> Result<()> {
+    for part in field.split(',') {
+        read_datagram(alloc, part, into)?;
     }
-    Ok(found)
+    Ok(())
+}
+
+/// Reads a datagram, or a receive that gets nothing.
+fn read_datagram(alloc: Global, part: &str, into: &mut Vec<Option<Vec<u8>>>) -> Result<()> {
+    if part == "-" {
+        into.push(None)?;
+    } else if let Some(digits) = part.strip_prefix("0x") {
+        into.push(Some(hex::decode(alloc, digits)?))?;
+    }
+    Ok(())
 }
 
 /// These datagrams as what a link hears from this peer.
@@ -78,10 +163,15 @@ pub fn heard(
 ) -> Result<Vec<Option<(&[u8], Peer)>>, NoMemory> {
     let mut all = Vec::with_capacity(alloc, datagrams.len())?;
     for datagram in datagrams {
-        match datagram {
-            Some(bytes) => all.push(Some((bytes.as_slice(), peer)))?,
-            None => all.push(None)?,
-        }
+        all.push(heard_one(datagram, peer))?;
     }
     Ok(all)
+}
+
+/// A datagram as a link hears it.
+fn heard_one(datagram: &Option<Vec<u8>>, peer: Peer) -> Option<(&[u8], Peer)> {
+    match datagram {
+        Some(bytes) => Some((bytes.as_slice(), peer)),
+        None => None,
+    }
 }

@@ -27,22 +27,32 @@ fn packet(
     body: &[u8],
 ) -> Result<Option<Vec<u8>>, NoMemory> {
     let mut packet = Vec::new(alloc);
-    packet.extend_from_slice(b"\0\0\0\0")?;
-    packet.push(0x80 | format)?;
-    packet.extend_from_slice(b"\0\0\0")?;
-    packet.extend_from_slice(block.to_be_bytes().as_slice())?;
-    packet.extend_from_slice(id.to_be_bytes().as_slice())?;
+    put_header(&mut packet, format, block, id)?;
     packet.extend_from_slice(body)?;
     Ok(Some(packet))
+}
+
+/// Puts the header of a packet.
+fn put_header(packet: &mut Vec<u8>, format: u8, block: u64, id: u32) -> Result<(), NoMemory> {
+    packet.extend_from_slice(&[0, 0, 0, 0, 0x80 | format, 0, 0, 0])?;
+    packet.extend_from_slice(block.to_be_bytes().as_slice())?;
+    packet.extend_from_slice(id.to_be_bytes().as_slice())?;
+    Ok(())
 }
 
 /// The leader of a frame, whose timestamp is its block id.
 fn leader(alloc: Global, block: u64) -> Result<Option<Vec<u8>>, NoMemory> {
     let mut body = Vec::new(alloc);
+    put_leader(&mut body, block)?;
+    packet(alloc, 1, block, 0, body.as_slice())
+}
+
+/// Puts what a leader tells.
+fn put_leader(body: &mut Vec<u8>, block: u64) -> Result<(), NoMemory> {
     body.extend_from_slice(b"\0\0\0\x01")?;
     body.extend_from_slice(block.to_be_bytes().as_slice())?;
     body.extend_from_slice(b"\x01\x08\0\x01\0\0\x02\x80\0\0\x01\xe0\0\0\0\0\0\0\0\0\0\0\0\0")?;
-    packet(alloc, 1, block, 0, body.as_slice())
+    Ok(())
 }
 
 /// Puts the payloads of a frame, without the payload `lost`.
@@ -73,10 +83,21 @@ pub fn all_packets(
     let mut packets = Vec::new(alloc);
     for block in 1..frames.min(9) + 1 {
         let lost_here = if block == 1 { lost } else { 0 };
-        packets.push(leader(alloc, block)?)?;
-        put_payloads(alloc, &mut packets, block, lost_here)?;
-        let body = b"\0\0\0\x01\0\0\x01\xe0";
-        packets.push(packet(alloc, 2, block, PAYLOADS + 1, body)?)?;
+        put_frame(alloc, &mut packets, block, lost_here)?;
     }
     Ok(packets)
+}
+
+/// Puts the packets of a frame, without the payload `lost`.
+fn put_frame(
+    alloc: Global,
+    packets: &mut Vec<Option<Vec<u8>>>,
+    block: u64,
+    lost: u64,
+) -> Result<(), NoMemory> {
+    packets.push(leader(alloc, block)?)?;
+    put_payloads(alloc, packets, block, lost)?;
+    let body = b"\0\0\0\x01\0\0\x01\xe0";
+    packets.push(packet(alloc, 2, block, PAYLOADS + 1, body)?)?;
+    Ok(())
 }

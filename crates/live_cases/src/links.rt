@@ -4,7 +4,8 @@ ghost use Rattle.std.specs.Prelude.{◌≡◌, [], Some, IfOk};
 
 use crate::case::{Case, Heard};
 use anyhow::Result;
-use gev_links::{CountsFaults, MemoryLink};
+use gev_links::{CountsFaults, DiscardingLink, MemoryLink};
+use gev_record::Tape;
 use gev_types::{NoMemory, Peer};
 use std::alloc::Global;
 
@@ -41,11 +42,16 @@ pub const NONE: &[u64] = &[];
 /// Prints how often a link failed, and what was sent on it: to whom, and the bytes or how many they are.
 pub fn print_sent(rt: &HostRuntime, link: &MemoryLink<'_>) -> Result<()> {
     print!(rt; "\n  faults {}", link.fault_count())?;
-    for sent in link.sent() {
-        print!(rt; "\n  to {:x}:{} ", sent.0.address, sent.0.port)?;
-        print_bytes(rt, sent.1.as_slice())?;
+    for (peer, bytes) in link.sent() {
+        print_datagram(rt, *peer, bytes.as_slice())?;
     }
     Ok(())
+}
+
+/// Prints to whom a datagram was sent, and its bytes or how many they are.
+fn print_datagram(rt: &HostRuntime, peer: Peer, bytes: &[u8]) -> Result<()> {
+    print!(rt; "\n  to {:x}:{} ", peer.address, peer.port)?;
+    print_bytes(rt, bytes)
 }
 
 /// Prints a datagram, or how long it is.
@@ -62,9 +68,15 @@ pub fn print_bytes(rt: &HostRuntime, bytes: &[u8]) -> Result<()> {
 pub fn print_text(rt: &HostRuntime, text: &[u8]) -> Result<()> {
     for line in text.split(|byte| *byte == b'\n') {
         if !line.is_empty() {
-            print!(rt; "\n  {}", str::from_utf8(line)?)?;
+            print_text_line(rt, line)?;
         }
     }
+    Ok(())
+}
+
+/// Prints a line of a text.
+fn print_text_line(rt: &HostRuntime, line: &[u8]) -> Result<()> {
+    print!(rt; "\n  {}", str::from_utf8(line)?)?;
     Ok(())
 }
 
@@ -72,7 +84,7 @@ pub fn print_text(rt: &HostRuntime, text: &[u8]) -> Result<()> {
 pub fn print_takes(rt: &HostRuntime, report: &[u8]) -> Result<()> {
     for line in report.split(|byte| *byte == b'\n') {
         if line.starts_with(b"take ") {
-            print!(rt; "\n  {}", str::from_utf8(line)?)?;
+            print_text_line(rt, line)?;
         }
     }
     Ok(())
@@ -87,4 +99,21 @@ pub fn control_link<'x>(
     ensures received { IfOk result (λ link. link.received ≡ Some []) }
 {
     MemoryLink::new(alloc, peer, case.control, case.receives, case.sends, ROOM)
+}
+
+/// A tape for so many receives of a link at this address that hears this.
+pub fn tape_of<'x>(
+    alloc: Global,
+    peer: Peer,
+    hears: Heard<'x>,
+    turns: u32,
+) -> Result<Tape<DiscardingLink<'x>>>
+    ensures turns { IfOk result (λ tape. tape.turns ≡ turns) }
+    ensures kept { IfOk result (λ tape. tape.kept ≡ []) }
+{
+    let link = DiscardingLink::new(alloc, peer, hears)?;
+    match Tape::new(alloc, link, turns) {
+        Ok(tape) => Ok(tape),
+        Err((_, error)) => Err(error.into()),
+    }
 }

@@ -1,11 +1,14 @@
 //! Live runs whose camera hears nothing, and whose stream tells nothing or frames.
 
+ghost use Rattle.std.specs.Prelude.{◌≡◌, ◌≤◌, []};
+ghost use Rattle.buffer_words.specs.Boards.{board_id};
+
 use crate::case::{Case, Heard, heard};
 use crate::frames::all_packets;
 use crate::links::{CAMERA, HOST, NONE, SILENCE, STREAM, control_link, print_text};
 use crate::meeting::HoldingGate;
-use anyhow::{Result, anyhow};
-use buffer_words::Board;
+use anyhow::Result;
+use buffer_words::{Board, Pass};
 use gev_links::{MemoryClock, MemoryLink, MemorySink};
 use gev_live::{Ends, live_over};
 use gev_status::Status;
@@ -22,7 +25,17 @@ pub fn live<R: Threads + Wait + Sync>(
     case: &Case<'_>,
 ) -> Result<()> {
     let packets = all_packets(rt.alloc(), case.number(4), 0)?;
-    let tells = heard(rt.alloc(), packets.as_slice(), CAMERA)?;
+    live_hearing(rt, handles, case, packets.as_slice())
+}
+
+/// The same, whose stream tells these packets.
+fn live_hearing<R: Threads + Wait + Sync>(
+    rt: &HostRuntime,
+    handles: &R,
+    case: &Case<'_>,
+    packets: &[Option<Vec<u8>>],
+) -> Result<()> {
+    let tells = heard(rt.alloc(), packets, CAMERA)?;
     run(rt, handles, case, tells.as_slice())
 }
 
@@ -34,10 +47,14 @@ fn run<R: Threads + Wait + Sync>(
     tells: Heard<'_>,
 ) -> Result<()> {
     let mut sink = MemorySink::new(rt.alloc(), 1000, NONE);
-    let ends = ends_of(rt.alloc(), case, tells)?;
-    let status = run_over(handles, rt.alloc(), case, ends, &mut sink)?;
+    let status = run_into(handles, rt.alloc(), case, tells, &mut sink)?;
+    print_run(rt, status, sink.written())
+}
+
+/// Prints a run's status and what it wrote.
+fn print_run(rt: &HostRuntime, status: Status, written: &[u8]) -> Result<()> {
     print!(rt; "{status:?}")?;
-    print_text(rt, sink.written())
+    print_text(rt, written)
 }
 
 /// The links and the clocks of a run.
@@ -56,25 +73,45 @@ fn ends_of<'x>(
     })
 }
 
-/// Makes the run over these links and clocks.
-fn run_over<'x, R: Threads + Wait + Sync>(
+/// Makes the run on a new board.
+fn run_into<R: Threads + Wait + Sync>(
     handles: &R,
     alloc: Global,
     case: &Case<'_>,
-    ends: Ends<MemoryLink<'x>, MemoryLink<'x>, MemoryClock<'x>>,
+    tells: Heard<'_>,
     sink: &mut MemorySink<'_>,
 ) -> Result<Status> {
-    let buffers = u8::try_from(case.number(1)).unwrap_or(0);
-    if buffers < 1 || buffers > 15 {
-        return Err(anyhow!("no such number of buffers"));
-    }
+    let buffers = case.buffers()?;
     let (board, mut pass) = Board::new(alloc)?;
+    run_on(
+        handles, alloc, case, buffers, tells, &board, &mut pass, sink,
+    )
+}
+
+/// Makes the run on this board.
+fn run_on<'x, R: Threads + Wait + Sync>(
+    handles: &R,
+    alloc: Global,
+    case: &Case<'x>,
+    buffers: u8,
+    tells: Heard<'x>,
+    board: &Board,
+    pass: &mut Pass,
+    sink: &mut MemorySink<'_>,
+) -> Result<Status>
+    requires table { pass.old.table ≡ board_id board.now }
+    requires first { pass.old.number ≡ 0 }
+    requires unseen { pass.old.seen ≡ [] }
+    requires some_buffers { 1 ≤ buffers }
+    requires few_buffers { buffers ≤ 15 }
+{
+    let ends = ends_of(alloc, case, tells)?;
     let gate = HoldingGate::new(case.number(5));
     let (status, _ends) = live_over(
         handles,
         alloc,
-        &board,
-        &mut pass,
+        board,
+        pass,
         1,
         case.small(2),
         buffers,

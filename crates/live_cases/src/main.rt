@@ -15,87 +15,95 @@ mod recording;
 mod scripts;
 mod tapes;
 
-use crate::case::{Case, Heard, datagrams, heard, numbers};
+use crate::case::{Case, Heard, Row, heard};
 use crate::links::CAMERA;
 use anyhow::Result;
 use std::sync::Wait;
 use std::thread::Threads;
 
-/// The fields of a row that are numbers, each as its `Case` has it.
-#[derive(Drop)]
-struct Row {
-    numbers: Vec<u64>,
-    moments: Vec<u64>,
-    receives: Vec<u64>,
-    sends: Vec<u64>,
-}
-
 fn main(rt: HostRuntime) -> Result<()> {
     for line in rt.lines(rt.alloc()) {
-        let line = line?;
-        print!(rt; "{}", line.as_str())?;
-        if !line.as_str().is_empty() && !line.as_str().starts_with('#') {
-            print!(rt; " = ")?;
-            answer(&rt, &rt, line.as_str())?;
-        }
-        println!(rt)?;
+        print_line(&rt, &rt, line?.as_str())?;
     }
     Ok(())
 }
 
-/// Prints the answer of a row. What is heard comes from the camera.
-fn answer<R: Threads + Wait + Sync>(rt: &HostRuntime, handles: &R, line: &str) -> Result<()> {
-    let alloc = rt.alloc();
-    let mut fields = line.split(' ');
-    let word = fields.next().unwrap_or("");
-    let numbers_of_row = numbers(alloc, fields.next())?;
-    let moments = numbers(alloc, fields.next())?;
-    let control = datagrams(alloc, fields.next())?;
-    let receives = numbers(alloc, fields.next())?;
-    let sends = numbers(alloc, fields.next())?;
-    let stream = datagrams(alloc, fields.next())?;
-    let control_hears = heard(alloc, control.as_slice(), CAMERA)?;
-    let stream_hears = heard(alloc, stream.as_slice(), CAMERA)?;
-    let row = Row {
-        numbers: numbers_of_row,
-        moments,
-        receives,
-        sends,
-    };
-    answer_over(
-        rt,
-        handles,
-        word,
-        &row,
-        control_hears.as_slice(),
-        stream_hears.as_slice(),
-    )
+/// Prints a line, and behind a row its answer.
+fn print_line<R: Threads + Wait + Sync>(rt: &HostRuntime, handles: &R, line: &str) -> Result<()> {
+    print!(rt; "{line}")?;
+    if is_row(line) {
+        print_answer(rt, handles, line)?;
+    }
+    println!(rt)?;
+    Ok(())
 }
 
-/// The same, by the row's fields.
-fn answer_over<'x, R: Threads + Wait + Sync>(
+/// Whether a line is a row, and neither empty nor a comment.
+fn is_row(line: &str) -> bool {
+    !line.is_empty() && !line.starts_with('#')
+}
+
+/// Prints the answer of a row behind an equals sign.
+fn print_answer<R: Threads + Wait + Sync>(rt: &HostRuntime, handles: &R, line: &str) -> Result<()> {
+    print!(rt; " = ")?;
+    let mut row = Row::new(rt.alloc());
+    answer(rt, handles, line, &mut row)
+}
+
+/// Reads a row's fields, and prints its answer.
+fn answer<R: Threads + Wait + Sync>(
+    rt: &HostRuntime,
+    handles: &R,
+    line: &str,
+    row: &mut Row,
+) -> Result<()> {
+    row.read(rt.alloc(), line)?;
+    let word = line.split(' ').next().unwrap_or("");
+    answer_row(rt, handles, word, row)
+}
+
+/// The same, by what is heard on the control link. What is heard comes from the camera.
+fn answer_row<R: Threads + Wait + Sync>(
+    rt: &HostRuntime,
+    handles: &R,
+    word: &str,
+    row: &Row,
+) -> Result<()> {
+    let control = heard(rt.alloc(), row.control(), CAMERA)?;
+    answer_hearing(rt, handles, word, row, control.as_slice())
+}
+
+/// The same, by what is heard on the stream's link too.
+fn answer_hearing<'x, R: Threads + Wait + Sync>(
     rt: &HostRuntime,
     handles: &R,
     word: &str,
     row: &'x Row,
     control: Heard<'x>,
-    stream: Heard<'x>,
 ) -> Result<()> {
-    let case = Case {
-        numbers: row.numbers.as_slice(),
-        moments: row.moments.as_slice(),
-        control,
-        receives: row.receives.as_slice(),
-        sends: row.sends.as_slice(),
-        stream,
-    };
+    let stream = heard(rt.alloc(), row.stream(), CAMERA)?;
+    call(rt, handles, word, &row.case(control, stream.as_slice()))
+}
+
+/// Makes the call of this word.
+fn call<R: Threads + Wait + Sync>(
+    rt: &HostRuntime,
+    handles: &R,
+    word: &str,
+    case: &Case<'_>,
+) -> Result<()> {
     match word {
-        "tape" => tapes::hear_some(rt, &case)?,
-        "script" => scripts::write_turns(rt, &case)?,
-        "live" => living::live(rt, handles, &case)?,
-        "record" => recording::record(rt, handles, &case)?,
-        "retake" => recording::retake(rt, handles, &case)?,
-        _ => print!(rt; "not understood")?,
+        "tape" => tapes::hear_some(rt, case),
+        "script" => scripts::write_turns(rt, case),
+        "live" => living::live(rt, handles, case),
+        "record" => recording::record(rt, handles, case),
+        "retake" => recording::retake(rt, handles, case),
+        _ => print_unknown(rt),
     }
+}
+
+/// Prints that a row's word is none of these.
+fn print_unknown(rt: &HostRuntime) -> Result<()> {
+    print!(rt; "not understood")?;
     Ok(())
 }

@@ -11,13 +11,18 @@ pub fn hear_some(rt: &HostRuntime, case: &Case<'_>) -> Result<()> {
     let link = control_link(rt.alloc(), case, CAMERA)?;
     match Tape::new(rt.alloc(), link, case.small(0)) {
         Ok(mut tape) => {
-            print_heard(rt, &mut tape)?;
-            print_kept(rt, &tape)?;
-            print_end(rt, &mut tape)?;
+            print_tape(rt, &mut tape)?;
             print_sent(rt, &tape.into_inner())
         }
         Err((_, error)) => Err(error.into()),
     }
+}
+
+/// The receives, what was kept, the address, and a send.
+fn print_tape(rt: &HostRuntime, tape: &mut Tape<MemoryLink<'_>>) -> Result<()> {
+    print_heard(rt, tape)?;
+    print_kept(rt, tape)?;
+    print_end(rt, tape)
 }
 
 /// The receives.
@@ -34,11 +39,17 @@ fn print_heard(rt: &HostRuntime, tape: &mut Tape<MemoryLink<'_>>) -> Result<()> 
 fn print_kept(rt: &HostRuntime, tape: &Tape<MemoryLink<'_>>) -> Result<()> {
     print!(rt; "\n  kept {}", tape.len())?;
     for turn in 0..4 {
-        print!(rt; "\n  {turn} ")?;
-        match tape.datagram(turn) {
-            Some(bytes) => print_bytes(rt, bytes)?,
-            None => print!(rt; "none")?,
-        }
+        print_turn(rt, tape, turn)?;
+    }
+    Ok(())
+}
+
+/// What was kept of a turn.
+fn print_turn(rt: &HostRuntime, tape: &Tape<MemoryLink<'_>>, turn: u32) -> Result<()> {
+    print!(rt; "\n  {turn} ")?;
+    match tape.datagram(turn) {
+        Some(bytes) => print_bytes(rt, bytes)?,
+        None => print!(rt; "none")?,
     }
     Ok(())
 }

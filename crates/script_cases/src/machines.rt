@@ -4,13 +4,13 @@ ghost use Rattle.std.specs.Prelude.{⊤};
 
 use crate::fields::Fields;
 use crate::miss::Miss;
+use crate::piped::Piped;
 use crate::players::new_player;
-use crate::shown::{in_lines, in_one_line};
-use gev_links::{MemorySink, MemorySource};
+use crate::shown::in_one_line;
 use gev_script::ScriptKind;
 use script_explain::Explain;
 use script_replay::Replay;
-use script_runs::{Machine, Ran, Stop, run_modelled, run_script};
+use script_runs::{Ending, Machine, Ran, Stop, run_modelled, run_script};
 use std::alloc::Global;
 use take_lines::Player;
 
@@ -56,16 +56,24 @@ impl Held {
 
     /// Replays a whole script, from a source and to a sink as in `echo`.
     pub fn replay_whole(&mut self, alloc: Global, fields: &mut Fields<'_>) -> Result<String, Miss> {
-        let piece = fields.count()?;
-        let reads = [fields.number()?];
-        let writes = [fields.number()?];
-        let script = in_lines(alloc, fields.rest())?;
-        let mut source = MemorySource::new(script.as_slice(), piece, &reads);
-        let mut sink = MemorySink::new(alloc, piece, &writes);
+        let piped = Piped::read(alloc, fields)?;
+        let mut source = piped.source();
+        let mut sink = piped.sink(alloc);
         let ending = run_modelled(alloc, &mut source, &mut sink, &mut self.replay);
-        let report = in_one_line(alloc, sink.written())?;
-        Ok(format!(in alloc; "{ending:?}, written {report}")?)
+        ended(alloc, ending, sink.written())
     }
+}
+
+/// How the run of a script ended, and what it wrote.
+fn ended(alloc: Global, ending: Ending, written: &[u8]) -> Result<String, Miss> {
+    let report = in_one_line(alloc, written)?;
+    Ok(format!(in alloc; "{ending:?}, written {report}")?)
+}
+
+/// The report of a line at which the script ends.
+fn last_report(alloc: Global, report: &[u8]) -> Result<String, Miss> {
+    let report = in_one_line(alloc, report)?;
+    Ok(format!(in alloc; "{report} and the script ends")?)
 }
 
 /// Runs the line with this number, and answers its report, or why it's refused.
@@ -82,10 +90,7 @@ fn run<M: Machine>(
     let mut out = Vec::new(alloc);
     match machine.run_line(alloc, number, bytes, &mut out) {
         Ok(Ran::GoesOn) => in_one_line(alloc, out.as_slice()),
-        Ok(Ran::Ended) => {
-            let report = in_one_line(alloc, out.as_slice())?;
-            Ok(format!(in alloc; "{report} and the script ends")?)
-        }
+        Ok(Ran::Ended) => last_report(alloc, out.as_slice()),
         Err(Stop::Refused(kind)) => Ok(format!(in alloc; "refused, {kind:?}")?),
         Err(Stop::NoMemory) => Err(Miss::Memory),
     }
@@ -124,13 +129,9 @@ impl Machine for Echoing {
 /// A script that is echoed, from a source and to a sink that take pieces of so many bytes, and of which the calls
 /// with these numbers fail.
 pub fn echo(alloc: Global, fields: &mut Fields<'_>) -> Result<String, Miss> {
-    let piece = fields.count()?;
-    let reads = [fields.number()?];
-    let writes = [fields.number()?];
-    let script = in_lines(alloc, fields.rest())?;
-    let mut source = MemorySource::new(script.as_slice(), piece, &reads);
-    let mut sink = MemorySink::new(alloc, piece, &writes);
+    let piped = Piped::read(alloc, fields)?;
+    let mut source = piped.source();
+    let mut sink = piped.sink(alloc);
     let ending = run_script(alloc, &mut source, &mut sink, &mut Echoing);
-    let report = in_one_line(alloc, sink.written())?;
-    Ok(format!(in alloc; "{ending:?}, written {report}")?)
+    ended(alloc, ending, sink.written())
 }

@@ -9,6 +9,7 @@ mod fields; // the fields of a row
 mod machines; // scripts that are run line by line
 mod miss; // why a row has no answer
 mod pictures; // pictures of buffers
+mod piped; // scripts that are read and reported in pieces
 mod players; // buffers that come back
 mod reports; // lines of reports that no script here writes
 mod rows; // which call a row is

@@ -5,12 +5,14 @@ ghost use Rattle.script_image.specs.Ends.{IsInRange};
 
 use crate::fields::Fields;
 use crate::miss::Miss;
-use crate::shown::{in_hex, in_lines};
-use gev_links::{MemorySink, MemorySource};
+use crate::piped::Piped;
+use crate::shown::in_hex;
+use gev_links::MemorySink;
 use gev_types::ImageInfo;
 use picture_report::write_picture;
 use script_image::{Wanted, write_image};
 use std::alloc::Global;
+use std::fmt;
 
 /// The pixel format in hex digits, the columns, the bytes behind each row, and the rows; `-` in their place tells nothing.
 fn info(fields: &mut Fields<'_>) -> Result<Option<ImageInfo>, Miss> {
@@ -35,18 +37,28 @@ fn info(fields: &mut Fields<'_>) -> Result<Option<ImageInfo>, Miss> {
     }))
 }
 
+/// How the writing of a picture ended, and what it wrote.
+fn drawn<E: fmt::Debug>(alloc: Global, end: &E, written: &[u8]) -> Result<String, Miss> {
+    let written = in_hex(alloc, written)?;
+    Ok(format!(in alloc; "{end:?}, written {written}")?)
+}
+
+/// The picture of the image of the fields that are left, to an empty sink.
+fn draw(alloc: Global, fields: &mut Fields<'_>, sink: &mut MemorySink<'_>) -> Result<String, Miss> {
+    let data_len = fields.small()?;
+    let info = info(fields)?;
+    let bytes = fields.bytes(alloc)?;
+    let answer = write_picture(alloc, info, data_len, bytes.as_slice(), sink);
+    drawn(alloc, &answer, sink.written())
+}
+
 /// The picture of this image of so many bytes of these, to a sink that takes pieces of so many bytes and of which the
 /// call with this number fails.
 pub fn picture(alloc: Global, fields: &mut Fields<'_>) -> Result<String, Miss> {
     let piece = fields.count()?;
     let writes = [fields.number()?];
-    let data_len = fields.small()?;
-    let info = info(fields)?;
-    let bytes = fields.bytes(alloc)?;
     let mut sink = MemorySink::new(alloc, piece, &writes);
-    let answer = write_picture(alloc, info, data_len, bytes.as_slice(), &mut sink);
-    let written = in_hex(alloc, sink.written())?;
-    Ok(format!(in alloc; "{answer:?}, written {written}")?)
+    draw(alloc, fields, &mut sink)
 }
 
 /// A number of a buffer, from 1, or the word `all`.
@@ -67,13 +79,9 @@ fn wanted(fields: &mut Fields<'_>) -> Result<Wanted, Miss>
 /// many bytes, and of which the calls with these numbers fail.
 pub fn image(alloc: Global, fields: &mut Fields<'_>) -> Result<String, Miss> {
     let wanted = wanted(fields)?;
-    let piece = fields.count()?;
-    let reads = [fields.number()?];
-    let writes = [fields.number()?];
-    let script = in_lines(alloc, fields.rest())?;
-    let mut source = MemorySource::new(script.as_slice(), piece, &reads);
-    let mut sink = MemorySink::new(alloc, piece, &writes);
+    let piped = Piped::read(alloc, fields)?;
+    let mut source = piped.source();
+    let mut sink = piped.sink(alloc);
     let end = write_image(alloc, &mut source, &mut sink, wanted);
-    let written = in_hex(alloc, sink.written())?;
-    Ok(format!(in alloc; "{end:?}, written {written}")?)
+    drawn(alloc, &end, sink.written())
 }

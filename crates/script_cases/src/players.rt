@@ -35,15 +35,22 @@ fn tell(player: &mut Player, bytes: &[u8], place: Option<u8>) -> ArrayVec<u8, 4>
     }
 }
 
+/// What comes back at a datagram, with the place of the buffer that is claimed for it or `-`.
+fn play_datagram(
+    alloc: Global,
+    player: &mut Player,
+    fields: &mut Fields<'_>,
+) -> Result<ArrayVec<u8, 4>, Miss> {
+    let bytes = decoded(alloc, fields.word())?;
+    let place = fields.word().parse::<u8>().ok();
+    Ok(tell(player, bytes.as_slice(), place))
+}
+
 /// The places of the buffers that come back at a datagram, with the place of the buffer that is claimed for it or
 /// `-`, at a moment, or at a stop.
 pub fn play(alloc: Global, player: &mut Player, fields: &mut Fields<'_>) -> Result<String, Miss> {
     let back = match fields.word() {
-        "d" => {
-            let bytes = decoded(alloc, fields.word())?;
-            let place = fields.word().parse::<u8>().ok();
-            tell(player, bytes.as_slice(), place)
-        }
+        "d" => play_datagram(alloc, player, fields)?,
         "t" => player.tick(fields.number()?),
         "stop" => player.stop(),
         _ => return Err(Miss::Row),

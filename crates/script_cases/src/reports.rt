@@ -45,9 +45,9 @@ pub fn executed(alloc: Global, fields: &mut Fields<'_>) -> Result<String, Miss> 
     in_one_line(alloc, out.as_slice())
 }
 
-/// The last line of a soak run, by its numbers.
-pub fn soak(alloc: Global, fields: &mut Fields<'_>) -> Result<String, Miss> {
-    let numbers = SoakNumbers {
+/// The numbers of a soak run.
+fn soak_numbers(fields: &mut Fields<'_>) -> Result<SoakNumbers, Miss> {
+    Ok(SoakNumbers {
         frames: fields.number()?,
         taken: fields.number()?,
         complete: fields.number()?,
@@ -55,7 +55,12 @@ pub fn soak(alloc: Global, fields: &mut Fields<'_>) -> Result<String, Miss> {
         underrun: fields.number()?,
         requests: fields.number()?,
         commands: fields.number()?,
-    };
+    })
+}
+
+/// The last line of a soak run, by its numbers.
+pub fn soak(alloc: Global, fields: &mut Fields<'_>) -> Result<String, Miss> {
+    let numbers = soak_numbers(fields)?;
     let mut out = Vec::new(alloc);
     line_soak(alloc, &numbers, &mut out)?;
     in_one_line(alloc, out.as_slice())

@@ -18,28 +18,42 @@ pub fn answer(alloc: Global, held: &mut Held, row: &str) -> Result<String, Miss>
         "replay" => held.replay(alloc, fields.rest()),
         "explain" => held.explain(alloc, fields.rest()),
         "play" => play(alloc, &mut held.player, &mut fields),
-        "takes" => takes(alloc, &mut fields),
+        "script" => held.replay_whole(alloc, &mut fields),
+        word => script_answer(alloc, word, &mut fields),
+    }
+}
+
+/// The answer to a row of scripts that runs on nothing held, or to one of reports, pictures or captures.
+fn script_answer(alloc: Global, word: &str, fields: &mut Fields<'_>) -> Result<String, Miss> {
+    match word {
+        "takes" => takes(alloc, fields),
         "line" => line(alloc, fields.rest()),
         "name" => name(alloc, fields.rest()),
-        "refused" => refused(alloc, &mut fields),
-        "long" => long(alloc, &mut fields),
-        "echo" => echo(alloc, &mut fields),
-        "script" => held.replay_whole(alloc, &mut fields),
-        word => later_answer(alloc, word, &mut fields),
+        "refused" => refused(alloc, fields),
+        "long" => long(alloc, fields),
+        "echo" => echo(alloc, fields),
+        _ => report_answer(alloc, word, fields),
     }
 }
 
 /// The answer to a row of reports, pictures or captures.
-fn later_answer(alloc: Global, word: &str, fields: &mut Fields<'_>) -> Result<String, Miss> {
+fn report_answer(alloc: Global, word: &str, fields: &mut Fields<'_>) -> Result<String, Miss> {
     match word {
-        "picture" => picture(alloc, fields),
-        "image" => image(alloc, fields),
         "ack" => ack(alloc, fields),
         "stream" => stream(alloc, fields),
         "frame" => frame(alloc, fields),
         "executed" => executed(alloc, fields),
         "soak" => soak(alloc, fields),
         "live" => live(alloc, fields),
+        _ => capture_answer(alloc, word, fields),
+    }
+}
+
+/// The answer to a row of pictures or captures.
+fn capture_answer(alloc: Global, word: &str, fields: &mut Fields<'_>) -> Result<String, Miss> {
+    match word {
+        "picture" => picture(alloc, fields),
+        "image" => image(alloc, fields),
         "capture" => capture(alloc, fields),
         "content" => content(alloc, fields),
         "moments" => moments(alloc, fields),

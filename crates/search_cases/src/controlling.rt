@@ -1,14 +1,17 @@
 //! A camera that is taken and let go, over a link in memory.
 
-use crate::datagrams::{CAMERA, Datagram, datagrams, heard, numbers};
+use crate::datagrams::{CAMERA, Datagram, datagrams, heard};
+use crate::fields::{field, numbers};
 use crate::ports::{HOST, ROOM};
-use crate::running::field;
+use crate::printing::print_link;
 use anyhow::Result;
 use camera_control::{NotTaken, RegisterWrite, StreamWish, Taken, let_go, take_camera};
 use control_client::Client;
 use gev_links::{CountsFaults, MemoryClock, MemoryLink};
+use gev_types::Peer;
 use read_filters::RegisterReads;
 use std::alloc::{AllocError, Global};
+use std::str::Split;
 use std::sync::Wait;
 
 /// The limit of a send, in milliseconds.
@@ -28,10 +31,10 @@ struct Row {
     came: Vec<Option<Datagram>>,
 }
 
-/// A field of writes, each a register and a value. One that is `.` is empty.
-fn writes(alloc: Global, field: &str) -> Result<Vec<RegisterWrite>, AllocError> {
+/// The next field, one of writes, each a register and a value. One that is `.` is empty.
+fn writes(alloc: Global, fields: &mut Split<'_, char>) -> Result<Vec<RegisterWrite>, AllocError> {
     let mut found = Vec::new(alloc);
-    for part in field.split(',') {
+    for part in field(fields).split(',') {
         if let Some((register, value)) = part.split_once('=') {
             found.push(RegisterWrite {
                 register: register.parse::<u32>().unwrap_or(0),
@@ -55,21 +58,41 @@ fn row_of(alloc: Global, text: &str) -> Result<Row> {
         beats: Vec::new(alloc),
         came: Vec::new(alloc),
     };
-    fill(alloc, &mut row, text)?;
+    fill(alloc, &mut row, &mut text.split(' '))?;
     Ok(row)
 }
 
-fn fill(alloc: Global, row: &mut Row, text: &str) -> Result<()> {
-    let mut fields = text.split(' ');
-    row.moments = numbers(alloc, field(&mut fields))?;
-    row.receives = numbers(alloc, field(&mut fields))?;
-    row.sends = numbers(alloc, field(&mut fields))?;
-    row.packet_size = field(&mut fields).parse::<u16>().unwrap_or(0);
-    row.sets = writes(alloc, field(&mut fields))?;
-    row.starts = writes(alloc, field(&mut fields))?;
-    row.stops = writes(alloc, field(&mut fields))?;
-    row.beats = numbers(alloc, field(&mut fields))?;
-    row.came = datagrams(alloc, field(&mut fields))?;
+/// Reads the fields of a row.
+fn fill(alloc: Global, row: &mut Row, fields: &mut Split<'_, char>) -> Result<()> {
+    fill_calls(alloc, row, fields)?;
+    row.packet_size = field(fields).parse::<u16>().unwrap_or(0);
+    fill_writes(alloc, row, fields)?;
+    row.beats = numbers(alloc, fields)?;
+    row.came = datagrams(alloc, fields)?;
+    Ok(())
+}
+
+/// Reads the moments, and which calls of the link fail.
+fn fill_calls(
+    alloc: Global,
+    row: &mut Row,
+    fields: &mut Split<'_, char>,
+) -> Result<(), AllocError> {
+    row.moments = numbers(alloc, fields)?;
+    row.receives = numbers(alloc, fields)?;
+    row.sends = numbers(alloc, fields)?;
+    Ok(())
+}
+
+/// Reads what is written before the stream opens, to start the camera and to stop it.
+fn fill_writes(
+    alloc: Global,
+    row: &mut Row,
+    fields: &mut Split<'_, char>,
+) -> Result<(), AllocError> {
+    row.sets = writes(alloc, fields)?;
+    row.starts = writes(alloc, fields)?;
+    row.stops = writes(alloc, fields)?;
     Ok(())
 }
 
@@ -77,19 +100,30 @@ fn fill(alloc: Global, row: &mut Row, text: &str) -> Result<()> {
 pub fn control_row<R: Wait>(rt: &HostRuntime, handles: &R, text: &str) -> Result<()> {
     let row = row_of(rt.alloc(), text)?;
     let hears = heard(rt.alloc(), row.came.as_slice())?;
+    control_over(rt, handles, &row, hears.as_slice())
+}
+
+/// The same, over a link that hears this.
+fn control_over<R: Wait>(
+    rt: &HostRuntime,
+    handles: &R,
+    row: &Row,
+    hears: &[Option<(&[u8], Peer)>],
+) -> Result<()> {
     let link = MemoryLink::new(
         rt.alloc(),
         HOST,
-        hears.as_slice(),
+        hears,
         row.receives.as_slice(),
         row.sends.as_slice(),
         ROOM,
     )?;
     let mut control = RegisterReads::new(link);
-    take_and_leave(rt, handles, &row, &mut control)?;
+    take_and_leave(rt, handles, row, &mut control)?;
     print_sent(rt, &control.into_inner())
 }
 
+/// Takes a camera, and lets it go where it's held: how both ended.
 fn take_and_leave<R: Wait>(
     rt: &HostRuntime,
     handles: &R,
@@ -112,22 +146,36 @@ fn take_and_leave<R: Wait>(
         row.sets.as_slice(),
         row.starts.as_slice(),
     );
-    let held = print_taken(rt, taken)?;
-    if !held {
-        return Ok(());
+    if print_taken(rt, taken)? {
+        let heartbeat = taken.is_ok();
+        leave(
+            rt,
+            handles,
+            row,
+            &mut client,
+            control,
+            &mut clock,
+            heartbeat,
+        )?;
     }
+    Ok(())
+}
+
+/// Lets a camera go behind the moments that the client is told: how it ended.
+fn leave<R: Wait>(
+    rt: &HostRuntime,
+    handles: &R,
+    row: &Row,
+    client: &mut Client,
+    control: &mut RegisterReads<MemoryLink<'_>>,
+    clock: &mut MemoryClock<'_>,
+    heartbeat: bool,
+) -> Result<()> {
     for beat in row.beats.as_slice() {
         client.tick(*beat);
     }
-    let left = let_go(
-        handles,
-        &mut client,
-        control,
-        &mut clock,
-        CAMERA,
-        taken.is_ok(),
-        row.stops.as_slice(),
-    );
+    let stops = row.stops.as_slice();
+    let left = let_go(handles, client, control, clock, CAMERA, heartbeat, stops);
     print!(rt; ", let go {left:?}")?;
     Ok(())
 }
@@ -153,17 +201,4 @@ fn print_taken(rt: &HostRuntime, taken: Result<Taken, NotTaken>) -> Result<bool>
 fn print_sent(rt: &HostRuntime, link: &MemoryLink<'_>) -> Result<()> {
     print!(rt; ", faults {}", link.fault_count())?;
     print_link(rt, link)
-}
-
-/// What was sent on a link.
-pub fn print_link(rt: &HostRuntime, link: &MemoryLink<'_>) -> Result<()> {
-    for sent in link.sent() {
-        print!(rt;
-            "\n  to {:x}:{} {}",
-            sent.0.address,
-            sent.0.port,
-            hex::encode(rt.alloc(), sent.1.as_slice())?
-        )?;
-    }
-    Ok(())
 }

@@ -1,85 +1,100 @@
 //! A wait for the first leader of a camera's stream, over links in memory.
 
-use crate::controlling::{SEND_LIMIT, print_link};
-use crate::datagrams::{CAMERA, Datagram, datagrams, heard, numbers};
+use crate::controlling::SEND_LIMIT;
+use crate::datagrams::{CAMERA, Datagram, datagrams, heard};
+use crate::fields::{field, numbers};
 use crate::ports::{HOST, ROOM};
-use crate::running::field;
+use crate::printing::print_link;
 use anyhow::Result;
 use bootstrap_regs::addresses::CCP;
 use control_client::Client;
 use first_leader::{FirstLeader, NoLeader, Patience, await_leader};
 use gev_control::{Order, carry_out};
 use gev_links::{CountsFaults, MemoryClock, MemoryLink, MemorySource};
-use std::alloc::Global;
+use std::alloc::{AllocError, Global};
+use std::str::Split;
 use std::sync::Wait;
 
 /// The room for a datagram that is looked at.
 const LOOK_ROOM: usize = 9000;
 
-/// The fields of a row.
+/// The fields of a row but its input.
 #[derive(Drop)]
 struct Row {
     moments: Vec<u64>,
     looks: Vec<u64>,
     receives: Vec<u64>,
     sends: Vec<u64>,
+    patience: Patience,
     stream: Vec<Option<Datagram>>,
     control: Vec<Option<Datagram>>,
 }
 
-/// The fields of a row, in order: how it's waited.
-fn fill(alloc: Global, row: &mut Row, text: &str) -> Result<Patience> {
-    let mut fields = text.split(' ');
-    row.moments = numbers(alloc, field(&mut fields))?;
-    row.looks = numbers(alloc, field(&mut fields))?;
-    row.receives = numbers(alloc, field(&mut fields))?;
-    row.sends = numbers(alloc, field(&mut fields))?;
-    let packet_size = field(&mut fields).parse::<u16>().unwrap_or(0);
-    let silence = field(&mut fields).parse::<u64>().unwrap_or(0);
-    let until_input = field(&mut fields) != "-";
-    row.stream = datagrams(alloc, field(&mut fields))?;
-    row.control = datagrams(alloc, field(&mut fields))?;
-    Ok(Patience {
-        packet_size,
-        silence,
-        until_input,
-    })
+/// The fields of a row, in order.
+fn row_of(alloc: Global, text: &str) -> Result<Row> {
+    let mut row = Row {
+        moments: Vec::new(alloc),
+        looks: Vec::new(alloc),
+        receives: Vec::new(alloc),
+        sends: Vec::new(alloc),
+        patience: Patience {
+            packet_size: 0,
+            silence: 0,
+            until_input: false,
+        },
+        stream: Vec::new(alloc),
+        control: Vec::new(alloc),
+    };
+    fill(alloc, &mut row, &mut text.split(' '))?;
+    Ok(row)
+}
+
+/// Reads the fields of a row.
+fn fill(alloc: Global, row: &mut Row, fields: &mut Split<'_, char>) -> Result<()> {
+    fill_calls(alloc, row, fields)?;
+    row.patience = patience_of(fields);
+    row.stream = datagrams(alloc, fields)?;
+    row.control = datagrams(alloc, fields)?;
+    Ok(())
+}
+
+/// Reads the moments, and which calls of the links fail.
+fn fill_calls(
+    alloc: Global,
+    row: &mut Row,
+    fields: &mut Split<'_, char>,
+) -> Result<(), AllocError> {
+    row.moments = numbers(alloc, fields)?;
+    row.looks = numbers(alloc, fields)?;
+    row.receives = numbers(alloc, fields)?;
+    row.sends = numbers(alloc, fields)?;
+    Ok(())
+}
+
+/// How it's waited, by the next fields.
+fn patience_of(fields: &mut Split<'_, char>) -> Patience {
+    Patience {
+        packet_size: field(fields).parse::<u16>().unwrap_or(0),
+        silence: field(fields).parse::<u64>().unwrap_or(0),
+        until_input: field(fields) != "-",
+    }
 }
 
 /// The input of a row, of which each byte lasts for one look.
 fn input_of(text: &str) -> &str {
-    let mut fields = text.split(' ');
-    for _ in 0..6 {
-        let _ = field(&mut fields);
-    }
-    let input = field(&mut fields);
+    let input = text.split(' ').nth(6).unwrap_or(".");
     if input == "." { "" } else { input }
 }
 
 /// A wait behind a first command: how it ended, how many bytes the next receive of the stream gives, the faults, and what was
 /// sent.
 pub fn leader_row<R: Wait>(rt: &HostRuntime, handles: &R, text: &str) -> Result<()> {
-    let alloc = rt.alloc();
-    let mut row = Row {
-        moments: Vec::new(alloc),
-        looks: Vec::new(alloc),
-        receives: Vec::new(alloc),
-        sends: Vec::new(alloc),
-        stream: Vec::new(alloc),
-        control: Vec::new(alloc),
-    };
-    let patience = fill(alloc, &mut row, text)?;
-    wait_over(rt, handles, &row, patience, input_of(text))
+    let row = row_of(rt.alloc(), text)?;
+    wait_over(rt, handles, &row, input_of(text))
 }
 
 /// The same, over the links of this row.
-fn wait_over<R: Wait>(
-    rt: &HostRuntime,
-    handles: &R,
-    row: &Row,
-    patience: Patience,
-    input: &str,
-) -> Result<()> {
+fn wait_over<R: Wait>(rt: &HostRuntime, handles: &R, row: &Row, input: &str) -> Result<()> {
     let alloc = rt.alloc();
     let shown = heard(alloc, row.stream.as_slice())?;
     let told = heard(alloc, row.control.as_slice())?;
@@ -92,19 +107,25 @@ fn wait_over<R: Wait>(
         row.sends.as_slice(),
         ROOM,
     )?;
-    let found = wait_for(
-        handles,
-        row.moments.as_slice(),
-        patience,
-        input,
-        &mut stream,
-        &mut control,
-    );
+    wait_and_show(rt, handles, row, input, &mut stream, &mut control)
+}
+
+/// The same, over these links.
+fn wait_and_show<R: Wait>(
+    rt: &HostRuntime,
+    handles: &R,
+    row: &Row,
+    input: &str,
+    stream: &mut MemoryLink<'_>,
+    control: &mut MemoryLink<'_>,
+) -> Result<()> {
+    let moments = row.moments.as_slice();
+    let found = wait_for(handles, moments, row.patience, input, stream, control);
     print_found(rt, found)?;
     let faults = stream.fault_count();
-    print_next(rt, &mut stream)?;
+    print_next(rt, stream)?;
     print!(rt; ", faults {faults} {}", control.fault_count())?;
-    print_link(rt, &control)
+    print_link(rt, control)
 }
 
 /// The wait, behind a first command that takes control.

@@ -12,10 +12,13 @@
 //! hears, from the acknowledge of a first command on.
 #![tactic(auto)]
 
+mod acknowledges; // acknowledges as bytes
 mod controlling; // cameras that are taken and let go
 mod datagrams; // what a link hears
+mod fields; // a row's fields
 mod leading; // waits for a first leader
 mod ports; // ports in memory
+mod printing; // lines, and what was sent
 mod running; // whole commands
 mod simulating; // a simulated camera
 mod telling; // addresses, URLs, acknowledges
@@ -25,19 +28,24 @@ use std::sync::Wait;
 
 fn main(rt: HostRuntime) -> Result<()> {
     for line in rt.lines(rt.alloc()) {
-        let line = line?;
-        let row = line.as_str();
-        print!(rt; "{row}")?;
-        if !row.is_empty() && !row.starts_with('#') {
-            print!(rt; " = ")?;
-            answer(&rt, &rt, row)?;
-        }
-        println!(rt)?;
+        answer_line(&rt, &rt, line?.as_str())?;
     }
     Ok(())
 }
 
-/// Prints the answer of a row.
+/// Prints a line, and behind a row its answer.
+fn answer_line<R: Wait>(rt: &HostRuntime, handles: &R, line: &str) -> Result<()> {
+    if line.is_empty() || line.starts_with('#') {
+        println!(rt; "{line}")?;
+        return Ok(());
+    }
+    print!(rt; "{line} = ")?;
+    answer(rt, handles, line)?;
+    println!(rt)?;
+    Ok(())
+}
+
+/// Prints the answer of a row: what words, addresses and datagrams tell.
 fn answer<R: Wait>(rt: &HostRuntime, handles: &R, row: &str) -> Result<()> {
     let (word, rest) = row.split_once(' ').unwrap_or((row, ""));
     match word {
@@ -45,14 +53,18 @@ fn answer<R: Wait>(rt: &HostRuntime, handles: &R, row: &str) -> Result<()> {
         "words" => telling::words(rt, rest),
         "url" => telling::url(rt, rest),
         "acknowledge" => telling::acknowledge(rt, rest),
+        _ => answer_over_links(rt, handles, word, rest),
+    }
+}
+
+/// Prints the answer of a row of what is done over links in memory.
+fn answer_over_links<R: Wait>(rt: &HostRuntime, handles: &R, word: &str, rest: &str) -> Result<()> {
+    match word {
         "discover" => running::discover_row(rt, handles, rest),
         "control" => controlling::control_row(rt, handles, rest),
         "leader" => leading::leader_row(rt, handles, rest),
         "describe" => running::describe_row(rt, handles, rest),
         "simulate" => simulating::simulate_row(rt, handles, rest),
-        _ => {
-            print!(rt; "not understood")?;
-            Ok(())
-        }
+        _ => printing::print_text(rt, "not understood"),
     }
 }

@@ -19,35 +19,44 @@ use std::io::{self, BufRead, BufReader};
 fn main(rt: HostRuntime) -> io::Result<()> {
     let alloc = rt.alloc();
     let mut input = Vec::new(alloc);
+    print_all(&rt, alloc, &mut input)
+}
+
+/// Writes all lines of standard input again, each with what it comes to.
+fn print_all(rt: &HostRuntime, alloc: Global, input: &mut Vec<u8>) -> io::Result<()> {
     for line in BufReader::new(alloc, rt.reader())?.lines(alloc) {
-        let line = line?;
-        print!(rt; "{line}")?;
-        answer(&rt, alloc, &mut input, line.as_str())?;
+        answer(rt, alloc, input, line?.as_str())?;
     }
     Ok(())
 }
 
-/// Does what the row says, and prints what is behind it, with the row's end.
+/// Writes a row again, does what it says, and prints what is behind it, with the row's end.
 fn answer(rt: &impl Print, alloc: Global, input: &mut Vec<u8>, row: &str) -> io::Result<()> {
+    rt.print(row)?;
     let (kind, rest) = row.split_once(' ').unwrap_or((row, ""));
-    let parts = split(alloc, rest)?;
-    if kind == "?" {
-        return running::print_run(rt, alloc, input.as_slice(), parts.as_slice());
-    }
-    if kind == "reads" || kind == "writes" {
-        let reads = kind == "reads";
-        return sweeping::print_sweep(rt, alloc, input.as_slice(), reads, parts.as_slice());
-    }
-    if kind == "words" {
-        return reading::print_readings(rt, alloc, parts.as_slice());
-    }
-    if kind == "text" {
-        return text::print_text(rt, parts.as_slice());
-    }
     if input::add_row(alloc, input, kind, rest)? {
         return rt.println("");
     }
-    rt.println(" = not understood")
+    let parts = split(alloc, rest)?;
+    call(rt, alloc, input.as_slice(), kind, parts.as_slice())
+}
+
+/// Makes the call of this kind over the input, and prints what it comes to.
+fn call(
+    rt: &impl Print,
+    alloc: Global,
+    input: &[u8],
+    kind: &str,
+    parts: &[&str],
+) -> io::Result<()> {
+    match kind {
+        "?" => running::print_run(rt, alloc, input, parts),
+        "reads" => sweeping::print_sweep(rt, alloc, input, true, parts),
+        "writes" => sweeping::print_sweep(rt, alloc, input, false, parts),
+        "words" => reading::print_readings(rt, alloc, parts),
+        "text" => text::print_text(rt, parts),
+        _ => rt.println(" = not understood"),
+    }
 }
 
 /// The parts between spaces; of an empty text none.

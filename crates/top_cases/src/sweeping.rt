@@ -1,7 +1,7 @@
 //! Each read or each write fails in turn.
 
 use crate::input::number;
-use crate::running::{Ends, run_words};
+use crate::running::{Ends, Run, run_words};
 use gev_status::Status;
 use std::alloc::Global;
 use std::io;
@@ -18,7 +18,7 @@ pub(crate) fn print_sweep(
     let [piece, room, words @ ..] = parts else {
         return rt.println(" = not understood");
     };
-    let mut ends = Ends {
+    let ends = Ends {
         piece: number(piece),
         room: number(room),
         read: 0,
@@ -26,24 +26,48 @@ pub(crate) fn print_sweep(
     };
     let whole = run_words(alloc, ends, words, input)?;
     rt.print(" =")?;
+    print_faults(rt, alloc, input, reads, ends, words, &whole)?;
+    rt.println("")
+}
+
+/// Prints the runs with a fault, up to the first one that meets none.
+fn print_faults(
+    rt: &impl Print,
+    alloc: Global,
+    input: &[u8],
+    reads: bool,
+    ends: Ends,
+    words: &[&str],
+    whole: &Run,
+) -> io::Result<()> {
     for failing in 1..1000 {
-        if reads {
-            ends.read = failing;
-        } else {
-            ends.write = failing;
-        }
-        let run = run_words(alloc, ends, words, input)?;
-        let code = run.status.number();
-        let count = run.written.len();
-        let mark = if whole.written.starts_with(run.written.as_slice()) {
-            ':'
-        } else {
-            '!'
-        };
-        print!(rt; " {code}{mark}{count}")?;
+        let (read, write) = if reads { (failing, 0) } else { (0, failing) };
+        let run = run_words(
+            alloc,
+            Ends {
+                read,
+                write,
+                ..ends
+            },
+            words,
+            input,
+        )?;
+        print_end(rt, &run, whole)?;
         if run.status == Status::Done {
             break;
         }
     }
-    rt.println("")
+    Ok(())
+}
+
+/// Prints how a run with a fault ended, beside the run without one.
+fn print_end(rt: &impl Print, run: &Run, whole: &Run) -> io::Result<()> {
+    let code = run.status.number();
+    let count = run.written.len();
+    let mark = if whole.written.starts_with(run.written.as_slice()) {
+        ':'
+    } else {
+        '!'
+    };
+    print!(rt; " {code}{mark}{count}")
 }

@@ -2,39 +2,81 @@
 
 use crate::{base, control, links, requests, standard, stream};
 use std::alloc::Global;
+use std::str::SplitWhitespace;
 
 /// The answer to a row, or None where it isn't understood.
 pub fn answer(alloc: Global, row: &str) -> Option<String> {
     let mut words = row.split_whitespace();
-    match words.next()? {
-        "frame_size" => base::frame_size(alloc, &mut words),
-        "buffer" => base::buffer(alloc, &mut words),
-        "reversed" => base::reversed(alloc, &mut words),
-        "field" => base::field(alloc, &mut words),
+    let call = words.next()?;
+    of_base(alloc, call, &mut words)
+}
+
+/// The answer to a call of sizes, buffers and numbers, or to one of the others.
+fn of_base(alloc: Global, call: &str, words: &mut SplitWhitespace<'_>) -> Option<String> {
+    match call {
+        "frame_size" => base::frame_size(alloc, words),
+        "buffer" => base::buffer(alloc, words),
+        "reversed" => base::reversed(alloc, words),
+        "field" => base::field(alloc, words),
         "texts" => base::texts(alloc),
-        "packet" => stream::packet(alloc, &mut words),
-        "parts" => stream::parts(alloc, &mut words),
-        "rewritten" => stream::rewritten(alloc, &mut words),
-        "notice" => stream::notice(alloc, &mut words),
-        "flags" => stream::flags(alloc, &mut words),
-        "command" => control::command(alloc, &mut words),
-        "is_command" => control::is_command(alloc, &mut words),
-        "read_register" => control::read_register(alloc, &mut words),
-        "read_memory" => control::read_memory(alloc, &mut words),
-        "acknowledge" => control::acknowledge(alloc, &mut words),
-        "write_acknowledge" => control::write_acknowledge(alloc, &mut words),
-        "asked" => control::asked(alloc, &mut words),
-        "resend" => control::resend(alloc, &mut words),
-        "discovery" => control::discovery(alloc, &mut words),
-        "status" => control::status(alloc, &mut words),
-        "widened" => standard::widened(alloc, &mut words),
-        "blocks" => standard::blocks(alloc, &mut words),
-        "narrow" => standard::narrow(alloc, &mut words),
-        "standard_resend" => standard::standard_resend(alloc, &mut words),
-        "control_request" => requests::control_request(alloc, &mut words),
-        "sent_requests" => requests::sent_requests(alloc, &mut words),
-        "only_from" => links::only_from(alloc, &mut words),
-        "wide_link" => links::wide_link(alloc, &mut words),
+        _ => of_stream(alloc, call, words),
+    }
+}
+
+/// The answer to a call of packets of the stream, or to one of those that follow.
+fn of_stream(alloc: Global, call: &str, words: &mut SplitWhitespace<'_>) -> Option<String> {
+    match call {
+        "packet" => stream::packet(alloc, words),
+        "parts" => stream::parts(alloc, words),
+        "rewritten" => stream::rewritten(alloc, words),
+        "notice" => stream::notice(alloc, words),
+        "flags" => stream::flags(alloc, words),
+        _ => of_commands(alloc, call, words),
+    }
+}
+
+/// The answer to a call of commands, or to one of those that follow.
+fn of_commands(alloc: Global, call: &str, words: &mut SplitWhitespace<'_>) -> Option<String> {
+    match call {
+        "command" => control::command(alloc, words),
+        "is_command" => control::is_command(alloc, words),
+        "read_register" => control::read_register(alloc, words),
+        "read_memory" => control::read_memory(alloc, words),
+        "discovery" => control::discovery(alloc, words),
+        _ => of_acknowledges(alloc, call, words),
+    }
+}
+
+/// The answer to a call of acknowledges and of what is asked for again, or to one of those that follow.
+fn of_acknowledges(alloc: Global, call: &str, words: &mut SplitWhitespace<'_>) -> Option<String> {
+    match call {
+        "acknowledge" => control::acknowledge(alloc, words),
+        "write_acknowledge" => control::write_acknowledge(alloc, words),
+        "status" => control::status(alloc, words),
+        "asked" => control::asked(alloc, words),
+        "resend" => control::resend(alloc, words),
+        _ => of_standard(alloc, call, words),
+    }
+}
+
+/// The answer to a call of standard identifiers, or to one of those that follow.
+fn of_standard(alloc: Global, call: &str, words: &mut SplitWhitespace<'_>) -> Option<String> {
+    match call {
+        "widened" => standard::widened(alloc, words),
+        "blocks" => standard::blocks(alloc, words),
+        "narrow" => standard::narrow(alloc, words),
+        "standard_resend" => standard::standard_resend(alloc, words),
+        _ => of_links(alloc, call, words),
+    }
+}
+
+/// The answer to a call of requests on a link, and of links that stand on links.
+fn of_links(alloc: Global, call: &str, words: &mut SplitWhitespace<'_>) -> Option<String> {
+    match call {
+        "control_request" => requests::control_request(alloc, words),
+        "sent_requests" => requests::sent_requests(alloc, words),
+        "only_from" => links::only_from(alloc, words),
+        "wide_link" => links::wide_link(alloc, words),
         _ => None,
     }
 }

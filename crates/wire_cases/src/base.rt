@@ -29,19 +29,29 @@ pub fn buffer(alloc: Global, words: &mut SplitWhitespace<'_>) -> Option<String> 
     let size = number32(words)?;
     let at = number32(words)?;
     let piece = bytes(alloc, words)?;
+    put(alloc, size, at, piece.as_slice())
+}
+
+/// Puts bytes into a buffer of this size: the buffer with a record of one byte, and after it was made empty.
+fn put(alloc: Global, size: u32, at: u32, piece: &[u8]) -> Option<String> {
     if size == 0 || size > 16 {
         return None;
     }
     let mut buf = Buf::new(alloc, size).ok()?;
-    buf.put(at, piece.as_slice());
+    buf.put(at, piece);
     buf.set_rec(Record {
         block: 7,
         filled: 1,
         ..Record::default()
     });
-    let filled = text_of(alloc, &buf)?;
+    filled_and_empty(alloc, &mut buf)
+}
+
+/// The buffer, and the buffer after it was made empty.
+fn filled_and_empty(alloc: Global, buf: &mut Buf) -> Option<String> {
+    let filled = text_of(alloc, buf)?;
     buf.clear();
-    let empty = text_of(alloc, &buf)?;
+    let empty = text_of(alloc, buf)?;
     format!(in alloc; "{filled}, then {empty}").ok()
 }
 
@@ -63,12 +73,17 @@ pub fn reversed(alloc: Global, words: &mut SplitWhitespace<'_>) -> Option<String
 pub fn field(alloc: Global, words: &mut SplitWhitespace<'_>) -> Option<String> {
     let bytes = bytes(alloc, words)?;
     let place = usize::from(number16(words)?);
-    let left = bytes.len().checked_sub(place)?;
-    let found = match number(words)? {
-        2 if left >= 2 => u64::from(u16_at(bytes.as_slice(), place)),
-        4 if left >= 4 => u64::from(u32_at(bytes.as_slice(), place)),
-        8 if left >= 8 => u64_at(bytes.as_slice(), place),
-        _ => return None,
-    };
+    let found = number_at(bytes.as_slice(), place, number(words)?)?;
     format!(in alloc; "{found:#x}").ok()
+}
+
+/// The number of so many bytes at this place.
+fn number_at(bytes: &[u8], place: usize, width: u64) -> Option<u64> {
+    let left = bytes.len().checked_sub(place)?;
+    match width {
+        2 if left >= 2 => Some(u64::from(u16_at(bytes, place))),
+        4 if left >= 4 => Some(u64::from(u32_at(bytes, place))),
+        8 if left >= 8 => Some(u64_at(bytes, place)),
+        _ => None,
+    }
 }

@@ -98,34 +98,44 @@ pub fn write_acknowledge(alloc: Global, words: &mut SplitWhitespace<'_>) -> Opti
     let code = number16(words)?;
     let req = number16(words)?;
     let body = bytes(alloc, words)?;
-    if req == 0 || body.len() > 8 {
-        return None;
-    }
-    let mut out = [0xEE; 16];
     let ack = Ack {
         status,
         code,
         req,
         body: body.as_slice(),
     };
-    let len = write_ack(&mut out, &ack);
+    written(alloc, &ack)
+}
+
+/// The bytes of an acknowledge with a body of at most 8 bytes.
+fn written(alloc: Global, ack: &Ack<'_>) -> Option<String> {
+    if ack.req == 0 || ack.body.len() > 8 {
+        return None;
+    }
+    let mut out = [0xEE; 16];
+    let len = write_ack(&mut out, ack);
     hex::encode(alloc, &out[..len]).ok()
 }
 
 /// Flags, a code and the body of a command: the packets that it asks for, and whether the flags say
 /// extended identifiers.
 pub fn asked(alloc: Global, words: &mut SplitWhitespace<'_>) -> Option<String> {
+    let head = command_head(words)?;
+    let body = bytes(alloc, words)?;
+    let resend = read_resend(head, body.as_slice());
+    let extended = has_extended_ids(head.flags);
+    format!(in alloc; "{resend:?} {extended}").ok()
+}
+
+/// Flags and a code: the header of a command with request number 1.
+fn command_head(words: &mut SplitWhitespace<'_>) -> Option<CommandHead> {
     let flags = u8::try_from(number(words)?).ok()?;
     let code = number16(words)?;
-    let body = bytes(alloc, words)?;
-    let head = CommandHead {
+    Some(CommandHead {
         flags,
         code,
         req: 1,
-    };
-    let resend = read_resend(head, body.as_slice());
-    let extended = has_extended_ids(flags);
-    format!(in alloc; "{resend:?} {extended}").ok()
+    })
 }
 
 /// A request number and a range of packets.

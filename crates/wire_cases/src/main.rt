@@ -16,16 +16,18 @@ use std::io;
 
 fn main(rt: HostRuntime) -> io::Result<()> {
     for line in rt.lines(rt.alloc()) {
-        let line = line?;
-        let row = line.as_str();
-        if row.is_empty() || row.starts_with('#') {
-            println!(rt; "{row}")?;
-            continue;
-        }
-        match answers::answer(rt.alloc(), row) {
-            Some(answer) => println!(rt; "{row} = {answer}")?,
-            None => println!(rt; "{row} = not understood")?,
-        }
+        write_line(&rt, line?.as_str())?;
     }
     Ok(())
+}
+
+/// Writes a line again, a row with its answer.
+fn write_line(rt: &HostRuntime, line: &str) -> io::Result<()> {
+    if line.is_empty() || line.starts_with('#') {
+        return println!(rt; "{line}");
+    }
+    match answers::answer(rt.alloc(), line) {
+        Some(answer) => println!(rt; "{line} = {answer}"),
+        None => println!(rt; "{line} = not understood"),
+    }
 }

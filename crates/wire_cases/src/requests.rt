@@ -7,6 +7,7 @@ use gev_types::Peer;
 use gvcp_aux::write_resend;
 use packet_requests::{IdMode, send_control_request, write_control_request};
 use std::alloc::Global;
+use std::fmt::Write;
 use std::str::SplitWhitespace;
 
 /// The link's own address.
@@ -54,12 +55,16 @@ pub fn control_request(alloc: Global, words: &mut SplitWhitespace<'_>) -> Option
 fn sent(alloc: Global, link: &MemoryLink<'_>) -> Option<String> {
     let mut text = String::new(alloc);
     for (peer, bytes) in link.sent() {
-        let address = peer.address;
-        let digits = hex::encode(alloc, bytes.as_slice()).ok()?;
-        let word = format!(in alloc; " {address}:{digits}").ok()?;
-        text.push_str(word.as_str()).ok()?;
+        add_sent(alloc, *peer, bytes.as_slice(), &mut text)?;
     }
     Some(text)
+}
+
+/// Adds bytes that were sent, behind the address they went to.
+fn add_sent(alloc: Global, peer: Peer, bytes: &[u8], text: &mut String) -> Option<()> {
+    let address = peer.address;
+    let digits = hex::encode(alloc, bytes).ok()?;
+    write!(text, " {address}:{digits}").ok()
 }
 
 /// Whether something failed before (1) or not (0), the number of the send that fails, the identifiers of a stream and a
@@ -70,8 +75,19 @@ pub fn sent_requests(alloc: Global, words: &mut SplitWhitespace<'_>) -> Option<S
     let ids = id_mode(words)?;
     let request = receiver_request(words)?;
     let mut link = MemoryLink::new(alloc, OWN, &[], &[], &failing, 2).ok()?;
-    let first = send_control_request(&mut link, CAMERA, &request, ids, before);
-    let second = send_control_request(&mut link, CAMERA, &request, ids, first);
-    let sent = sent(alloc, &link)?;
+    send_twice(alloc, &mut link, &request, ids, before)
+}
+
+/// Sends a request twice: whether something had failed by each, and what was sent.
+fn send_twice(
+    alloc: Global,
+    link: &mut MemoryLink<'_>,
+    request: &[u8; 28],
+    ids: IdMode,
+    before: bool,
+) -> Option<String> {
+    let first = send_control_request(link, CAMERA, request, ids, before);
+    let second = send_control_request(link, CAMERA, request, ids, first);
+    let sent = sent(alloc, link)?;
     format!(in alloc; "{first} {second}{sent}").ok()
 }

@@ -7,6 +7,7 @@ use crate::words::{bytes_of, number};
 use gvsp_std::{StdError, Widener, write_resend_std};
 use gvsp_wire::parse;
 use std::alloc::Global;
+use std::fmt::Write;
 use std::str::SplitWhitespace;
 
 /// The room for a datagram that is widened.
@@ -17,17 +18,26 @@ pub fn widened(alloc: Global, words: &mut SplitWhitespace<'_>) -> Option<String>
     let mut widener = Widener::new();
     let mut text = String::new(alloc);
     for word in words {
-        let bytes = bytes_of(alloc, word)?;
-        let mut out = [0xEE; ROOM];
-        let becomes = match widen(&mut widener, bytes.as_slice(), &mut out)? {
-            Ok(len) => hex::encode(alloc, &out[..len]).ok()?,
-            Err(refusal) => format!(in alloc; "{refusal:?}: {refusal}").ok()?,
-        };
-        text.push_str(becomes.as_str()).ok()?;
-        text.push_str("; ").ok()?;
+        add_widened(alloc, &mut widener, word, &mut text)?;
     }
     let top = widener.top();
     format!(in alloc; "{text}top {top}").ok()
+}
+
+/// Adds what a datagram becomes.
+fn add_widened(alloc: Global, widener: &mut Widener, word: &str, text: &mut String) -> Option<()> {
+    let bytes = bytes_of(alloc, word)?;
+    let mut out = [0xEE; ROOM];
+    match widen(widener, bytes.as_slice(), &mut out)? {
+        Ok(len) => add_digits(alloc, &out[..len], text),
+        Err(refusal) => write!(text, "{refusal:?}: {refusal}; ").ok(),
+    }
+}
+
+/// Adds bytes in hexadecimal digits.
+fn add_digits(alloc: Global, bytes: &[u8], text: &mut String) -> Option<()> {
+    let digits = hex::encode(alloc, bytes).ok()?;
+    write!(text, "{digits}; ").ok()
 }
 
 /// The block ids of payloads, one after the other: the block that each names, or the refusal.
@@ -35,20 +45,24 @@ pub fn blocks(alloc: Global, words: &mut SplitWhitespace<'_>) -> Option<String> 
     let mut widener = Widener::new();
     let mut text = String::new(alloc);
     for word in words {
-        let [high, low] = word.parse::<u16>().ok()?.to_be_bytes();
-        let mut out = [0xEE; ROOM];
-        let payload = [0, 0, high, low, 3, 0, 0, 1, 0x61];
-        let named = match widen(&mut widener, &payload, &mut out)? {
-            Ok(len) => {
-                let block = parse(&out[..len]).ok()?.head().block;
-                format!(in alloc; "{block} ").ok()?
-            }
-            Err(refusal) => format!(in alloc; "{refusal:?} ").ok()?,
-        };
-        text.push_str(named.as_str()).ok()?;
+        add_block(&mut widener, word.parse::<u16>().ok()?, &mut text)?;
     }
     let top = widener.top();
     format!(in alloc; "{text}top {top}").ok()
+}
+
+/// Adds the block that a payload with this block id names.
+fn add_block(widener: &mut Widener, id: u16, text: &mut String) -> Option<()> {
+    let [high, low] = id.to_be_bytes();
+    let payload = [0, 0, high, low, 3, 0, 0, 1, 0x61];
+    let mut out = [0xEE; ROOM];
+    match widen(widener, &payload, &mut out)? {
+        Ok(len) => {
+            let block = parse(&out[..len]).ok()?.head().block;
+            write!(text, "{block} ").ok()
+        }
+        Err(refusal) => write!(text, "{refusal:?} ").ok(),
+    }
 }
 
 /// Widens a datagram that fits.

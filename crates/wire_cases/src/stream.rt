@@ -30,15 +30,30 @@ pub fn packet(alloc: Global, words: &mut SplitWhitespace<'_>) -> Option<String> 
 pub fn parts(alloc: Global, words: &mut SplitWhitespace<'_>) -> Option<String> {
     let bytes = bytes(alloc, words)?;
     let packet = parse(bytes.as_slice()).ok()?;
-    let id = packet.head().id;
-    let size = match packet.leader_info() {
+    parts_of(alloc, &packet)
+}
+
+/// The bytes of the image of a leader.
+fn image_size(packet: &Packet<'_>) -> u32 {
+    match packet.leader_info() {
         Some(info) => info.size,
         None => 0,
-    };
-    let len = match packet.payload() {
+    }
+}
+
+/// The bytes of the image of a payload.
+fn payload_len(packet: &Packet<'_>) -> usize {
+    match packet.payload() {
         Some(bytes) => bytes.len(),
         None => 0,
-    };
+    }
+}
+
+/// The parts of a packet.
+fn parts_of(alloc: Global, packet: &Packet<'_>) -> Option<String> {
+    let id = packet.head().id;
+    let size = image_size(packet);
+    let len = payload_len(packet);
     let lines = packet.lines();
     let is_trailer = packet.is_trailer();
     let is_notice = packet.is_notice();

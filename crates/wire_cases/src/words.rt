@@ -30,19 +30,22 @@ pub fn bytes(alloc: Global, words: &mut SplitWhitespace<'_>) -> Option<Vec<u8>> 
 /// A word as bytes: two hexadecimal digits each, `-` for none, and `PART+DIGITS*COUNT` for a part and then
 /// the same bytes again and again.
 pub fn bytes_of(alloc: Global, word: &str) -> Option<Vec<u8>> {
-    let mut bytes = Vec::new(alloc);
     if word == "-" {
-        return Some(bytes);
+        return Some(Vec::new(alloc));
     }
-    let Some((front, again)) = word.split_once('+') else {
-        return hex::decode(alloc, word).ok();
-    };
+    match word.split_once('+') {
+        Some((front, again)) => repeated(alloc, front, again),
+        None => hex::decode(alloc, word).ok(),
+    }
+}
+
+/// The bytes of `PART` and of `DIGITS*COUNT`.
+fn repeated(alloc: Global, front: &str, again: &str) -> Option<Vec<u8>> {
     let (digits, count) = again.split_once('*')?;
-    bytes
-        .extend_from_slice(hex::decode(alloc, front).ok()?.as_slice())
-        .ok()?;
+    let count = count.parse::<u16>().ok()?;
     let piece = hex::decode(alloc, digits).ok()?;
-    for _ in 0..count.parse::<u16>().ok()? {
+    let mut bytes = hex::decode(alloc, front).ok()?;
+    for _ in 0..count {
         bytes.extend_from_slice(piece.as_slice()).ok()?;
     }
     Some(bytes)

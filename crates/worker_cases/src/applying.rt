@@ -17,6 +17,12 @@ use std::sync::Wait;
 /// A buffer of three bytes with the whole image `abc` of block 7.
 fn whole(alloc: Global) -> Result<Buf> {
     let mut buf = Buf::new(alloc, 3)?;
+    make_whole(&mut buf)?;
+    Ok(buf)
+}
+
+/// Puts the image into a buffer of three bytes.
+fn make_whole(buf: &mut Buf) -> Result<()> {
     buf.put(0, b"abc");
     if buf.bytes().len() != 3 {
         return Err(anyhow!("another size"));
@@ -30,7 +36,7 @@ fn whole(alloc: Global) -> Result<Buf> {
         filled: 3,
         image: None,
     });
-    Ok(buf)
+    Ok(())
 }
 
 /// Announces this buffer at a place and fills it.
@@ -48,6 +54,18 @@ fn fill_new(board: &Board, pass: &mut Pass, place: u8, buf: Buf) -> Result<()>
     }
 }
 
+/// Fills the first place with the image, and the second one with a buffer of 2 bytes if the second number is 2.
+fn fill_some(alloc: Global, case: &Case<'_>, board: &Board, pass: &mut Pass) -> Result<()>
+    requires table { pass.old.table ≡ board_id board.now }
+    ensures table { pass.new.table ≡ pass.old.table }
+{
+    fill_new(board, pass, 0, whole(alloc)?)?;
+    if case.number(1) == 2 {
+        fill_new(board, pass, 1, Buf::new(alloc, 2)?)?;
+    }
+    Ok(())
+}
+
 /// The application where the acquisition runs or not, where one buffer waits or a second one of 2 bytes too, and so many
 /// are asked for: how many it took, the moment that is read next, how often the gate was passed, the places in the pool,
 /// and the lines.
@@ -56,24 +74,50 @@ pub fn apply_some<R: Wait>(rt: &HostRuntime, handles: &R, case: &Case<'_>) -> Re
     if case.number(0) == 1 {
         let _ = board.start(&mut pass);
     }
-    fill_new(&board, &mut pass, 0, whole(rt.alloc())?)?;
-    if case.number(1) == 2 {
-        fill_new(&board, &mut pass, 1, Buf::new(rt.alloc(), 2)?)?;
-    }
+    apply_on(rt, handles, case, &board, &mut pass)
+}
+
+/// The same on this board.
+fn apply_on<R: Wait>(
+    rt: &HostRuntime,
+    handles: &R,
+    case: &Case<'_>,
+    board: &Board,
+    pass: &mut Pass,
+) -> Result<()>
+    requires table { pass.old.table ≡ board_id board.now }
+{
+    fill_some(rt.alloc(), case, board, pass)?;
+    let mut out = Vec::new(rt.alloc());
+    apply_over(rt, handles, case, board, pass, &mut out)?;
+    print_text(rt, out.as_slice())
+}
+
+/// The same, with the lines to be printed.
+fn apply_over<R: Wait>(
+    rt: &HostRuntime,
+    handles: &R,
+    case: &Case<'_>,
+    board: &Board,
+    pass: &mut Pass,
+    out: &mut Vec<u8>,
+) -> Result<()>
+    requires table { pass.old.table ≡ board_id board.now }
+{
     let mut clock = MemoryClock::new(case.moments);
     let gate = MeetingGate::new(1);
-    let mut out = Vec::new(rt.alloc());
+    let frames = case.small(2);
     let taken = apply(
         handles,
         rt.alloc(),
-        &board,
-        &mut pass,
+        board,
+        pass,
         &mut clock,
         &gate,
-        case.small(2),
-        &mut out,
+        frames,
+        out,
     )?;
     print!(rt; "{taken} next {} takes {}", clock.now(), gate.takes())?;
-    print!(rt; " pool {:?}", board.look_pool(&mut pass).as_slice())?;
-    print_text(rt, out.as_slice())
+    print!(rt; " pool {:?}", board.look_pool(pass).as_slice())?;
+    Ok(())
 }

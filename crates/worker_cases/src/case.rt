@@ -3,7 +3,7 @@
 use anyhow::Result;
 use gev_types::{NoMemory, Peer};
 use mode_calls::Mode;
-use std::alloc::{AllocError, Global};
+use std::alloc::Global;
 
 /// What a link hears: datagrams, each with who sent it, and receives that get nothing.
 pub type Heard<'x> = &'x [Option<(&'x [u8], Peer)>];
@@ -48,28 +48,108 @@ impl<'x> Case<'x> {
     }
 }
 
-/// A field of numbers. One that is `.` or left out is empty.
-pub fn numbers(alloc: Global, field: Option<&str>) -> Result<Vec<u64>, AllocError> {
-    let mut found = Vec::new(alloc);
-    for part in field.unwrap_or(".").split(',') {
-        if let Ok(number) = part.parse::<u64>() {
-            found.push(number)?;
-        }
-    }
-    Ok(found)
+/// What the fields of a row hold.
+#[derive(Drop)]
+pub struct Row {
+    numbers: Vec<u64>,
+    moments: Vec<u64>,
+    control: Vec<Option<Vec<u8>>>,
+    receives: Vec<u64>,
+    sends: Vec<u64>,
+    stream: Vec<Option<Vec<u8>>>,
+    losses: Vec<u64>,
 }
 
-/// A field of datagrams.
-pub fn datagrams(alloc: Global, field: Option<&str>) -> Result<Vec<Option<Vec<u8>>>> {
-    let mut found = Vec::new(alloc);
-    for part in field.unwrap_or(".").split(',') {
-        if part == "-" {
-            found.push(None)?;
-        } else if let Some(digits) = part.strip_prefix("0x") {
-            found.push(Some(hex::decode(alloc, digits)?))?;
+impl Row {
+    /// A row with empty fields.
+    pub fn new(alloc: Global) -> Row {
+        Row {
+            numbers: Vec::new(alloc),
+            moments: Vec::new(alloc),
+            control: Vec::new(alloc),
+            receives: Vec::new(alloc),
+            sends: Vec::new(alloc),
+            stream: Vec::new(alloc),
+            losses: Vec::new(alloc),
         }
     }
-    Ok(found)
+
+    /// Reads the fields of a line behind its word.
+    pub fn read(&mut self, alloc: Global, line: &str) -> Result<()> {
+        read_numbers(field(line, 1), &mut self.numbers)?;
+        read_numbers(field(line, 2), &mut self.moments)?;
+        self.read_control(alloc, line)?;
+        self.read_stream(alloc, line)
+    }
+
+    /// Reads the fields of the control link, or the camera's.
+    fn read_control(&mut self, alloc: Global, line: &str) -> Result<()> {
+        read_datagrams(alloc, field(line, 3), &mut self.control)?;
+        read_numbers(field(line, 4), &mut self.receives)?;
+        read_numbers(field(line, 5), &mut self.sends)
+    }
+
+    /// Reads the fields of the stream's link.
+    fn read_stream(&mut self, alloc: Global, line: &str) -> Result<()> {
+        read_datagrams(alloc, field(line, 6), &mut self.stream)?;
+        read_numbers(field(line, 7), &mut self.losses)
+    }
+
+    /// The datagrams of the control link, or the camera's.
+    pub fn control(&self) -> &[Option<Vec<u8>>] {
+        self.control.as_slice()
+    }
+
+    /// The datagrams of the stream's link.
+    pub fn stream(&self) -> &[Option<Vec<u8>>] {
+        self.stream.as_slice()
+    }
+
+    /// The row's case, whose links hear this.
+    pub fn case<'x>(&'x self, control: Heard<'x>, stream: Heard<'x>) -> Case<'x> {
+        Case {
+            numbers: self.numbers.as_slice(),
+            moments: self.moments.as_slice(),
+            control,
+            receives: self.receives.as_slice(),
+            sends: self.sends.as_slice(),
+            stream,
+            losses: self.losses.as_slice(),
+        }
+    }
+}
+
+/// The field of a line at this place, `.` where it is left out.
+fn field(line: &str, place: usize) -> &str {
+    line.split(' ').nth(place).unwrap_or(".")
+}
+
+/// Reads a field of numbers. One that is `.` is empty.
+fn read_numbers(field: &str, into: &mut Vec<u64>) -> Result<()> {
+    for part in field.split(',') {
+        if let Ok(number) = part.parse::<u64>() {
+            into.push(number)?;
+        }
+    }
+    Ok(())
+}
+
+/// Reads a field of datagrams.
+fn read_datagrams(alloc: Global, field: &str, into: &mut Vec<Option<Vec<u8>>>) -> Result<()> {
+    for part in field.split(',') {
+        read_datagram(alloc, part, into)?;
+    }
+    Ok(())
+}
+
+/// Reads a datagram, or a receive that gets nothing.
+fn read_datagram(alloc: Global, part: &str, into: &mut Vec<Option<Vec<u8>>>) -> Result<()> {
+    if part == "-" {
+        into.push(None)?;
+    } else if let Some(digits) = part.strip_prefix("0x") {
+        into.push(Some(hex::decode(alloc, digits)?))?;
+    }
+    Ok(())
 }
 
 /// These datagrams as what a link hears from this peer.
@@ -80,10 +160,15 @@ pub fn heard(
 ) -> Result<Vec<Option<(&[u8], Peer)>>, NoMemory> {
     let mut all = Vec::with_capacity(alloc, datagrams.len())?;
     for datagram in datagrams {
-        match datagram {
-            Some(bytes) => all.push(Some((bytes.as_slice(), peer)))?,
-            None => all.push(None)?,
-        }
+        all.push(heard_one(datagram, peer))?;
     }
     Ok(all)
+}
+
+/// A datagram as a link hears it.
+fn heard_one(datagram: &Option<Vec<u8>>, peer: Peer) -> Option<(&[u8], Peer)> {
+    match datagram {
+        Some(bytes) => Some((bytes.as_slice(), peer)),
+        None => None,
+    }
 }

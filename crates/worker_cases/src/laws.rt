@@ -16,27 +16,52 @@ use gev_control::{
 
 /// Calls all laws.
 pub fn call_all(rt: &HostRuntime) -> Result<()> {
+    call_fills();
+    call_readers();
+    call_orders();
+    call_lists();
+    call_steps();
+    print!(rt; "called")?;
+    Ok(())
+}
+
+/// Calls the laws of what retires, and of the application.
+fn call_fills() {
     served_fills_are_retired();
     turns_fill_the_retired();
-    readers_fill_the_retired();
-    client_goes_through_turns();
     turns_are_of_their_kind();
     the_applications_part_stays();
-    orders_are_submitted_in_order();
-    orders_that_go_through_are_in_order();
-    each_order_waits_for_the_one_before();
-    a_list_stops_at_its_last_acknowledge();
-    lists_end_as_their_client();
-    the_last_read_is_told();
-    heartbeats_are_told();
-    turns_of_a_list_are_steps_of_the_client();
-    the_setup_stops_when_acknowledged();
-    the_setup_ends_as_its_client();
-    turns_are_steps_of_the_client();
+}
+
+/// Calls the laws of the reader.
+fn call_readers() {
+    readers_fill_the_retired();
+    client_goes_through_turns();
     readers_part_stays();
     readers_fills_are_retired();
     readers_lay_nothing();
     readers_claim_one_size();
-    print!(rt; "called")?;
-    Ok(())
+}
+
+/// Calls the laws of orders.
+fn call_orders() {
+    orders_are_submitted_in_order();
+    orders_that_go_through_are_in_order();
+    each_order_waits_for_the_one_before();
+    a_list_stops_at_its_last_acknowledge();
+}
+
+/// Calls the laws of a list's end.
+fn call_lists() {
+    lists_end_as_their_client();
+    the_last_read_is_told();
+    heartbeats_are_told();
+    turns_of_a_list_are_steps_of_the_client();
+}
+
+/// Calls the laws of the setup, and of a turn's steps.
+fn call_steps() {
+    the_setup_stops_when_acknowledged();
+    the_setup_ends_as_its_client();
+    turns_are_steps_of_the_client();
 }

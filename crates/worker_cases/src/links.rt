@@ -4,9 +4,14 @@ ghost use Rattle.std.specs.Prelude.{◌≡◌, [], Some, IfOk};
 
 use crate::case::Case;
 use anyhow::Result;
-use gev_links::{CountsFaults, MemoryLink};
+use control_client::Client;
+use gev_acq::Host;
+use gev_links::{CountsFaults, MemoryClock, MemoryLink};
 use gev_types::{NoMemory, Peer};
 use std::alloc::Global;
+
+/// What a reader has of the outside, in memory.
+pub type MemoryHost<'x> = Host<MemoryLink<'x>, MemoryLink<'x>, MemoryClock<'x>>;
 
 /// The camera's control channel.
 pub const CAMERA: Peer = Peer {
@@ -38,11 +43,16 @@ const NONE: &[u64] = &[];
 /// Prints how often a link failed, and what was sent on it: to whom, and the bytes or how many they are.
 pub fn print_sent(rt: &HostRuntime, link: &MemoryLink<'_>) -> Result<()> {
     print!(rt; "\n  faults {}", link.fault_count())?;
-    for sent in link.sent() {
-        print!(rt; "\n  to {:x}:{} ", sent.0.address, sent.0.port)?;
-        print_bytes(rt, sent.1.as_slice())?;
+    for (peer, bytes) in link.sent() {
+        print_datagram(rt, *peer, bytes.as_slice())?;
     }
     Ok(())
+}
+
+/// Prints to whom a datagram was sent, and its bytes or how many they are.
+fn print_datagram(rt: &HostRuntime, peer: Peer, bytes: &[u8]) -> Result<()> {
+    print!(rt; "\n  to {:x}:{} ", peer.address, peer.port)?;
+    print_bytes(rt, bytes)
 }
 
 /// Prints a datagram, or how long it is.
@@ -58,9 +68,15 @@ pub fn print_bytes(rt: &HostRuntime, bytes: &[u8]) -> Result<()> {
 /// Prints a text, each of its lines on a line of its own.
 pub fn print_text(rt: &HostRuntime, text: &[u8]) -> Result<()> {
     for line in text.split(|byte| *byte == b'\n') {
-        if !line.is_empty() {
-            print!(rt; "\n  {}", str::from_utf8(line)?)?;
-        }
+        print_text_line(rt, line)?;
+    }
+    Ok(())
+}
+
+/// Prints a line of a text, if something stands on it.
+fn print_text_line(rt: &HostRuntime, line: &[u8]) -> Result<()> {
+    if !line.is_empty() {
+        print!(rt; "\n  {}", str::from_utf8(line)?)?;
     }
     Ok(())
 }
@@ -79,4 +95,21 @@ pub fn control_link<'x>(
 /// The stream's link, on which nothing is sent.
 pub fn stream_link<'x>(alloc: Global, case: &Case<'x>) -> Result<MemoryLink<'x>, NoMemory> {
     MemoryLink::new(alloc, STREAM, case.stream, case.losses, NONE, 0)
+}
+
+/// A reader's links and clock, with this client.
+pub fn new_host<'x>(
+    alloc: Global,
+    case: &Case<'x>,
+    client: Client,
+) -> Result<MemoryHost<'x>, NoMemory>
+    ensures client { IfOk result (λ host. host.client ≡ client) }
+{
+    let stream = stream_link(alloc, case)?;
+    Ok(Host {
+        stream,
+        control: control_link(alloc, case, HOST)?,
+        clock: MemoryClock::new(case.moments),
+        client,
+    })
 }

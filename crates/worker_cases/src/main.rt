@@ -19,133 +19,121 @@ mod serving;
 mod telling;
 mod turning;
 
-use crate::case::{Case, Heard, datagrams, heard, numbers};
+use crate::case::{Case, Heard, Row, heard};
 use crate::links::{CAMERA, HOST};
 use anyhow::Result;
+use gev_types::Peer;
 use std::sync::Wait;
-
-/// The fields of a row that are numbers, each as its `Case` has it.
-#[derive(Drop)]
-struct Row {
-    numbers: Vec<u64>,
-    moments: Vec<u64>,
-    receives: Vec<u64>,
-    sends: Vec<u64>,
-    losses: Vec<u64>,
-}
 
 fn main(rt: HostRuntime) -> Result<()> {
     for line in rt.lines(rt.alloc()) {
-        let line = line?;
-        print!(rt; "{}", line.as_str())?;
-        if !line.as_str().is_empty() && !line.as_str().starts_with('#') {
-            print!(rt; " = ")?;
-            answer(&rt, &rt, line.as_str())?;
-        }
-        println!(rt)?;
+        print_line(&rt, &rt, line?.as_str())?;
     }
     Ok(())
 }
 
-/// Prints the answer of a row. What a camera hears comes from the host, and all else from the camera.
-fn answer<R: Wait>(rt: &HostRuntime, handles: &R, line: &str) -> Result<()> {
-    let alloc = rt.alloc();
-    let mut fields = line.split(' ');
-    let word = fields.next().unwrap_or("");
-    let peer = if word == "serve" || word == "obey" {
+/// Prints a line, and behind a row its answer.
+fn print_line<R: Wait>(rt: &HostRuntime, handles: &R, line: &str) -> Result<()> {
+    print!(rt; "{line}")?;
+    if is_row(line) {
+        print_answer(rt, handles, line)?;
+    }
+    println!(rt)?;
+    Ok(())
+}
+
+/// Whether a line is a row, and neither empty nor a comment.
+fn is_row(line: &str) -> bool {
+    !line.is_empty() && !line.starts_with('#')
+}
+
+/// Prints the answer of a row behind an equals sign.
+fn print_answer<R: Wait>(rt: &HostRuntime, handles: &R, line: &str) -> Result<()> {
+    print!(rt; " = ")?;
+    let mut row = Row::new(rt.alloc());
+    answer(rt, handles, line, &mut row)
+}
+
+/// Reads a row's fields, and prints its answer.
+fn answer<R: Wait>(rt: &HostRuntime, handles: &R, line: &str, row: &mut Row) -> Result<()> {
+    row.read(rt.alloc(), line)?;
+    let word = line.split(' ').next().unwrap_or("");
+    answer_row(rt, handles, word, row)
+}
+
+/// The same, by what is heard on the control link or the camera's.
+fn answer_row<R: Wait>(rt: &HostRuntime, handles: &R, word: &str, row: &Row) -> Result<()> {
+    let control = heard(rt.alloc(), row.control(), peer_of(word))?;
+    answer_hearing(rt, handles, word, row, control.as_slice())
+}
+
+/// Who is heard: what a camera hears comes from the host, and all else from the camera.
+fn peer_of(word: &str) -> Peer {
+    if word == "serve" || word == "obey" {
         HOST
     } else {
         CAMERA
-    };
-    let numbers_of_row = numbers(alloc, fields.next())?;
-    let moments = numbers(alloc, fields.next())?;
-    let control = datagrams(alloc, fields.next())?;
-    let receives = numbers(alloc, fields.next())?;
-    let sends = numbers(alloc, fields.next())?;
-    let stream = datagrams(alloc, fields.next())?;
-    let losses = numbers(alloc, fields.next())?;
-    let control_hears = heard(alloc, control.as_slice(), peer)?;
-    let stream_hears = heard(alloc, stream.as_slice(), CAMERA)?;
-    let row = Row {
-        numbers: numbers_of_row,
-        moments,
-        receives,
-        sends,
-        losses,
-    };
-    answer_over(
-        rt,
-        handles,
-        word,
-        &row,
-        control_hears.as_slice(),
-        stream_hears.as_slice(),
-    )
+    }
 }
 
-/// The same, by the row's fields.
-fn answer_over<'x, R: Wait>(
+/// The same, by what is heard on the stream's link too.
+fn answer_hearing<'x, R: Wait>(
     rt: &HostRuntime,
     handles: &R,
     word: &str,
     row: &'x Row,
     control: Heard<'x>,
-    stream: Heard<'x>,
 ) -> Result<()> {
-    let case = Case {
-        numbers: row.numbers.as_slice(),
-        moments: row.moments.as_slice(),
-        control,
-        receives: row.receives.as_slice(),
-        sends: row.sends.as_slice(),
-        stream,
-        losses: row.losses.as_slice(),
-    };
-    if call_control(rt, handles, word, &case)? || call_worker(rt, handles, word, &case)? {
-        return Ok(());
+    let stream = heard(rt.alloc(), row.stream(), CAMERA)?;
+    call_control(rt, handles, word, &row.case(control, stream.as_slice()))
+}
+
+/// Makes a call of the control part, or of what stands behind it.
+fn call_control<R: Wait>(rt: &HostRuntime, handles: &R, word: &str, case: &Case<'_>) -> Result<()> {
+    match word {
+        "setup" => controlling::set_up(rt, handles, case),
+        "turn" => controlling::make_turn(rt, case),
+        "sends" => controlling::send_some(rt, case),
+        "laws" => laws::call_all(rt),
+        _ => call_orders(rt, handles, word, case),
     }
+}
+
+/// Makes a call of a list of orders, or of what stands behind them.
+fn call_orders<R: Wait>(rt: &HostRuntime, handles: &R, word: &str, case: &Case<'_>) -> Result<()> {
+    match word {
+        "orders" => ordering::carry(rt, handles, case),
+        "through" => ordering::carry_through(rt, handles, case),
+        "beat" => ordering::tell_heartbeat(rt, case),
+        _ => call_reader(rt, handles, word, case),
+    }
+}
+
+/// Makes a call of a reader, or of what stands behind it.
+fn call_reader<R: Wait>(rt: &HostRuntime, handles: &R, word: &str, case: &Case<'_>) -> Result<()> {
+    match word {
+        "acquire" => acquiring::acquire_some(rt, handles, case),
+        "paces" => pacing::pace_some(rt, handles, case),
+        "turns" => turning::read_some(rt, handles, case),
+        "read" => reading::read_some(rt, handles, case),
+        _ => call_worker(rt, handles, word, case),
+    }
+}
+
+/// Makes a call of a receiver, a camera or the application, if the word is one of theirs.
+fn call_worker<R: Wait>(rt: &HostRuntime, handles: &R, word: &str, case: &Case<'_>) -> Result<()> {
+    match word {
+        "served" => telling::serve_some(rt, handles, case),
+        "told" => telling::tell_one(rt, handles, case),
+        "serve" => serving::serve_some(rt, case),
+        "obey" => serving::obey_one(rt, case),
+        "apply" => applying::apply_some(rt, handles, case),
+        _ => print_unknown(rt),
+    }
+}
+
+/// Prints that a row's word is none of these.
+fn print_unknown(rt: &HostRuntime) -> Result<()> {
     print!(rt; "not understood")?;
     Ok(())
-}
-
-/// Makes a call of the control part, or of the laws: whether the word is known.
-fn call_control<R: Wait>(
-    rt: &HostRuntime,
-    handles: &R,
-    word: &str,
-    case: &Case<'_>,
-) -> Result<bool> {
-    match word {
-        "setup" => controlling::set_up(rt, handles, case)?,
-        "turn" => controlling::make_turn(rt, case)?,
-        "orders" => ordering::carry(rt, handles, case)?,
-        "through" => ordering::carry_through(rt, handles, case)?,
-        "beat" => ordering::tell_heartbeat(rt, case)?,
-        "sends" => controlling::send_some(rt, case)?,
-        "laws" => laws::call_all(rt)?,
-        _ => return Ok(false),
-    }
-    Ok(true)
-}
-
-/// Makes a call of a worker: whether the word is known.
-fn call_worker<R: Wait>(
-    rt: &HostRuntime,
-    handles: &R,
-    word: &str,
-    case: &Case<'_>,
-) -> Result<bool> {
-    match word {
-        "acquire" => acquiring::acquire_some(rt, handles, case)?,
-        "paces" => pacing::pace_some(rt, handles, case)?,
-        "served" => telling::serve_some(rt, handles, case)?,
-        "told" => telling::tell_one(rt, handles, case)?,
-        "turns" => turning::read_some(rt, handles, case)?,
-        "serve" => serving::serve_some(rt, case)?,
-        "obey" => serving::obey_one(rt, case)?,
-        "apply" => applying::apply_some(rt, handles, case)?,
-        "read" => reading::read_some(rt, handles, case)?,
-        _ => return Ok(false),
-    }
-    Ok(true)
 }

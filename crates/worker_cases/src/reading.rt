@@ -1,21 +1,30 @@
 //! The reader as a worker of its own: the setup, three turns, and the stop.
 
-ghost use Rattle.std.specs.Prelude.{◌≡◌};
+ghost use Rattle.std.specs.Prelude.{◌≡◌, ◌≤◌, ◌+◌, [], IfOk, vec_len, vec_capacity};
+ghost use Rattle.acq_core.specs.Receiver.{buffers, Stands};
+ghost use Rattle.acq_core.specs.Waiting.{waiting_fills, waiting_requests};
 ghost use Rattle.buffer_words.specs.Boards.{board_id};
 ghost use Rattle.buffer_words.specs.Passes.{IsEmptyHanded};
 
 use crate::acquiring::new_receiver;
 use crate::board::{new_board, print_all};
 use crate::case::Case;
-use crate::links::{CAMERA, HOST, STREAM, control_link, print_sent, stream_link};
+use crate::links::{CAMERA, STREAM, new_host, print_sent};
 use anyhow::Result;
 use buffer_words::{Board, Pass};
 use control_client::Client;
-use gev_acq::{AcqEnd, Acquired, Host, Reader, read};
+use gev_acq::{Acquired, Reader, read};
 use gev_links::{MemoryClock, MemoryLink, OpenGate};
 use live_crew::Worked;
 use mode_calls::Mode;
+use std::alloc::Global;
 use std::sync::Wait;
+
+/// A reader over links in memory.
+type MemoryReader<'x> = Reader<MemoryLink<'x>, MemoryLink<'x>, MemoryClock<'x>>;
+
+/// What such a reader gives back.
+type MemoryAcquired<'x> = Acquired<MemoryLink<'x>, MemoryLink<'x>, MemoryClock<'x>>;
 
 /// Its end, how many turns its journal has, what it sent, whether the acquisition runs then, and what waits.
 pub fn read_some<R: Wait>(rt: &HostRuntime, handles: &R, case: &Case<'_>) -> Result<()> {
@@ -34,34 +43,31 @@ fn read_over<R: Wait>(
     requires table { pass.table ≡ board_id board.now }
     requires hands { IsEmptyHanded pass }
 {
-    let acq = new_receiver(rt.alloc(), true)?;
-    let stream = stream_link(rt.alloc(), case)?;
-    let control = control_link(rt.alloc(), case, HOST)?;
-    let journal = Vec::with_capacity(rt.alloc(), 3)?;
-    let reader = Reader {
-        acq,
-        host: Host {
-            stream,
-            control,
-            clock: MemoryClock::new(case.moments),
-            client: Client::new(),
-        },
+    let reader = new_reader(rt.alloc(), case, Client::new())?;
+    let Worked { mut pass, done } = read(handles, board, pass, &OpenGate, reader);
+    print_done(rt, handles, board, &mut pass, &done)
+}
+
+/// A reader with this client that makes three turns at most.
+fn new_reader<'x>(alloc: Global, case: &Case<'x>, client: Client) -> Result<MemoryReader<'x>>
+    ensures new { IfOk result (λ reader. Stands reader.acq []) }
+    ensures client { IfOk result (λ reader. reader.host.client ≡ client) }
+    ensures fills { IfOk result (λ reader. waiting_fills reader.acq ≡ []) }
+    ensures requests { IfOk result (λ reader. waiting_requests reader.acq ≡ []) }
+    ensures buffers { IfOk result (λ reader. buffers reader.acq ≡ []) }
+    ensures room { IfOk result (λ reader. vec_len reader.journal + reader.turns ≤ vec_capacity reader.journal) }
+{
+    let journal = Vec::with_capacity(alloc, 3)?;
+    let host = new_host(alloc, case, client)?;
+    Ok(Reader {
+        acq: new_receiver(alloc, true)?,
+        host,
         camera: CAMERA,
         own: STREAM,
         journal,
         turns: 3,
         mode: Mode::OldestFirst,
-    };
-    let Worked { mut pass, done } = read(handles, board, pass, &OpenGate, reader);
-    let Acquired {
-        host,
-        journal,
-        counts: _,
-        shed: _,
-        end,
-    } = done;
-    let turns = journal.len();
-    print_done(rt, handles, board, &mut pass, end, turns, &host.control)
+    })
 }
 
 /// Prints how the reader ended, and what waits.
@@ -70,14 +76,12 @@ fn print_done<R: Wait>(
     handles: &R,
     board: &Board,
     pass: &mut Pass,
-    end: AcqEnd,
-    turns: usize,
-    control: &MemoryLink<'_>,
+    done: &MemoryAcquired<'_>,
 ) -> Result<()>
     requires table { pass.old.table ≡ board_id board.now }
 {
     let runs = board.look_run(pass) == 1;
-    print!(rt; "{end:?} turns {turns} runs {runs}")?;
-    print_sent(rt, control)?;
+    print!(rt; "{:?} turns {} runs {runs}", done.end, done.journal.len())?;
+    print_sent(rt, &done.host.control)?;
     print_all(rt, handles, board, pass)
 }

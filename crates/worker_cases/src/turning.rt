@@ -8,14 +8,14 @@ ghost use Rattle.gev_acq.specs.Buffers.{Backs};
 
 use crate::board::{new_board, print_all};
 use crate::case::Case;
-use crate::links::{CAMERA, HOST, control_link, print_sent, stream_link};
+use crate::links::{CAMERA, MemoryHost, new_host, print_sent};
 use acq_core::{Acq, AcqConfig};
 use anyhow::Result;
 use buffer_words::{Board, Pass};
-use camera_reader::{Host, ReaderWords, read_camera, tell_begin};
+use camera_reader::{ReaderWords, TurnsDone, read_camera, tell_begin};
 use control_client::Client;
 use gev_acq::drain;
-use gev_links::{Clock, MemoryClock, OpenGate};
+use gev_links::{Clock, OpenGate};
 use gev_types::NoMemory;
 use mode_calls::Mode;
 use packet_requests::IdMode;
@@ -44,21 +44,75 @@ fn new_receiver(alloc: Global) -> Result<Acq, NoMemory>
 /// before the first turn. How the reader ended, the moment that is read next, what was sent, and what waits.
 pub fn read_some<R: Wait>(rt: &HostRuntime, handles: &R, case: &Case<'_>) -> Result<()> {
     let (board, mut pass) = new_board(rt.alloc())?;
-    let mut acq = new_receiver(rt.alloc())?;
-    read_over(rt, handles, case, &board, &mut pass, &mut acq)?;
-    drain(handles, &board, &mut pass, &mut acq, Mode::OldestFirst);
-    print_all(rt, handles, &board, &mut pass)
+    read_on(rt, handles, case, &board, &mut pass)
 }
 
-/// The same over this board and receiver, up to what waits.
-fn read_over<R: Wait>(
+/// The same on this board.
+fn read_on<R: Wait>(
     rt: &HostRuntime,
     handles: &R,
     case: &Case<'_>,
     board: &Board,
     pass: &mut Pass,
-    acq: &mut Acq,
 ) -> Result<()>
+    requires table { pass.old.table ≡ board_id board.now }
+{
+    let mut host = new_host(rt.alloc(), case, Client::with_limit(500))?;
+    read_and_stop(rt, handles, case, board, pass, &mut host)?;
+    print_all(rt, handles, board, pass)
+}
+
+/// The same with these links, up to what waits.
+fn read_and_stop<R: Wait>(
+    rt: &HostRuntime,
+    handles: &R,
+    case: &Case<'_>,
+    board: &Board,
+    pass: &mut Pass,
+    host: &mut MemoryHost<'_>,
+) -> Result<()>
+    requires table { pass.old.table ≡ board_id board.now }
+    ensures table { pass.new.table ≡ pass.old.table }
+{
+    let mut acq = new_receiver(rt.alloc())?;
+    let done = read_over(
+        handles,
+        reader_words(case),
+        case.number(2),
+        board,
+        pass,
+        &mut acq,
+        host,
+    );
+    drain(handles, board, pass, &mut acq, Mode::OldestFirst);
+    print_turns(rt, done, host)
+}
+
+/// The words of a reader with standard identifiers or extended ones.
+fn reader_words(case: &Case<'_>) -> ReaderWords {
+    let ids = if case.number(0) == 1 {
+        IdMode::Extended
+    } else {
+        IdMode::Standard
+    };
+    ReaderWords {
+        camera: CAMERA,
+        ids,
+        silence: case.number(1),
+        mode: Mode::OldestFirst,
+    }
+}
+
+/// Tells the camera where the stream begins, and takes the turns.
+fn read_over<R: Wait>(
+    handles: &R,
+    words: ReaderWords,
+    begin: u64,
+    board: &Board,
+    pass: &mut Pass,
+    acq: &mut Acq,
+    host: &mut MemoryHost<'_>,
+) -> TurnsDone
     requires table { pass.old.table ≡ board_id board.now }
     requires fills { waiting_fills acq.old ≡ [] }
     requires requests { waiting_requests acq.old ≡ [] }
@@ -68,24 +122,6 @@ fn read_over<R: Wait>(
     ensures requests { waiting_requests acq.new ≡ [] }
     ensures backs { Backs pass.new (buffers acq.new) }
 {
-    let ids = if case.number(0) == 1 {
-        IdMode::Extended
-    } else {
-        IdMode::Standard
-    };
-    let words = ReaderWords {
-        camera: CAMERA,
-        ids,
-        silence: case.number(1),
-        mode: Mode::OldestFirst,
-    };
-    let mut host = Host {
-        client: Client::with_limit(500),
-        stream: stream_link(rt.alloc(), case)?,
-        control: control_link(rt.alloc(), case, HOST)?,
-        clock: MemoryClock::new(case.moments),
-    };
-    let begin = case.number(2);
     tell_begin(
         handles,
         board,
@@ -96,9 +132,11 @@ fn read_over<R: Wait>(
         words,
         begin,
     );
-    let done = read_camera(
-        handles, board, pass, acq, &mut host, &OpenGate, words, begin,
-    );
+    read_camera(handles, board, pass, acq, host, &OpenGate, words, begin)
+}
+
+/// Prints how the turns ended, the moment that is read next, and what was sent.
+fn print_turns(rt: &HostRuntime, done: TurnsDone, host: &mut MemoryHost<'_>) -> Result<()> {
     print!(rt;
         "{:?} refused {} next {}",
         done.end,

@@ -26,21 +26,28 @@ fn answer(alloc: Global, receiver: &mut SoakReceiver, row: &str) -> Result<Strin
     }
 }
 
-fn main(rt: HostRuntime) -> io::Result<()> {
-    let Ok(mut receiver) = SoakReceiver::new(rt.alloc()) else {
-        return println!(rt; "no memory");
-    };
+/// Writes a line again, a row with its answer.
+fn print_row(rt: &HostRuntime, receiver: &mut SoakReceiver, row: &str) -> io::Result<()> {
+    if row.starts_with('#') {
+        return println!(rt; "{row}");
+    }
+    match answer(rt.alloc(), receiver, row) {
+        Ok(answer) => println!(rt; "{row} = {answer}"),
+        Err(fault) => println!(rt; "{row} = {fault:?}"),
+    }
+}
+
+/// Writes all lines again.
+fn print_all(rt: &HostRuntime, receiver: &mut SoakReceiver) -> io::Result<()> {
     for line in rt.lines(rt.alloc()) {
-        let line = line?;
-        let row = line.as_str();
-        if row.starts_with('#') {
-            println!(rt; "{row}")?;
-            continue;
-        }
-        match answer(rt.alloc(), &mut receiver, row) {
-            Ok(answer) => println!(rt; "{row} = {answer}")?,
-            Err(fault) => println!(rt; "{row} = {fault:?}")?,
-        }
+        print_row(rt, receiver, line?.as_str())?;
     }
     Ok(())
+}
+
+fn main(rt: HostRuntime) -> io::Result<()> {
+    match SoakReceiver::new(rt.alloc()) {
+        Ok(mut receiver) => print_all(&rt, &mut receiver),
+        Err(_) => println!(rt; "no memory"),
+    }
 }

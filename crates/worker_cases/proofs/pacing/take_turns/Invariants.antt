@@ -1,13 +1,12 @@
 use Rattle.std.proofs.Common.{◌≡◌, []}
 use Rattle.acq_core.specs.Receiver.{buffers}
 use Rattle.acq_core.specs.Waiting.{waiting_fills, waiting_requests}
-use Rattle.buffer_words.specs.Boards.{board_id}
 use Rattle.gev_acq.specs.Buffers.{Backs}
 use Rattle.worker_cases.proofs.pacing.take_turns.Given as goal
 
 abbrev pub invariant-loop-turn : goal.invariant-loop-turn
 invariant-loop-turn g l = record {
-  table : l.pass.table ≡ board_id l.board;
+  table : l.pass.table ≡ l.fn.pass.table;
   fills : waiting_fills l.acq ≡ [];
   requests : waiting_requests l.acq ≡ [];
   backs : Backs l.pass (buffers l.acq);

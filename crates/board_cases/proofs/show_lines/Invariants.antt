@@ -1,7 +1,7 @@
 -- Each actor of the shared board is ready for the next row.
 use Rattle.buffer_words.specs.Boards.{board_id}
 use Rattle.board_cases.specs.Ready.{IsReady}
-use Rattle.board_cases.proofs.main.Given as goal
+use Rattle.board_cases.proofs.show_lines.Given as goal
 
 abbrev pub invariant-loop-line : goal.invariant-loop-line
 invariant-loop-line g l = record {
