@@ -5,7 +5,7 @@ use crate::links::{HERE, THERE};
 use crate::numbers::{FAILED, digits};
 use crate::ports::{faults, some_ports};
 use gev_far::{FarPorts, PeekLink};
-use gev_links::{CountsFaults, Link, MemoryLink, Ports};
+use gev_links::{CountsFaults, Link, MemoryLink, MemoryPorts, Ports};
 use gev_types::Peer;
 use std::test::*;
 
@@ -32,6 +32,14 @@ fn receive<L: Link>(link: &mut L) -> u64 {
     }
 }
 
+/// Whether looks show three bytes, then a fault, then nothing, each as the receive behind it does.
+fn looks_show_receives(link: &mut MemoryLink<'_>) -> bool {
+    let first = look(link, 2) == 3_956_012 && look(link, 8) == 3_956_123 && receive(link) == 3;
+    let second = look(link, 8) == FAILED && receive(link) == FAILED;
+    let last = look(link, 8) == NOTHING && receive(link) == NOTHING && look(link, 8) == NOTHING;
+    first && second && last && link.fault_count() == 2
+}
+
 // A look shows what the next receive gives, and fails where that one does. It is no receive.
 #[test]
 fn looks_in_memory(rt: HostRuntime) -> Result<(), Fail> {
@@ -42,12 +50,7 @@ fn looks_in_memory(rt: HostRuntime) -> Result<(), Fail> {
     ];
     let mut link = MemoryLink::new(rt.alloc(), HERE, &answers, &[2], &[], 0)?;
     link.set_waiting(false);
-    assert!(rt; look(&mut link, 2) == 3_956_012 && look(&mut link, 8) == 3_956_123);
-    assert!(rt; receive(&mut link) == 3);
-    assert!(rt; look(&mut link, 8) == FAILED && receive(&mut link) == FAILED);
-    assert!(rt; look(&mut link, 8) == NOTHING && receive(&mut link) == NOTHING);
-    assert!(rt; look(&mut link, 8) == NOTHING);
-    assert!(rt; link.fault_count() == 2);
+    assert!(rt; looks_show_receives(&mut link));
     Ok(())
 }
 
@@ -66,20 +69,38 @@ where
     }
 }
 
+/// Whether a bind for broadcasts gives the last link, and there is none behind it.
+fn binds_the_last(ports: &mut MemoryPorts<'_, MemoryLink<'_>>) -> bool {
+    match ports.bind_broadcasting() {
+        Ok((link, peer)) => {
+            let ended = ports.bind_at(THERE).is_err();
+            ports.unbind(link);
+            ended && peer == THERE
+        }
+        Err(_) => false,
+    }
+}
+
+/// Whether far binds give the first link and the last one, and a fault between them and behind them.
+fn binds_far(ports: &mut MemoryPorts<'_, MemoryLink<'_>>) -> bool {
+    match ports.bind_towards(THERE) {
+        Ok((link, peer)) => {
+            let ended = ports.bind_at(THERE).is_err() && binds_the_last(ports);
+            ports.unbind(link);
+            ended && peer == HERE && ports.faults() == 2
+        }
+        Err(_) => false,
+    }
+}
+
 // Each bind gives the next link, wherever it is to be. The second one fails.
 #[test]
 fn far_links_of_ports(rt: HostRuntime) -> Result<(), Fail> {
     let mut ports = some_ports(rt.alloc())?;
-    assert!(rt; look_towards(&mut ports, THERE) == NOTHING);
-    assert!(rt; look_towards(&mut ports, THERE) == FAILED);
+    assert!(rt;
+        look_towards(&mut ports, THERE) == NOTHING && look_towards(&mut ports, THERE) == FAILED
+    );
     let mut ports = some_ports(rt.alloc())?;
-    let (first, here) = ports.bind_towards(THERE)?;
-    assert!(rt; ports.bind_at(THERE).is_err());
-    let (last, there) = ports.bind_broadcasting()?;
-    assert!(rt; ports.bind_at(THERE).is_err());
-    assert!(rt; here == HERE && there == THERE && ports.faults() == 2);
-    ports.unbind(first);
-    ports.unbind(last);
-    assert!(rt; faults(ports.links()) == 100);
+    assert!(rt; binds_far(&mut ports) && faults(ports.links()) == 100);
     Ok(())
 }

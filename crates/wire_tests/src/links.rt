@@ -2,7 +2,8 @@
 
 use crate::numbers::{FAILED, digits};
 use gev_links::{CountsFaults, DiscardingLink, Failed, Link, MemoryLink, ShortLink};
-use gev_types::Peer;
+use gev_types::{NoMemory, Peer};
+use std::alloc::Global;
 use std::test::*;
 
 /// What stands for a receive to which nothing came.
@@ -43,21 +44,29 @@ fn receives<L: ShortLink>(link: &mut L) -> [u64; 4] {
     [first, receive(link), receive(link), receive(link)]
 }
 
-// The first datagram is longer than a short slice, which ends with its byte 2. The second and the fourth receive of the
-// first link fail: the second uses up a datagram, and the fourth is behind the end of the list.
+/// Whether a link in memory gives these datagrams. Its second and fourth receive fail: the second uses up a datagram, and the
+/// fourth is behind the end of the list.
+fn memory_gives(alloc: Global, answers: &[Option<(&[u8], Peer)>]) -> Result<bool, NoMemory> {
+    let mut link = MemoryLink::new(alloc, HERE, answers, &[2, 4], &[], 0)?;
+    let came = receives(&mut link) == [39_561_600_002, FAILED, NOTHING, NOTHING];
+    Ok(came && link.fault_count() == 1 && link.peer() == HERE)
+}
+
+/// Whether a link that keeps nothing gives these datagrams, and sends.
+fn discarding_gives(alloc: Global, answers: &[Option<(&[u8], Peer)>]) -> Result<bool, NoMemory> {
+    let mut link = DiscardingLink::new(alloc, HERE, answers)?;
+    let came = receives(&mut link) == [39_561_600_002, 39_560_001_004, NOTHING, NOTHING];
+    Ok(came && link.send(THERE, &[1]).is_ok() && link.fault_count() == 0 && link.peer() == HERE)
+}
+
+// The first datagram is longer than a short slice, which ends with its byte 2.
 #[test]
 fn receives_in_memory(rt: HostRuntime) -> Result<(), Fail> {
     let mut long = [1u8; 1601];
     long[1599] = 2;
     let answers: [Option<(&[u8], Peer)>; 3] = [Some((&long, THERE)), Some((&[4], THERE)), None];
-    let mut link = MemoryLink::new(rt.alloc(), HERE, &answers, &[2, 4], &[], 0)?;
-    assert!(rt; receives(&mut link) == [39_561_600_002, FAILED, NOTHING, NOTHING]);
-    assert!(rt; link.fault_count() == 1);
-    let mut silent = DiscardingLink::new(rt.alloc(), HERE, &answers)?;
-    assert!(rt; receives(&mut silent) == [39_561_600_002, 39_560_001_004, NOTHING, NOTHING]);
-    assert!(rt; silent.send(THERE, &[1]).is_ok());
-    assert!(rt; silent.fault_count() == 0);
-    assert!(rt; silent.peer() == link.peer());
+    assert!(rt; memory_gives(rt.alloc(), &answers)?);
+    assert!(rt; discarding_gives(rt.alloc(), &answers)?);
     Ok(())
 }
 
@@ -71,15 +80,17 @@ fn kept(link: &MemoryLink<'_>) -> u64 {
     number
 }
 
+/// Whether of four sends the first and the third go out and are kept, and the others are faults.
+fn sends_two_of_four(link: &mut MemoryLink<'_>) -> bool {
+    let sent = link.send(THERE, &[1, 2]).is_ok() && link.send(THERE, &[3]).is_err();
+    let ended = sent && link.send(HERE, &[]).is_ok() && link.send(THERE, &[4]).is_err();
+    ended && link.fault_count() == 2 && kept(link) == 395_612_4_915_200
+}
+
 // Room for two datagrams; the second send fails.
 #[test]
 fn sends_in_memory(rt: HostRuntime) -> Result<(), Fail> {
     let mut link = MemoryLink::new(rt.alloc(), HERE, &[], &[], &[2], 2)?;
-    assert!(rt; link.send(THERE, &[1, 2]).is_ok());
-    assert!(rt; link.send(THERE, &[3]).is_err());
-    assert!(rt; link.send(HERE, &[]).is_ok());
-    assert!(rt; link.send(THERE, &[4]).is_err());
-    assert!(rt; link.fault_count() == 2);
-    assert!(rt; kept(&link) == 395_612_4_915_200);
+    assert!(rt; sends_two_of_four(&mut link));
     Ok(())
 }
