@@ -74,14 +74,23 @@ fn bring_second(alloc: Global, board: &Board, pass: &mut Pass, buffers: u8) -> R
     bring(alloc, board, pass, 1)
 }
 
+// Starts the acquisition, with one or two buffers in the pool.
+fn start(alloc: Global, board: &Board, pass: &mut Pass, buffers: u8) -> Result<(), Fail>
+    requires table { pass.old.table ≡ board_id board.now }
+    ensures table { pass.new.table ≡ pass.old.table }
+{
+    bring(alloc, board, pass, 0)?;
+    bring_second(alloc, board, pass, buffers)?;
+    let _ = board.start(pass);
+    Ok(())
+}
+
 // A board whose acquisition runs, with one or two buffers in the pool.
 pub fn new_board(alloc: Global, buffers: u8) -> Result<(Board, Pass), Fail>
     ensures table { IfOk result (λ made. made.1.table ≡ board_id made.0) }
 {
     let (board, mut pass) = Board::new(alloc)?;
-    bring(alloc, &board, &mut pass, 0)?;
-    bring_second(alloc, &board, &mut pass, buffers)?;
-    let _ = board.start(&mut pass);
+    start(alloc, &board, &mut pass, buffers)?;
     Ok((board, pass))
 }
 

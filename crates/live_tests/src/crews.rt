@@ -1,8 +1,8 @@
 //! Reader and lanes as threads over links and a clock in memory.
 
-ghost use Rattle.std.specs.Prelude.{◌≡◌, ◌<◌, IfOk};
+ghost use Rattle.std.specs.Prelude.{◌≡◌, ◌<◌, length, IfOk};
 ghost use Rattle.buffer_words.specs.Boards.{board_id};
-ghost use Rattle.gev_lanes.specs.Sides.{AreLanesOf};
+ghost use Rattle.gev_lanes.specs.Sides.{AreReadersOf, AreLanesOf, AreNew};
 ghost use Rattle.lane_crew.specs.Tools.{AreReady, ends_in};
 
 use crate::boards::{CAMERA, ONE_BLOCK, PACKETS, new_board, next_block};
@@ -11,7 +11,7 @@ use buffer_words::{Board, Pass};
 use control_client::Client;
 use gev_acq::{Acquired, Host};
 use gev_control::AcqEnd;
-use gev_lanes::{LaneEnds, Lanes};
+use gev_lanes::{LaneEnds, Lanes, ReaderEnds};
 use gev_links::{MemoryClock, MemoryLink, OpenGate};
 use gev_types::{NoMemory, Peer};
 use lane_crew::{LaneTools, LanesReader, lanes_parts_stay, read_by_lanes};
@@ -72,22 +72,63 @@ fn make_tools(
     }
 }
 
-// Reads with so many lanes and these answers of the control link: the end, how many commands were sent, and the blocks of
-// two takes, the lower one first.
-fn read_blocks<R: Threads + Wait + Sync>(
-    rt: &R,
+/// The links of a reader: over the stream's the packets of two blocks come, and the control link gives these answers.
+fn make_links<'a>(
     alloc: Global,
-    count: u8,
-    answers: &[Option<(&[u8], Peer)>],
-) -> Result<(AcqEnd, usize, u64, u64), Fail>
-    requires some { 0 < count }
-{
-    let (board, mut host) = new_board(alloc, 2)?;
-    let (lanes, reader, ends) = Lanes::new(alloc, count)?;
-    let tools = make_tools(alloc, &board, &mut host, &lanes, ends)?;
-    let pass = board.split(&mut host);
+    answers: &'a [Option<(&'a [u8], Peer)>],
+) -> Result<(MemoryLink<'a>, MemoryLink<'a>), NoMemory> {
     let stream = MemoryLink::new(alloc, STREAM, PACKETS, &[], &[], 0)?;
     let control = MemoryLink::new(alloc, HOST, answers, &[], &[], 9)?;
+    Ok((stream, control))
+}
+
+/// So many new lanes, the reader's ends, and what each lane works with.
+fn make_lanes(
+    alloc: Global,
+    board: &Board,
+    pass: &mut Pass,
+    count: u8,
+) -> Result<(Lanes, ReaderEnds, Vec<LaneTools>), NoMemory>
+    requires table { pass.old.table ≡ board_id board.now }
+    ensures table { pass.new.table ≡ pass.old.table }
+    ensures count { IfOk result (λ made. length made.0 ≡ count) }
+    ensures new { IfOk result (λ made. AreNew 0 made.0 made.1 (ends_in made.2.items)) }
+    ensures readers { IfOk result (λ made. AreReadersOf made.0 made.1) }
+    ensures ready { IfOk result (λ made. AreReady (board_id board.now) made.0 made.2.items) }
+{
+    let (lanes, reader, ends) = Lanes::new(alloc, count)?;
+    let tools = make_tools(alloc, board, pass, &lanes, ends)?;
+    Ok((lanes, reader, tools))
+}
+
+/// How an acquisition ended, and how many commands it sent.
+fn outcome(done: Acquired<MemoryLink<'_>, MemoryLink<'_>, MemoryClock<'_>>) -> (AcqEnd, usize) {
+    let Acquired {
+        host,
+        journal: _,
+        counts: _,
+        shed: _,
+        end,
+    } = done;
+    (end, host.control.sent().len())
+}
+
+/// Reads with so many lanes and these answers of the control link: the end, and how many commands were sent.
+fn read_all<R: Threads + Wait + Sync>(
+    rt: &R,
+    alloc: Global,
+    board: &Board,
+    host: &mut Pass,
+    count: u8,
+    answers: &[Option<(&[u8], Peer)>],
+) -> Result<(AcqEnd, usize), NoMemory>
+    requires table { host.old.table ≡ board_id board.now }
+    requires some { 0 < count }
+    ensures table { host.new.table ≡ host.old.table }
+{
+    let (stream, control) = make_links(alloc, answers)?;
+    let (lanes, reader, tools) = make_lanes(alloc, board, host, count)?;
+    let pass = board.split(host);
     let mine = LanesReader {
         lanes,
         reader,
@@ -103,29 +144,25 @@ fn read_blocks<R: Threads + Wait + Sync>(
         turns: 6,
         mode: Mode::OldestFirst,
     };
-    let Worked { pass, done } = read_by_lanes(rt, alloc, &board, pass, &OpenGate, mine);
-    let Acquired {
-        host: reader_host,
-        journal: _,
-        counts: _,
-        shed: _,
-        end,
-    } = done;
-    let Host {
-        stream: _,
-        control,
-        clock: _,
-        client: _,
-    } = reader_host;
-    board.join(&mut host, pass);
+    let Worked { pass, done } = read_by_lanes(rt, alloc, board, pass, &OpenGate, mine);
+    board.join(host, pass);
+    Ok(outcome(done))
+}
+
+/// The same, and the blocks of two takes behind that, the lower one first.
+fn read_blocks<R: Threads + Wait + Sync>(
+    rt: &R,
+    alloc: Global,
+    count: u8,
+    answers: &[Option<(&[u8], Peer)>],
+) -> Result<(AcqEnd, usize, u64, u64), Fail>
+    requires some { 0 < count }
+{
+    let (board, mut host) = new_board(alloc, 2)?;
+    let (end, sent) = read_all(rt, alloc, &board, &mut host, count, answers)?;
     let first = next_block(rt, &board, &mut host);
     let second = next_block(rt, &board, &mut host);
-    Ok((
-        end,
-        control.sent().len(),
-        first.min(second),
-        first.max(second),
-    ))
+    Ok((end, sent, first.min(second), first.max(second)))
 }
 
 // The camera is set up, six turns get two whole blocks, and each fills a buffer: with one lane both are the first lane's,

@@ -2,7 +2,8 @@
 
 ghost use Rattle.std.specs.Prelude.{◌≡◌};
 
-use gev_lanes::{Giver, Line, Taker, ends_cross, line_is_shared};
+use gev_lanes::{Giver, Line, Start, Taker, ends_cross, line_is_shared};
+use std::alloc::{AllocError, Global};
 use std::sync::Wait;
 use std::test::Fail;
 use std::thread;
@@ -74,26 +75,69 @@ fn ten_thousand_items_cross(rt: HostRuntime) -> Result<(), Fail> {
     Ok(())
 }
 
-// A queue with room for two: it's full after two, empty after two, and keeps the order; the ends meet from the taker's
-// side.
+/// Does nothing but make a queue: these ends may go to another thread.
+fn ends_may_cross(alloc: Global, begin: &Start<u32>) -> Result<(), AllocError> {
+    let (line, start) = Line::<u32>::new(alloc, 1)?;
+    let (giver, taker) = line.part(start);
+    ends_cross(begin, &giver, &taker);
+    Ok(())
+}
+
+/// The same of all ends, and of the queue itself.
+fn queues_may_cross(alloc: Global) -> Result<(), AllocError> {
+    let (line, begin) = Line::<u32>::new(alloc, 1)?;
+    line_is_shared(&line);
+    ends_may_cross(alloc, &begin)
+}
+
+/// Whether a queue with room for two, in which 7 is, is full after two, empty after two, and keeps the order.
+fn keeps_order<R: Wait>(
+    rt: &R,
+    line: &Line<u32>,
+    giver: &mut Giver<u32>,
+    taker: &mut Taker<u32>,
+) -> bool
+    requires giver { giver.old.line ≡ line.now.table }
+    requires taker { taker.old.line ≡ line.now.table }
+    ensures giver { giver.new.line ≡ giver.old.line }
+    ensures taker { taker.new.line ≡ taker.old.line }
+{
+    let gave = line.give(rt, giver, 8).is_ok();
+    let full = line.give(rt, giver, 9) == Err(9);
+    let first = line.take(rt, taker) == Some(7);
+    let second = line.take(rt, taker) == Some(8);
+    let empty = line.take(rt, taker).is_none();
+    gave && full && first && second && empty
+}
+
+/// Whether it does, and what a giver that waits gives then comes to a taker that waits.
+fn keeps_order_and_waits<R: Wait>(
+    rt: &R,
+    line: &Line<u32>,
+    giver: &mut Giver<u32>,
+    taker: &mut Taker<u32>,
+) -> bool
+    requires giver { giver.old.line ≡ line.now.table }
+    requires taker { taker.old.line ≡ line.now.table }
+    ensures giver { giver.new.line ≡ giver.old.line }
+    ensures taker { taker.new.line ≡ taker.old.line }
+{
+    if !keeps_order(rt, line, giver, taker) {
+        return false;
+    }
+    line.give_waiting(rt, giver, 11);
+    line.take_waiting(rt, taker) == 11
+}
+
+// The ends meet from the taker's side.
 #[test]
 fn a_queue_is_full_and_empty(rt: HostRuntime) -> Result<(), Fail> {
+    queues_may_cross(rt.alloc())?;
     let (line, mut start) = Line::new(rt.alloc(), 2)?;
     let put = line.put(&mut start, 7u32).is_ok();
     let (mut giver, mut taker) = line.part(start);
-    let gave = line.give(&rt, &mut giver, 8).is_ok();
-    let full = line.give(&rt, &mut giver, 9) == Err(9);
-    let first = line.take(&rt, &mut taker) == Some(7);
-    let second = line.take(&rt, &mut taker) == Some(8);
-    let empty = line.take(&rt, &mut taker).is_none();
-    assert!(rt; put && gave && full && first && second && empty);
-    line.give_waiting(&rt, &mut giver, 11);
-    assert!(rt; line.take_waiting(&rt, &mut taker) == 11);
+    let kept = keeps_order_and_waits(&rt, &line, &mut giver, &mut taker);
     line.meet_giver(&mut taker, giver);
-    let (other, begin) = Line::<u32>::new(rt.alloc(), 1)?;
-    let (next, start) = Line::<u32>::new(rt.alloc(), 1)?;
-    let (giver, taker) = next.part(start);
-    ends_cross(&begin, &giver, &taker);
-    line_is_shared(&other);
+    assert!(rt; put && kept);
     Ok(())
 }

@@ -68,18 +68,33 @@ fn goes_round<R: Wait>(
         && none.is_none()
 }
 
+/// Whether they reach the last of these lanes, and the reader.
+fn last_goes_round<R: Wait>(
+    rt: &R,
+    lanes: &Lanes,
+    reader: &mut ReaderEnds,
+    ends: Vec<LaneEnds>,
+) -> bool
+    requires reader { AreReadersOf lanes.now reader.old }
+    requires kept { AreKept reader.old }
+    requires some { 0 < length lanes.now }
+    requires lanes { AreLanesOf lanes.now ends.items }
+{
+    match last_lane(lanes, ends) {
+        Some(mut lane) => {
+            let number = lanes.count() - 1;
+            lane_ends_cross(reader, &lane);
+            goes_round(rt, lanes, reader, number, &mut lane)
+        }
+        None => false,
+    }
+}
+
 #[test]
 fn cells_and_requests_go_round(rt: HostRuntime) -> Result<(), Fail> {
     let (lanes, mut reader, ends) = Lanes::new(rt.alloc(), 2)?;
     lanes_are_shared(&lanes);
-    match last_lane(&lanes, ends) {
-        Some(mut lane) => {
-            let number = lanes.count() - 1;
-            lane_ends_cross(&reader, &lane);
-            assert!(rt; goes_round(&rt, &lanes, &mut reader, number, &mut lane));
-        }
-        None => assert!(rt; false),
-    }
+    assert!(rt; last_goes_round(&rt, &lanes, &mut reader, ends));
     Ok(())
 }
 
@@ -118,19 +133,43 @@ fn take_cells<R: Wait>(rt: &R, lanes: &Lanes, lane: &mut LaneEnds, count: u32) -
     (datagrams, last)
 }
 
+/// Whether of 65 datagrams this lane gets 64, and behind them the end.
+fn gets_64<R: Wait>(rt: &R, lanes: &Lanes, reader: &mut ReaderEnds, lane: &mut LaneEnds) -> bool
+    requires reader { AreReadersOf lanes.now reader.old }
+    requires some { 0 < length lanes.now }
+    requires kept { AreKept reader.old }
+    requires lane { IsLaneAt lanes.now lane.old }
+{
+    hear_many(rt, lanes, reader);
+    let first = take_cells(rt, lanes, lane, 1);
+    end_lanes(rt, lanes, reader);
+    let others = take_cells(rt, lanes, lane, 64);
+    first == (1, 1) && others == (63, 64)
+}
+
+/// Whether the last of these lanes does.
+fn last_gets_64<R: Wait>(
+    rt: &R,
+    lanes: &Lanes,
+    reader: &mut ReaderEnds,
+    ends: Vec<LaneEnds>,
+) -> bool
+    requires reader { AreReadersOf lanes.now reader.old }
+    requires some { 0 < length lanes.now }
+    requires kept { AreKept reader.old }
+    requires lanes { AreLanesOf lanes.now ends.items }
+{
+    match last_lane(lanes, ends) {
+        Some(mut lane) => gets_64(rt, lanes, reader, &mut lane),
+        None => false,
+    }
+}
+
 // No lane runs while 65 datagrams come, so the last one is shed: behind the other 64 stands the end.
 #[test]
 fn the_datagram_behind_64_is_shed(rt: HostRuntime) -> Result<(), Fail> {
     let (lanes, mut reader, ends) = Lanes::new(rt.alloc(), 1)?;
-    match last_lane(&lanes, ends) {
-        Some(mut lane) => {
-            hear_many(&rt, &lanes, &mut reader);
-            assert!(rt; take_cells(&rt, &lanes, &mut lane, 1) == (1, 1));
-            end_lanes(&rt, &lanes, &mut reader);
-            assert!(rt; take_cells(&rt, &lanes, &mut lane, 64) == (63, 64));
-        }
-        None => assert!(rt; false),
-    }
+    assert!(rt; last_gets_64(&rt, &lanes, &mut reader, ends));
     Ok(())
 }
 
@@ -144,28 +183,93 @@ fn put_many<R: Wait>(rt: &R, lanes: &Lanes, lane: &mut LaneEnds)
     }
 }
 
+/// Whether the reader can send what the lanes ask for.
+fn sends_requests<R: Wait>(
+    rt: &R,
+    lanes: &Lanes,
+    reader: &mut ReaderEnds,
+    control: &mut MemoryLink<'_>,
+) -> bool
+    requires reader { AreReadersOf lanes.now reader.old }
+    requires kept { AreKept reader.old }
+    ensures reader { AreReadersOf lanes.now reader.new }
+    ensures kept { AreKept reader.new }
+{
+    let failed = ask_lanes(rt, lanes, reader, control, CAMERA, false);
+    !failed
+}
+
+/// Whether it can do so twice, where a lane has put 65 requests.
+fn sends_twice<R: Wait>(
+    rt: &R,
+    lanes: &Lanes,
+    reader: &mut ReaderEnds,
+    lane: &mut LaneEnds,
+    control: &mut MemoryLink<'_>,
+) -> bool
+    requires reader { AreReadersOf lanes.now reader.old }
+    requires kept { AreKept reader.old }
+    requires lane { IsLaneAt lanes.now lane.old }
+    ensures reader { AreReadersOf lanes.now reader.new }
+    ensures kept { AreKept reader.new }
+    ensures lane { IsLaneAt lanes.now lane.new }
+{
+    put_many(rt, lanes, lane);
+    let first = sends_requests(rt, lanes, reader, control);
+    let second = sends_requests(rt, lanes, reader, control);
+    first && second
+}
+
+/// Whether of the moments 0 and 7 and a datagram at 7 the lane gets the datagram, and behind it the end.
+fn gets_once<R: Wait>(rt: &R, lanes: &Lanes, reader: &mut ReaderEnds, lane: &mut LaneEnds) -> bool
+    requires reader { AreReadersOf lanes.now reader.old }
+    requires some { 0 < length lanes.now }
+    requires kept { AreKept reader.old }
+    requires lane { IsLaneAt lanes.now lane.old }
+{
+    tick_lanes(rt, lanes, reader, 0);
+    bring_received(rt, lanes, reader, 7, Ok(Some((2, CAMERA))), &[5, 6, 7]);
+    tick_lanes(rt, lanes, reader, 7);
+    end_lanes(rt, lanes, reader);
+    take_cells(rt, lanes, lane, 2) == (1, 7)
+}
+
+/// Whether the last of these lanes has its requests sent, and gets a moment once.
+fn last_asks_and_gets<R: Wait>(
+    rt: &R,
+    lanes: &Lanes,
+    reader: &mut ReaderEnds,
+    ends: Vec<LaneEnds>,
+    control: &mut MemoryLink<'_>,
+) -> bool
+    requires reader { AreReadersOf lanes.now reader.old }
+    requires some { 0 < length lanes.now }
+    requires kept { AreKept reader.old }
+    requires lanes { AreLanesOf lanes.now ends.items }
+{
+    match last_lane(lanes, ends) {
+        Some(mut lane) => {
+            let sent = sends_twice(rt, lanes, reader, &mut lane, control);
+            let got = gets_once(rt, lanes, reader, &mut lane);
+            sent && got
+        }
+        None => false,
+    }
+}
+
+/// Whether 64 requests were sent, the last one with number 63.
+fn sent_64(control: &MemoryLink<'_>) -> bool {
+    let sent = control.sent();
+    sent.len() == 64 && sent[63].1.as_slice() == [63; 28].as_slice()
+}
+
 // Of 65 requests the last one finds the queue full; the 64 before it are sent in one turn. A moment reaches the lane
 // once.
 #[test]
 fn the_request_behind_64_is_left_out(rt: HostRuntime) -> Result<(), Fail> {
-    let (lanes, mut reader, ends) = Lanes::new(rt.alloc(), 1)?;
     let mut control = MemoryLink::new(rt.alloc(), CAMERA, &[], &[], &[], 70)?;
-    match last_lane(&lanes, ends) {
-        Some(mut lane) => {
-            put_many(&rt, &lanes, &mut lane);
-            assert!(rt; !ask_lanes(&rt, &lanes, &mut reader, &mut control, CAMERA, false));
-            assert!(rt; !ask_lanes(&rt, &lanes, &mut reader, &mut control, CAMERA, false));
-            tick_lanes(&rt, &lanes, &mut reader, 0);
-            let datagram = Ok(Some((2, CAMERA)));
-            bring_received(&rt, &lanes, &mut reader, 7, datagram, &[5, 6, 7]);
-            tick_lanes(&rt, &lanes, &mut reader, 7);
-            end_lanes(&rt, &lanes, &mut reader);
-            assert!(rt; take_cells(&rt, &lanes, &mut lane, 2) == (1, 7));
-        }
-        None => assert!(rt; false),
-    }
-    assert!(rt;
-        control.sent().len() == 64 && control.sent()[63].1.as_slice() == [63; 28].as_slice()
-    );
+    let (lanes, mut reader, ends) = Lanes::new(rt.alloc(), 1)?;
+    let asked = last_asks_and_gets(&rt, &lanes, &mut reader, ends, &mut control);
+    assert!(rt; asked && sent_64(&control));
     Ok(())
 }

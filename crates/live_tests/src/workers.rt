@@ -1,8 +1,8 @@
 //! Two lanes and their reader, one after the other on one thread.
 
-ghost use Rattle.std.specs.Prelude.{◌≡◌};
+ghost use Rattle.std.specs.Prelude.{◌≡◌, ◌<◌, length};
 ghost use Rattle.buffer_words.specs.Boards.{board_id};
-ghost use Rattle.gev_lanes.specs.Sides.{AreReadersOf, AreLanesOf, IsLaneAt};
+ghost use Rattle.gev_lanes.specs.Sides.{AreReadersOf, AreKept, AreLanesOf, IsLaneAt};
 
 use crate::boards::{CAMERA, ONE_BLOCK, PACKETS, new_board, next_block};
 use acq_core::Acq;
@@ -65,8 +65,77 @@ fn serve_all<R: Wait>(
     Ok(())
 }
 
-// Six datagrams of two blocks, and a clock that always tells 0: the reader makes its six turns, and the lanes serve what
-// they got, block 2 first. The blocks of two takes.
+/// Whether the reader makes six turns over these links, with a clock that always tells 0, and sends nothing.
+fn reads_all<R: Wait>(
+    rt: &R,
+    board: &Board,
+    pass: &mut Pass,
+    lanes: &Lanes,
+    reader: &mut ReaderEnds,
+    stream: &mut MemoryLink<'_>,
+    control: &mut MemoryLink<'_>,
+) -> bool
+    requires table { pass.old.table ≡ board_id board.now }
+    requires reader { AreReadersOf lanes.now reader.old }
+    requires some { 0 < length lanes.now }
+    requires kept { AreKept reader.old }
+    ensures table { pass.new.table ≡ pass.old.table }
+    ensures reader { AreReadersOf lanes.now reader.new }
+{
+    let mut client = Client::new();
+    let mut clock = MemoryClock::new(&[]);
+    let end = read_lanes(
+        rt,
+        board,
+        pass,
+        lanes,
+        reader,
+        &mut client,
+        stream,
+        control,
+        &mut clock,
+        CAMERA,
+        6,
+    );
+    end == AcqEnd::Spent && control.sent().is_empty()
+}
+
+/// Whether the reader reads all that comes over these links, and then the two lanes serve what they got, block 2 first.
+fn serves_links<R: Wait>(
+    rt: &R,
+    alloc: Global,
+    board: &Board,
+    pass: &mut Pass,
+    stream: &mut MemoryLink<'_>,
+    control: &mut MemoryLink<'_>,
+    mode: Mode,
+) -> Result<bool, NoMemory>
+    requires table { pass.old.table ≡ board_id board.now }
+    ensures table { pass.new.table ≡ pass.old.table }
+{
+    let (lanes, mut reader, all) = Lanes::new(alloc, 2)?;
+    let read = reads_all(rt, board, pass, &lanes, &mut reader, stream, control);
+    serve_all(rt, alloc, board, pass, &lanes, &mut reader, all, mode)?;
+    Ok(read)
+}
+
+/// The same of links over which the six datagrams of two blocks come.
+fn serves_blocks<R: Wait>(
+    rt: &R,
+    alloc: Global,
+    board: &Board,
+    pass: &mut Pass,
+    mode: Mode,
+) -> Result<bool, NoMemory>
+    requires table { pass.old.table ≡ board_id board.now }
+    ensures table { pass.new.table ≡ pass.old.table }
+{
+    let mut stream = MemoryLink::new(alloc, CAMERA, PACKETS, &[], &[], 0)?;
+    let mut control = MemoryLink::new(alloc, CAMERA, &[], &[], &[], 9)?;
+    serves_links(rt, alloc, board, pass, &mut stream, &mut control, mode)
+}
+
+/// The blocks of two takes, once all that came was served.
 fn blocks_served<R: Abort + Wait>(
     rt: &R,
     alloc: Global,
@@ -74,26 +143,7 @@ fn blocks_served<R: Abort + Wait>(
     mode: Mode,
 ) -> Result<(u64, u64), Fail> {
     let (board, mut pass) = new_board(alloc, buffers)?;
-    let (lanes, mut reader, all) = Lanes::new(alloc, 2)?;
-    let mut client = Client::new();
-    let mut stream = MemoryLink::new(alloc, CAMERA, PACKETS, &[], &[], 0)?;
-    let mut control = MemoryLink::new(alloc, CAMERA, &[], &[], &[], 9)?;
-    let mut clock = MemoryClock::new(&[]);
-    let end = read_lanes(
-        rt,
-        &board,
-        &mut pass,
-        &lanes,
-        &mut reader,
-        &mut client,
-        &mut stream,
-        &mut control,
-        &mut clock,
-        CAMERA,
-        6,
-    );
-    assert!(rt; end == AcqEnd::Spent && control.sent().is_empty());
-    serve_all(rt, alloc, &board, &mut pass, &lanes, &mut reader, all, mode)?;
+    assert!(rt; serves_blocks(rt, alloc, &board, &mut pass, mode)?);
     let first = next_block(rt, &board, &mut pass);
     let second = next_block(rt, &board, &mut pass);
     Ok((first, second))
