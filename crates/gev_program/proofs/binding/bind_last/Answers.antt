@@ -33,9 +33,3 @@ returns-in-Ok-clause-clocks g c = c.with_clocks.ensures.clocks ∙ c.in-Ok.ensur
 
 pub returns-in-Ok-clause-no_fault : goal.returns-in-Ok-clause-no_fault
 returns-in-Ok-clause-no_fault g c = c.with_clocks.ensures.faults ∙ c.in-Ok.ensures.no_fault
-
-pub returns-in-Err-clause-called : goal.returns-in-Err-clause-called
-returns-in-Err-clause-called g c = c.unbind-in-Err.ensures.binds ∙ (c.unbind.ensures.binds ∙ c.in-Err.ensures.binds)
-
-pub returns-in-Err-clause-clocks : goal.returns-in-Err-clause-clocks
-returns-in-Err-clause-clocks g c = c.unbind-in-Err.ensures.clocks ∙ (c.unbind.ensures.clocks ∙ c.in-Err.ensures.clocks)
