@@ -21,7 +21,7 @@ use Rattle.lane_reader.specs.Reads.{looks_in}
 use Rattle.lane_crew.specs.Reader.{EndsAfter}
 use Rattle.gev_apply.specs.Applied.{IsEnough}
 use Rattle.gev_serve.specs.Work.{has_failed}
-use Rattle.gev_live.specs.Endings.{taken_of, camera_status, status_by, is_told, FailsLast}
+use Rattle.live_answers.specs.Endings.{taken_of, camera_status, status_by, is_told, FailsLast}
 use Rattle.gev_live.specs.Parts.{LiveApplication}
 use Rattle.gev_live.specs.Told.{Told}
 use Rattle.gev_live.proofs.Unstopped.{Unstopped, both_unstopped, entries_unstopped, last_unstopped}

@@ -30,7 +30,7 @@ use Rattle.gev_acq.proofs.Strict.{part_lays_nothing}
 use Rattle.gev_live.specs.Told.{Told, reader_side, live_config, live_camera}
 use Rattle.gev_live.specs.History.{live_size, LiveHistory}
 use Rattle.gev_live.specs.Acquirers.{acquires}
-use Rattle.gev_live.specs.Endings.{taken_of, status_by, EndsSo}
+use Rattle.live_answers.specs.Endings.{taken_of, status_by, EndsSo}
 use Rattle.gev_acq.specs.declared.turn.Turn.{Turn}
 use Rattle.gev_live.specs.declared.numbers.Numbers.{Numbers}
 use Rattle.gev_live.specs.LiveRun.{LiveRun, NeverRan, RunsLive}

@@ -2,7 +2,6 @@ pub mod Kinds
 pub mod Acquirers
 pub mod History
 pub mod Told
-pub mod Endings
 pub mod Parts
 pub mod LiveRun
 pub mod Journal

@@ -23,7 +23,7 @@ use Rattle.first_leader.specs.declared.leading.FirstLeader.{FirstLeader}
 use Rattle.frame_writing.specs.declared.handed_out.HandedOut.{HandedOut}
 use Rattle.frame_writing.specs.Work.{HandsOutAndStops}
 use Rattle.receive_lines.specs.declared.receive_counts.ReceiveCounts.{ReceiveCounts}
-use Rattle.gev_receive.specs.Answers.{StreamEnd, frames_end}
+use Rattle.receive_answers.specs.Answers.{StreamEnd, frames_end}
 use Rattle.gev_receive.specs.Starting.{config_of, mode_of, buffer_size, leader_counts, with_counts}
 use Rattle.gev_receive.specs.Reader.{ReadsFrames}
 use Rattle.gev_receive.specs.Frames.{RanFrames}

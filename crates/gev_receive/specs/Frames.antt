@@ -45,7 +45,7 @@ use Rattle.frame_writing.specs.Work.{has_enough}
 use Rattle.gev_status.specs.declared.status.Status.TheVariants as status
 use Rattle.packet_requests.specs.declared.id_mode.IdMode.{IdMode}
 use Rattle.receive_lines.specs.declared.receive_counts.ReceiveCounts.{ReceiveCounts}
-use Rattle.gev_receive.specs.Answers.{StreamEnd, unread_end, frames_end}
+use Rattle.receive_answers.specs.Answers.{StreamEnd, unread_end, frames_end}
 use Rattle.gev_receive.specs.Starting.{config_of, mode_of, buffer_size, leader_counts, with_counts}
 use Rattle.buffer_words.specs.Passes.{Token, own}
 use Rattle.buffer_words.specs.Workers.{Works}

@@ -1,4 +1,3 @@
-pub mod Answers
 pub mod Starting
 pub mod Ending
 pub mod Reader

@@ -25,7 +25,7 @@ use Rattle.frame_pictures.specs.declared.no_picture.NoPicture.{NoPicture}
 use Rattle.gev_status.specs.declared.status.Status.{Status}
 use Rattle.gev_status.specs.declared.status.Status.TheVariants as status
 use Rattle.receive_lines.specs.declared.receive_counts.ReceiveCounts.{ReceiveCounts}
-use Rattle.gev_receive.specs.Answers.{control_status, leave_status, weightier, is_lost, StreamEnd, unled_end, unread_end}
+use Rattle.receive_answers.specs.Answers.{control_status, leave_status, weightier, is_lost, StreamEnd, unled_end, unread_end}
 use Rattle.gev_receive.specs.Starting.{writes_at, lacks_picture, no_counts, leader_counts}
 use Rattle.gev_receive.specs.Ending.{Finishes}
 use Rattle.gev_receive.specs.Bound.{control_peer, AllTold, FailsToBind}

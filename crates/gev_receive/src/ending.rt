@@ -4,11 +4,11 @@ ghost use Rattle.std.specs.Prelude.{◌≡◌};
 ghost use Rattle.receive_lines.specs.ReceiveLine.{receive_line};
 ghost use Rattle.gev_receive.specs.Ending.{has_last, WritesLast, with_strangers, Finishes};
 
-use crate::answers::is_told;
 use crate::ran::Ran;
 use camera_words::Output;
 use gev_links::{Sink, write_all};
 use gev_status::Status;
+use receive_answers::is_told;
 use receive_lines::{ReceiveCounts, add_receive};
 use std::alloc::Global;
 

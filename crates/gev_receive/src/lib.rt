@@ -2,7 +2,6 @@
 //! comes, and the camera is let go.
 #![tactic(auto)]
 
-mod answers; // how a run ends, of several causes
 mod drops; // datagrams that the system dropped
 mod ending; // the last line
 mod frames; // the frames of a stream

@@ -5,16 +5,13 @@ ghost use Rattle.board_machine.specs.Histories.{After};
 ghost use Rattle.board_machine.specs.Laws.{IsAlone};
 ghost use Rattle.buffer_words.specs.Boards.{board_id};
 ghost use Rattle.camera_control.specs.Taking.{TakeFails};
-ghost use Rattle.gev_receive.specs.Answers.{is_lost as lost, control_status as status_of, stream_end};
+ghost use Rattle.receive_answers.specs.Answers.{is_lost as lost, control_status as status_of, stream_end};
 ghost use Rattle.gev_receive.specs.Frames.{seen_by};
 ghost use Rattle.gev_receive.specs.Starting.{no_counts as counts_none};
 ghost use Rattle.gev_receive.specs.Receives.{picture_missing as missing, TakesBy, LeavesUnless, LeavesHeld, Streams, Meets};
 ghost use Rattle.client_machine.specs.Machine.{IsIdle};
 ghost use Rattle.camera_words.specs.Receiving.{IsInRange};
 
-use crate::answers::{
-    control_status, is_leader_lost, is_lost, leader_status, leave_status, weightier,
-};
 use crate::frames::{Asked, run_frames};
 use crate::leading::find_leader;
 use crate::ran::Ran;
@@ -31,6 +28,9 @@ use gev_far::PeekLink;
 use gev_links::{Clock, Gate, Link, Sink, Source};
 use gev_status::Status;
 use gev_types::Peer;
+use receive_answers::{
+    control_status, is_leader_lost, is_lost, leader_status, leave_status, weightier,
+};
 use std::alloc::Global;
 use std::sync::Wait;
 use std::thread::Threads;

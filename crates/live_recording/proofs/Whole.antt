@@ -31,7 +31,7 @@ use Rattle.gev_acq.specs.History.{AreSized}
 use Rattle.gev_acq.specs.Reads.{EndsAfter}
 use Rattle.gev_live.specs.Told.{Told, live_config}
 use Rattle.gev_live.specs.History.{live_size}
-use Rattle.gev_live.specs.Endings.{is_told}
+use Rattle.live_answers.specs.Endings.{is_told}
 use Rattle.mode_calls.specs.declared.mode.Mode.TheVariants.{OldestFirst}
 use Rattle.gev_live.specs.Acquirers.{DropsNothing}
 use Rattle.gev_live.specs.declared.numbers.Numbers.{Numbers}

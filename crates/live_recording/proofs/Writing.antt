@@ -14,7 +14,7 @@ use Rattle.gev_record.specs.declared.record_end.RecordEnd.TheVariants as ends
 use Rattle.gev_record.specs.Writing.{noted, Writes}
 use Rattle.gev_acq.specs.declared.turn.Turn.{Turn}
 use Rattle.gev_live.specs.Told.{Told}
-use Rattle.gev_live.specs.Endings.{is_told}
+use Rattle.live_answers.specs.Endings.{is_told}
 use Rattle.gev_live.specs.declared.numbers.Numbers.{Numbers}
 use Rattle.gev_live.specs.LiveRun.{LiveRun}
 use Rattle.live_recording.specs.Marks.{mark_of}

@@ -15,7 +15,7 @@ use Rattle.gev_record.specs.Writing.{noted}
 use Rattle.gev_acq.specs.declared.turn.Turn.{Turn}
 use Rattle.gev_acq.specs.Acquired.{answers_in}
 use Rattle.gev_live.specs.Told.{Told}
-use Rattle.gev_live.specs.Endings.{is_told, FailsLast}
+use Rattle.live_answers.specs.Endings.{is_told, FailsLast}
 use Rattle.gev_live.specs.declared.numbers.Numbers.{Numbers}
 use Rattle.gev_live.specs.LiveRun.{LiveRun, NeverRan}
 use Rattle.live_promises.specs.Promises.{KeepsRun, KeepsNothing}

@@ -8,7 +8,7 @@ ghost use Rattle.board_machine.specs.Histories.{After};
 ghost use Rattle.board_machine.specs.Laws.{IsAlone};
 ghost use Rattle.buffer_words.specs.Boards.{board_id};
 ghost use Rattle.buffer_words.specs.Passes.{SameHands};
-ghost use Rattle.gev_live.specs.Endings.{is_told};
+ghost use Rattle.live_answers.specs.Endings.{is_told};
 ghost use Rattle.mode_calls.specs.declared.mode.Mode.TheVariants as Mode;
 ghost use Rattle.live_recording.specs.Recorded.{answer_by, Finishes, RecordsLive};
 

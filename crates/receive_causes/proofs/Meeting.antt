@@ -20,7 +20,7 @@ use Rattle.first_leader.specs.Waiting.{WaitSide}
 use Rattle.gev_status.specs.declared.status.Status.{Status}
 use Rattle.gev_status.specs.declared.status.Status.TheVariants as status
 use Rattle.receive_lines.specs.declared.receive_counts.ReceiveCounts.{ReceiveCounts}
-use Rattle.gev_receive.specs.Answers.{control_status, leave_status, rank, weightier, is_lost}
+use Rattle.receive_answers.specs.Answers.{control_status, leave_status, rank, weightier, is_lost}
 use Rattle.gev_receive.specs.Starting.{writes_at}
 use Rattle.gev_receive.specs.Receives.{control_part, wish_of, LeavesUnless, LeavesHeld, TakesBy, MeetsNot, MeetsAndStreams, Meets}
 use Rattle.receive_causes.specs.Acts.{Act, behind_all, HasActed, NoneLost, Ended, ended_in, submitted_in, asked_in}

@@ -10,7 +10,7 @@ use Rattle.first_leader.specs.Waiting.{WaitSide}
 use Rattle.gev_status.specs.declared.status.Status.{Status}
 use Rattle.gev_status.specs.declared.status.Status.TheVariants as status
 use Rattle.receive_lines.specs.declared.receive_counts.ReceiveCounts.{ReceiveCounts}
-use Rattle.gev_receive.specs.Answers.{control_status, leave_status, rank, weightier, is_lost}
+use Rattle.receive_answers.specs.Answers.{control_status, leave_status, rank, weightier, is_lost}
 use Rattle.gev_receive.specs.Ending.{has_last, WritesLast, wrote, failed, lacked, EndsWith}
 use Rattle.gev_receive.specs.Receives.{SEND_LIMIT, host_side, control_part, LeavesUnless, LeavesHeld, Meets}
 use Rattle.receive_causes.specs.Reception.{WasSilent, IsOrLacks, ReceptionsHaveCauses}

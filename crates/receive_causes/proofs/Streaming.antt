@@ -26,7 +26,7 @@ use Rattle.first_leader.specs.Waiting.{WaitSide, jumps, is_over, Waits, begins, 
 use Rattle.gev_status.specs.declared.status.Status.{Status}
 use Rattle.gev_status.specs.declared.status.Status.TheVariants as status
 use Rattle.receive_lines.specs.declared.receive_counts.ReceiveCounts.{ReceiveCounts}
-use Rattle.gev_receive.specs.Answers.{leader_status, reader_status, handed_status, rank, weightier, StreamEnd}
+use Rattle.receive_answers.specs.Answers.{leader_status, reader_status, handed_status, rank, weightier, StreamEnd}
 use Rattle.gev_receive.specs.Starting.{config_of}
 use Rattle.gev_receive.specs.Reader.{EndsReading}
 use Rattle.gev_receive.specs.Frames.{RanFrames, NeverRan, Runs}

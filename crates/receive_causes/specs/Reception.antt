@@ -14,7 +14,7 @@ use Rattle.first_leader.specs.Waiting.{WaitSide}
 use Rattle.gev_status.specs.declared.status.Status.{Status}
 use Rattle.gev_status.specs.declared.status.Status.TheVariants as status
 use Rattle.receive_lines.specs.declared.receive_counts.ReceiveCounts.{ReceiveCounts}
-use Rattle.gev_receive.specs.Answers.{StreamEnd}
+use Rattle.receive_answers.specs.Answers.{StreamEnd}
 use Rattle.gev_receive.specs.Starting.{writes_at}
 use Rattle.gev_receive.specs.Receives.{Told, SEND_LIMIT, host_side, control_part, wish_of, Streams, unled, undrawn, streamed, Meets, Receives}
 use Rattle.receive_causes.specs.Acts.{Act, HasActed, ended_in}

@@ -38,7 +38,7 @@ use Rattle.run_promises.proofs.Headlines.{runs_headline, blocks_frames}
 use Rattle.live_promises.proofs.Sending.{inputs_sent, inputs_clean}
 use Rattle.live_promises.proofs.Filling.{FillsAlone, alone_acquires, filled_own}
 use Rattle.live_promises.proofs.Accounts.{one_account}
-use Rattle.gev_receive.specs.Answers.{StreamEnd}
+use Rattle.receive_answers.specs.Answers.{StreamEnd}
 use Rattle.gev_receive.specs.Starting.{config_of, mode_of, buffer_size}
 use Rattle.gev_receive.specs.Reader.{inputs_from}
 use Rattle.gev_receive.specs.Frames.{Pair, FramesHistory}

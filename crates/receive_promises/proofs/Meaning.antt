@@ -17,7 +17,7 @@ use Rattle.frame_writing.specs.Texts.{text_of, texts_of}
 use Rattle.frame_writing.specs.Work.{has_enough}
 use Rattle.gev_status.specs.declared.status.Status.{Status}
 use Rattle.gev_status.specs.declared.status.Status.TheVariants as status
-use Rattle.gev_receive.specs.Answers.{reader_status, handed_status, weightier}
+use Rattle.receive_answers.specs.Answers.{reader_status, handed_status, weightier}
 use Rattle.receive_promises.specs.Meaning.{Means, is_written, WritesTexts}
 
 -- ---- the answer

@@ -14,7 +14,7 @@ use Rattle.gev_status.specs.declared.status.Status.{Status}
 use Rattle.receive_lines.specs.declared.receive_counts.ReceiveCounts.{ReceiveCounts}
 use Rattle.run_promises.proofs.Headlines.{runs_headline}
 use Rattle.live_promises.proofs.Accounts.{none_handed}
-use Rattle.gev_receive.specs.Answers.{control_status, is_lost, StreamEnd}
+use Rattle.receive_answers.specs.Answers.{control_status, is_lost, StreamEnd}
 use Rattle.gev_receive.specs.Starting.{writes_at, buffer_size}
 use Rattle.gev_receive.specs.Frames.{RanFrames, Runs}
 use Rattle.gev_receive.specs.Receives.{control_part, outside_of, Streams, unled, undrawn, streamed, LeavesUnless, LeavesHeld, Meets}

@@ -35,7 +35,7 @@ use Rattle.frame_writing.specs.declared.handed_out.HandedEnd.TheVariants as hand
 use Rattle.frame_writing.specs.HandsOut.{EndsBy}
 use Rattle.frame_writing.specs.Work.{has_enough}
 use Rattle.receive_lines.specs.declared.receive_counts.ReceiveCounts.{ReceiveCounts}
-use Rattle.gev_receive.specs.Answers.{StreamEnd}
+use Rattle.receive_answers.specs.Answers.{StreamEnd}
 use Rattle.gev_receive.specs.Starting.{config_of, mode_of, buffer_size}
 use Rattle.gev_receive.specs.Frames.{Pair, FramesHistory, CameraReading, RanFrames}
 use Rattle.receive_promises.specs.FramesRun.{FramesRun}

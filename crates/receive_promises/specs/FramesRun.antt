@@ -19,7 +19,7 @@ use Rattle.frame_writing.specs.declared.handed_out.HandedEnd.TheVariants as hand
 use Rattle.frame_writing.specs.declared.handed_out.HandedOut.{HandedOut}
 use Rattle.frame_writing.specs.Work.{has_enough}
 use Rattle.receive_lines.specs.declared.receive_counts.ReceiveCounts.{ReceiveCounts}
-use Rattle.gev_receive.specs.Answers.{StreamEnd, frames_end}
+use Rattle.receive_answers.specs.Answers.{StreamEnd, frames_end}
 use Rattle.gev_receive.specs.Starting.{config_of, mode_of, buffer_size, leader_counts, with_counts}
 use Rattle.gev_receive.specs.Reader.{inputs_from, with_refused}
 use Rattle.gev_receive.specs.Frames.{Pair, FramesHistory, CameraReader, FramesApplication}

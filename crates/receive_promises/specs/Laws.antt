@@ -6,7 +6,7 @@ use Rattle.gev_acq.specs.Turns.{Outside}
 use Rattle.camera_words.specs.declared.settings.Settings.{Settings}
 use Rattle.first_leader.specs.declared.leading.FirstLeader.{FirstLeader}
 use Rattle.receive_lines.specs.declared.receive_counts.ReceiveCounts.{ReceiveCounts}
-use Rattle.gev_receive.specs.Answers.{StreamEnd}
+use Rattle.receive_answers.specs.Answers.{StreamEnd}
 use Rattle.gev_receive.specs.Frames.{RanFrames}
 use Rattle.receive_promises.specs.FramesRun.{FramesRun}
 use Rattle.receive_promises.specs.Promises.{KeepsFrames}

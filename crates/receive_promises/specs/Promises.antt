@@ -19,7 +19,7 @@ use Rattle.first_leader.specs.declared.leading.FirstLeader.{FirstLeader}
 use Rattle.receive_lines.specs.declared.receive_counts.ReceiveCounts.{ReceiveCounts}
 use Rattle.run_promises.specs.Headline.{Acquirer, is_acquirer, KeepsHeadline, HoldsUnder}
 use Rattle.live_promises.specs.Promises.{packets_among}
-use Rattle.gev_receive.specs.Answers.{StreamEnd}
+use Rattle.receive_answers.specs.Answers.{StreamEnd}
 use Rattle.gev_receive.specs.Starting.{config_of}
 use Rattle.gev_receive.specs.Reader.{inputs_from}
 use Rattle.receive_promises.specs.FramesRun.{FramesRun}

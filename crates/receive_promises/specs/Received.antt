@@ -16,7 +16,7 @@ use Rattle.first_leader.specs.Waiting.{WaitSide}
 use Rattle.gev_status.specs.declared.status.Status.{Status}
 use Rattle.receive_lines.specs.declared.receive_counts.ReceiveCounts.{ReceiveCounts}
 use Rattle.run_promises.specs.Headline.{KeepsHeadline}
-use Rattle.gev_receive.specs.Answers.{control_status, leave_status, weightier, is_lost, StreamEnd}
+use Rattle.receive_answers.specs.Answers.{control_status, leave_status, weightier, is_lost, StreamEnd}
 use Rattle.gev_receive.specs.Starting.{writes_at}
 use Rattle.gev_receive.specs.Frames.{NeverRan}
 use Rattle.gev_receive.specs.Receives.{control_part, outside_of, Streams, unled, undrawn, streamed, MeetsNot, MeetsAndStreams, Meets}

@@ -14,7 +14,7 @@ use Rattle.frame_writing.specs.Texts.{texts_of}
 use Rattle.gev_status.specs.declared.status.Status.{Status}
 use Rattle.receive_lines.specs.declared.receive_counts.ReceiveCounts.{ReceiveCounts}
 use Rattle.receive_lines.specs.ReceiveLine.{receive_line}
-use Rattle.gev_receive.specs.Answers.{StreamEnd, is_told}
+use Rattle.receive_answers.specs.Answers.{StreamEnd, is_told}
 use Rattle.gev_receive.specs.Ending.{has_last, with_strangers}
 use Rattle.gev_receive.specs.Receives.{Told, sum_of, Streams, unled, undrawn, streamed, Meets, Receives}
 use Rattle.receive_causes.specs.Reception.{ReceptionHasCauses}

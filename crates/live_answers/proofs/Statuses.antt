@@ -6,7 +6,7 @@ use Rattle.gev_serve.specs.declared.ends.ServeEnd.{ServeEnd}
 use Rattle.gev_serve.specs.declared.ends.ServeEnd.TheVariants as serves
 use Rattle.gev_control.specs.declared.acq_end.AcqEnd.{AcqEnd}
 use Rattle.gev_control.specs.declared.acq_end.AcqEnd.TheVariants as reads
-use Rattle.gev_live.specs.Endings.{read_status, application_status, camera_status, status_by, IsAnswer}
+use Rattle.live_answers.specs.Endings.{read_status, application_status, camera_status, status_by, IsAnswer}
 
 read_answers : (end : AcqEnd) (frames turns taken : ℕ) → IsAnswer (read_status end frames turns taken)
 read_answers reads.Stopped frames turns taken = cond_both (taken == frames) Done NoMemory (λ s. IsAnswer s) (λ e. tt) (λ e. tt)

@@ -1,7 +1,7 @@
 //! How a run ends, of several causes.
 
 ghost use Rattle.std.specs.Prelude.{◌≡◌};
-ghost use Rattle.gev_receive.specs.Answers.{control_status, leader_status, reader_status, handed_status, leave_status, rank, weightier, is_lost, is_leader_lost, is_reader_lost, is_told};
+ghost use Rattle.receive_answers.specs.Answers.{control_status, leader_status, reader_status, handed_status, leave_status, rank, weightier, is_lost, is_leader_lost, is_reader_lost, is_told};
 
 use camera_control::ControlEnd;
 use camera_reader::ReaderEnd;
@@ -10,7 +10,7 @@ use frame_writing::HandedEnd;
 use gev_status::Status;
 
 /// The answer by how control ended, behind so many frames.
-pub(crate) fn control_status(cause: ControlEnd, frames: u32) -> Status
+pub fn control_status(cause: ControlEnd, frames: u32) -> Status
     ensures { result ≡ control_status cause frames }
 {
     match cause {
@@ -23,7 +23,7 @@ pub(crate) fn control_status(cause: ControlEnd, frames: u32) -> Status
 }
 
 /// The answer where no leader came.
-pub(crate) fn leader_status(why: NoLeader) -> Status
+pub fn leader_status(why: NoLeader) -> Status
     ensures { result ≡ leader_status why }
 {
     match why {
@@ -34,7 +34,7 @@ pub(crate) fn leader_status(why: NoLeader) -> Status
 }
 
 /// The answer by how the reader ended, where so many of the frames that were asked for were handed out.
-pub(crate) fn reader_status(end: ReaderEnd, frames: u32, taken: u32) -> Status
+pub fn reader_status(end: ReaderEnd, frames: u32, taken: u32) -> Status
     ensures { result ≡ reader_status end frames taken }
 {
     match end {
@@ -51,7 +51,7 @@ pub(crate) fn reader_status(end: ReaderEnd, frames: u32, taken: u32) -> Status
 }
 
 /// The answer by how the application ended.
-pub(crate) fn handed_status(end: HandedEnd) -> Status
+pub fn handed_status(end: HandedEnd) -> Status
     ensures { result ≡ handed_status end }
 {
     match end {
@@ -64,7 +64,7 @@ pub(crate) fn handed_status(end: HandedEnd) -> Status
 }
 
 /// The answer by how the camera was let go.
-pub(crate) fn leave_status(left: Result<(), ControlEnd>, frames: u32) -> Status
+pub fn leave_status(left: Result<(), ControlEnd>, frames: u32) -> Status
     ensures { result ≡ leave_status left frames }
 {
     match left {
@@ -100,7 +100,7 @@ fn rank(status: Status) -> u8
 }
 
 /// Which of two answers is given: of two with the same place the first.
-pub(crate) fn weightier(first: Status, later: Status) -> Status
+pub fn weightier(first: Status, later: Status) -> Status
     ensures { result ≡ weightier first later }
 {
     if rank(later) < rank(first) {
@@ -111,7 +111,7 @@ pub(crate) fn weightier(first: Status, later: Status) -> Status
 }
 
 /// Whether the camera let its controller go.
-pub(crate) fn is_lost(cause: ControlEnd) -> bool
+pub fn is_lost(cause: ControlEnd) -> bool
     ensures { result ≡ is_lost cause }
 {
     match cause {
@@ -124,7 +124,7 @@ pub(crate) fn is_lost(cause: ControlEnd) -> bool
 }
 
 /// Whether it did so while the first leader was waited for.
-pub(crate) fn is_leader_lost(why: NoLeader) -> bool
+pub fn is_leader_lost(why: NoLeader) -> bool
     ensures { result ≡ is_leader_lost why }
 {
     match why {
@@ -135,7 +135,7 @@ pub(crate) fn is_leader_lost(why: NoLeader) -> bool
 }
 
 /// Whether it did so while the reader ran.
-pub(crate) fn is_reader_lost(end: ReaderEnd) -> bool
+pub fn is_reader_lost(end: ReaderEnd) -> bool
     ensures { result ≡ is_reader_lost end }
 {
     match end {
@@ -146,7 +146,7 @@ pub(crate) fn is_reader_lost(end: ReaderEnd) -> bool
 }
 
 /// Whether the last line is written with this answer.
-pub(crate) fn is_told(status: Status) -> bool
+pub fn is_told(status: Status) -> bool
     ensures { result ≡ is_told status }
 {
     match status {
