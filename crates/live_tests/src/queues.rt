@@ -110,7 +110,7 @@ fn keeps_order<R: Wait>(
     gave && full && first && second && empty
 }
 
-/// Whether it does, and what a giver that waits gives then comes to a taker that waits.
+/// Whether such a queue keeps the order, and what a giver that waits gives then comes to a taker that waits.
 fn keeps_order_and_waits<R: Wait>(
     rt: &R,
     line: &Line<u32>,

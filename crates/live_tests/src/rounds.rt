@@ -68,7 +68,7 @@ fn goes_round<R: Wait>(
         && none.is_none()
 }
 
-/// Whether they reach the last of these lanes, and the reader.
+/// Whether a datagram, a moment and the end reach the last of these lanes in order, and one request of it the reader.
 fn last_goes_round<R: Wait>(
     rt: &R,
     lanes: &Lanes,
@@ -147,7 +147,7 @@ fn gets_64<R: Wait>(rt: &R, lanes: &Lanes, reader: &mut ReaderEnds, lane: &mut L
     first == (1, 1) && others == (63, 64)
 }
 
-/// Whether the last of these lanes does.
+/// Whether the last of these lanes gets 64 of 65 datagrams, and behind them the end.
 fn last_gets_64<R: Wait>(
     rt: &R,
     lanes: &Lanes,
@@ -199,7 +199,7 @@ fn sends_requests<R: Wait>(
     !failed
 }
 
-/// Whether it can do so twice, where a lane has put 65 requests.
+/// Whether the reader can send a lane's requests twice, where the lane has put 65 of them.
 fn sends_twice<R: Wait>(
     rt: &R,
     lanes: &Lanes,
