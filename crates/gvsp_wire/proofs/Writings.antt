@@ -1,6 +1,6 @@
 -- What is written part by part is the plain spelling.
-use Rattle.std.proofs.Common.{◌≡◌, ℕ, ◌+◌, ◌-◌, ◌^◌, ◌≤◌, List, [], ◌++◌, length, take, drop, sym, ap, ◌∙◌, append_assoc, arith}
-use Rattle.std.proofs.lemmas.List.{take_at, drop_at, take_all, drop_all, append-nil, length-append, length-drop, drop-drop}
+use Rattle.std.proofs.Common.{◌≡◌, ℕ, ◌+◌, ◌-◌, ◌^◌, ◌<◌, ◌≤◌, suc, List, [], ◌∷◌, ◌++◌, length, get_or, set, take, drop, sym, ap, ◌∙◌, append_assoc, arith, drop-cons}
+use Rattle.std.proofs.lemmas.List.{set_at, take_at, drop_at, take_all, drop_all, append-nil, length-append, length-drop, drop-drop}
 use Rattle.stream_packets.specs.declared.fields.Head.{Head}
 use Rattle.stream_packets.specs.declared.fields.LeaderInfo.{LeaderInfo}
 use Rattle.wire_fields.specs.Fields.{spelled}
@@ -23,6 +23,13 @@ put_after old front bytes out part k n is_k is_n room is_out is_part =
     let after : drop (length out - k) (drop k out) ≡ [] = ap (drop (length out - k)) right ∙ drop_all (length out - k) (drop k old) count in
     let written : part ≡ bytes ++ drop (k + n) old = is_part ∙ ap (λ (l : List ℕ). bytes ++ drop n l) lent ∙ ap (λ (l : List ℕ). bytes ++ l) (drop-drop n k old) in
     rw (left, after, written, append-nil (bytes ++ drop (k + n) old)) (sym (append_assoc front bytes (drop (k + n) old)))
+
+-- A byte is stored behind what was written so far.
+pub byte_after : (old front out : List ℕ) (k value byte : ℕ) → length front ≡ k → k < length old → out ≡ front ++ drop k old → value ≡ byte
+    → set out k value ≡ front ++ byte ∷ drop (suc k) old
+byte_after old front out k value byte is_k room is_out is =
+    ap (λ (l : List ℕ). set l k value) (is_out ∙ ap (λ (l : List ℕ). front ++ l) (drop-cons old k 0 room))
+    ∙ (set_at front (get_or old k 0) (drop (suc k) old) value k is_k ∙ ap (λ (b : ℕ). front ++ b ∷ drop (suc k) old) is)
 
 pub length-plain_header : (h : Head) (format : ℕ) → length (plain_header h format) ≡ 20
 length-plain_header h format = length-spelled (header_fields h (2 ^ 7 + format) 0)

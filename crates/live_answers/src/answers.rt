@@ -70,8 +70,9 @@ fn camera_status(
     }
 }
 
-/// The answer of a live run whose workers ended so: a link's failure goes first, then want of memory, then a
-/// command without answer or one that was refused.
+/// The answer of a live run whose workers ended so: a link's failure (`LinkFault`) goes first, then want of memory
+/// (`NoMemory`), then a command without answer (`NoAnswer`) or one that was refused (`Refused`). Where none of these
+/// happened it is `Done` if all `frames` were taken, and else `TurnsSpent` where the reader's turns ran out.
 pub fn status_by(
     served: ServeEnd,
     end: AcqEnd,

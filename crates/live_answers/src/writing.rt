@@ -31,7 +31,9 @@ fn write_lines<K: Sink>(
     }
 }
 
-/// Writes the lines and the last one, where the workers' answer wants that.
+/// Writes the lines and the last one, where the workers' answer wants that, and gives that answer back. It is
+/// `WriteFault` in its place where the sink failed, with a front of the lines written, and `NoMemory` where the last
+/// line found no memory, with none.
 pub fn write_told<K: Sink>(
     alloc: Global,
     sink: &mut K,

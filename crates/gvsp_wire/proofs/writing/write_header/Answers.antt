@@ -1,15 +1,7 @@
-use Rattle.std.proofs.Common.{◌≡◌, ℕ, ◌+◌, ◌%◌, ◌<◌, ◌≤◌, suc, List, ◌∷◌, ◌++◌, length, get_or, set, drop, refl, ap, ◌∙◌, arith, drop-cons}
-use Rattle.std.proofs.lemmas.List.{set_at}
+use Rattle.std.proofs.Common.{◌+◌, ◌%◌, ◌≤◌, ◌++◌, length, refl, arith}
 use Rattle.byteorder.specs.Endian.{big_bytes}
-use Rattle.gvsp_wire.proofs.Writings.{put_after}
+use Rattle.gvsp_wire.proofs.Writings.{byte_after, put_after}
 use Rattle.gvsp_wire.proofs.writing.write_header.Goals as goal
-
--- a byte stored behind what was written so far
-byte_after : (old front out : List ℕ) (k value byte : ℕ) → length front ≡ k → k < length old → out ≡ front ++ drop k old → value ≡ byte
-    → set out k value ≡ front ++ byte ∷ drop (suc k) old
-byte_after old front out k value byte is_k room is_out is =
-    ap (λ (l : List ℕ). set l k value) (is_out ∙ ap (λ (l : List ℕ). front ++ l) (drop-cons old k 0 room))
-    ∙ (set_at front (get_or old k 0) (drop (suc k) old) value k is_k ∙ ap (λ (b : ℕ). front ++ b ∷ drop (suc k) old) is)
 
 pub returns-clause-written : goal.returns-clause-written
 returns-clause-written c =
