@@ -1,7 +1,7 @@
 -- What steps submit.
-use Rattle.std.proofs.Common.{◌≡◌, ℕ, zero, suc, List, [], ◌∷◌, ◌++◌, Option, Some, None, IsSome, refl, ap, sym, ◌∙◌, append_assoc}
+use Rattle.std.proofs.Common.{◌≡◌, ℕ, zero, suc, List, [], ◌∷◌, ◌++◌, Option, Some, None, refl, ap, sym, ◌∙◌, append_assoc}
 use Rattle.std.proofs.lemmas.List.{append-nil}
-use Rattle.std.specs.Prelude.{slice_get, take, length}
+use Rattle.std.specs.Prelude.{slice_get, take}
 use Rattle.gvcp_wire.specs.Messages.{PlainCommand}
 use Rattle.client_machine.specs.Machine.{Asked, Client, IsIdle}
 use Rattle.gev_links.specs.Links.{Address}
@@ -13,8 +13,8 @@ use Rattle.gev_control.proofs.Submissions.{in_order}
 use Rattle.camera_control.specs.declared.step.Step.{Step}
 use Rattle.camera_control.specs.declared.step.Step.TheVariants as step
 use Rattle.camera_control.specs.Steps.{commands_in}
-use Rattle.camera_control.specs.Taking.{IsReady, Makes, Made, made_so, Passes, begins, goes_on, steps_in, Halts}
-use Rattle.camera_control.specs.Laws.{commands_of, passes_submitted, StepsInOrder, FrontInOrder}
+use Rattle.camera_control.specs.Taking.{Makes, made_so, begins, goes_on, steps_in}
+use Rattle.camera_control.specs.Laws.{commands_of, StepsInOrder, FrontInOrder}
 use Rattle.camera_control.proofs.Joining.{steps-append}
 
 -- ---- one command

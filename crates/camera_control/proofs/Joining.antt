@@ -1,8 +1,8 @@
 -- Steps behind other steps.
-use Rattle.std.proofs.Common.{◌≡◌, ℕ, Bool, true, false, IsSome, inl, inr, zero, suc, ◌+◌, ◌<◌, ◌≤◌, List, [], ◌∷◌, ◌++◌, length, take, drop, map, Option, Some, None, Result, Ok, Err, refl, ap, sym, ◌∙◌, subst, append_assoc, length-append, arith}
+use Rattle.std.proofs.Common.{◌≡◌, ℕ, Bool, true, false, IsSome, inl, zero, suc, ◌+◌, ◌<◌, ◌≤◌, List, [], ◌∷◌, ◌++◌, length, take, drop, map, Option, Some, None, Result, Ok, Err, refl, ap, sym, ◌∙◌, subst, append_assoc, length-append, arith}
 use Rattle.std.proofs.lemmas.Bool.{le-leb, lt-leb}
 use Rattle.std.proofs.lemmas.List.{append-nil}
-use Rattle.std.specs.Prelude.{slice_get, get_or, nat_le, ◌⊎◌}
+use Rattle.std.specs.Prelude.{slice_get, get_or, nat_le}
 use Rattle.std.proofs.lemmas.Option.{slice_get-get_or}
 use Rattle.client_machine.specs.Machine.{Asked}
 use Rattle.control_client.specs.Values.{value_of}
@@ -14,8 +14,8 @@ use Rattle.camera_control.specs.declared.step.Step.{Step}
 use Rattle.camera_control.specs.declared.step.Step.TheVariants as step
 use Rattle.camera_control.specs.declared.control_end.ControlEnd.{ControlEnd}
 use Rattle.camera_control.specs.declared.register_write.RegisterWrite.{RegisterWrite}
-use Rattle.camera_control.specs.Steps.{cause_of, refusal_in, readings_of, await_steps, leave_steps}
-use Rattle.camera_control.specs.Taking.{Makes, MakesStep, Made, made_so, Passes, begins, goes_on, steps_in, readings_in, earlier, refusal_among, Goes, Halts, Runs, RunsAndReads, RunsOn, end_by, Leaves}
+use Rattle.camera_control.specs.Steps.{refusal_in, readings_of, await_steps, leave_steps}
+use Rattle.camera_control.specs.Taking.{MakesStep, Made, made_so, Passes, begins, goes_on, steps_in, readings_in, earlier, refusal_among, Goes, Halts, Runs, RunsAndReads, end_by, Leaves}
 
 -- ---- lists of steps that were made
 

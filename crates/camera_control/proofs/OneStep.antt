@@ -1,6 +1,6 @@
 -- One step: what is outstanding, how it ends, and what is left.
-use Rattle.std.proofs.Common.{◌≡◌, ℕ, Bool, true, false, List, [], ◌∷◌, Option, Some, None, IsSome, refl, ap, sym, ◌∙◌, subst, inl, inr}
-use Rattle.std.specs.Prelude.{length, ◌⊎◌, ◌==◌, if◌then◌else◌}
+use Rattle.std.proofs.Common.{◌≡◌, ℕ, Bool, true, false, List, [], ◌∷◌, Option, Some, None, IsSome, refl, ap, sym, ◌∙◌, subst}
+use Rattle.std.specs.Prelude.{length, ◌==◌, if◌then◌else◌}
 use Rattle.gvcp_wire.specs.Messages.{PlainCommand}
 use Rattle.client_machine.specs.declared.outcome.Outcome.{Outcome}
 use Rattle.client_machine.specs.declared.outcome.Outcome.TheVariants.{Waiting, Idle, Acked, Refused, NoAnswer}
@@ -16,7 +16,7 @@ use Rattle.gev_control.specs.Controlled.{after_tick}
 use Rattle.gev_control.specs.Ends.{is_fault_end}
 use Rattle.gev_control.specs.Sends.{Fails}
 use Rattle.gev_control.specs.OrderTurns.{Progress, progress, OrderTurned, next_part, end_at, hears_order, after_send, order_turn}
-use Rattle.gev_control.specs.CarriesOut.{ControlSide, HasToWait, orders_after, CarriesOut}
+use Rattle.gev_control.specs.CarriesOut.{ControlSide, orders_after, CarriesOut}
 use Rattle.gev_control.specs.CarriesThrough.{given_up}
 use Rattle.gev_control.proofs.OrderEnds.{ends_as_told}
 use Rattle.gev_control.proofs.OrderRuns.{after_more}

@@ -1,5 +1,5 @@
 -- The refusals behind which the next step comes are no faults.
-use Rattle.std.proofs.Common.{◌≡◌, ℕ, Bool, true, false, List, [], ◌∷◌, Option, Some, None, Result, Ok, Err, refl, sym, subst}
+use Rattle.std.proofs.Common.{◌≡◌, ℕ, Bool, true, false, List, [], ◌∷◌, Option, Some, None, refl, sym, subst}
 use Rattle.bootstrap_regs.specs.Addresses.{CCP}
 use Rattle.gev_links.specs.Links.{Address}
 use Rattle.gev_control.specs.declared.acq_end.AcqEnd.{AcqEnd}
@@ -11,7 +11,7 @@ use Rattle.camera_control.specs.declared.step.Step.TheVariants as step
 use Rattle.camera_control.specs.declared.control_end.ControlEnd.{ControlEnd}
 use Rattle.camera_control.specs.declared.control_end.ControlEnd.TheVariants as ends
 use Rattle.camera_control.specs.Steps.{passed_refusal, refusal_in}
-use Rattle.camera_control.specs.Taking.{Made, earlier, refusal_among, Goes, end_by, is_fault, FailsAs}
+use Rattle.camera_control.specs.Taking.{Made, earlier, refusal_among, Goes, end_by, FailsAs}
 use Rattle.camera_control.proofs.OneStep.{IsPlain, none_plain, some_plain}
 
 passed_plain : (s : Step) (status : ℕ) → IsPlain (passed_refusal s status)

@@ -13,7 +13,7 @@ use Rattle.client_machine.specs.Times.{SENDS}
 use Rattle.client_machine.specs.Commands.{code_of, is_match}
 use Rattle.client_machine.specs.Machine.{Asked, Client, Told, IsIdle, goes_on, outcome_after, submitted_with, is_late, sent_again, ticked_with, ticked, not_waiting, taken, pended, longer, ended_by, received_ack, received_as, received}
 use Rattle.client_machine.specs.Events.{Event, ticks, receives}
-use Rattle.gev_links.specs.Links.{Address, Answer, nothing, failed, came}
+use Rattle.gev_links.specs.Links.{Answer, nothing, failed, came}
 use Rattle.gev_control.specs.declared.acq_end.AcqEnd.TheVariants as how
 use Rattle.gev_control.specs.Controlled.{ControlTurn, after_tick}
 use Rattle.gev_control.specs.OrderTurns.{Progress, progress, OrderTurned, OrderHeard, submits_next, next_with, next_part, end_at, hears_order, after_send, ticked_order, order_turn}

@@ -5,7 +5,6 @@ use Rattle.std.proofs.lemmas.List.{append-nil, take-append-drop, take_at, drop_a
 use Rattle.gvcp_wire.specs.Codes.{READMEM_ACK}
 use Rattle.gvcp_wire.specs.Messages.{PlainCommand, PlainAck, read_mem}
 use Rattle.gvcp_wire.specs.Reading.{ack_reading}
-use Rattle.client_machine.specs.Commands.{code_of}
 use Rattle.client_machine.specs.Machine.{Client, IsIdle}
 use Rattle.gev_links.specs.Links.{Address, Answer, nothing, failed, came}
 use Rattle.gev_links.specs.Moments.{TellsEach}
@@ -15,8 +14,8 @@ use Rattle.gev_control.specs.OrderTurns.{Progress, progress, OrderTurned, order_
 use Rattle.gev_control.specs.CarriesOut.{ControlSide, orders_after, order_heards, CarriesOut}
 use Rattle.read_filters.specs.Reads.{has_memory, lacks_memory, with_memory, heard_since}
 use Rattle.read_filters.proofs.Since.{length_since}
-use Rattle.camera_description.specs.Memory.{heard_of, Reads, TellsMemory, IsToldMemory, HasRead}
-use Rattle.camera_description.proofs.Alone.{Acknowledged, acknowledged}
+use Rattle.camera_description.specs.Memory.{heard_of, Reads, IsToldMemory, HasRead}
+use Rattle.camera_description.proofs.Alone.{acknowledged}
 
 -- ---- lists
 

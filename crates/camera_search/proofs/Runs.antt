@@ -1,6 +1,6 @@
 -- A search, turn by turn, and how it ends.
-use Rattle.std.proofs.Common.{◌≡◌, ◌≢◌, ℕ, ◌≤◌, Bool, true, false, ◌||◌, List, [], ◌∷◌, ◌++◌, length, map, Option, Some, None, refl, ap, sym, subst, ◌∙◌, append_assoc, arith}
-use Rattle.std.specs.List.{list_any, flat_map}
+use Rattle.std.proofs.Common.{◌≡◌, ℕ, Bool, true, false, ◌||◌, List, [], ◌∷◌, ◌++◌, length, Option, Some, None, refl, ap, sym, subst, ◌∙◌, append_assoc, arith}
+use Rattle.std.specs.List.{list_any}
 use Rattle.std.proofs.lemmas.List.{append-nil, map-append}
 use Rattle.std.proofs.lemmas.List.Concat.{flat_map-append}
 use Rattle.std.proofs.lemmas.List.Folds.{list_any-append}
@@ -15,7 +15,7 @@ use Rattle.camera_search.specs.declared.search_end.SearchEnd.TheVariants.{Done, 
 use Rattle.camera_search.specs.Asking.{asked, is_over, is_second, was_second, sends_of, sends_in, more_sends}
 use Rattle.camera_search.specs.Found.{told_in, new_among, found_after, cameras_in, lines_of, text_of}
 use Rattle.camera_search.specs.Writing.{WroteText, WroteLast}
-use Rattle.camera_search.specs.Searched.{SearchSide, Turned, turned, moments_of, answers_of, LinkFails, first_send, second_send, receive, WroteSo, EndsSo, Searches, Searching}
+use Rattle.camera_search.specs.Searched.{SearchSide, Turned, turned, moments_of, answers_of, first_send, second_send, receive, WroteSo, EndsSo, Searches, Searching}
 use Rattle.camera_search.proofs.Texts.{wrote_none, wrote_then, whole_front, part_then}
 
 -- ---- what is told by equations

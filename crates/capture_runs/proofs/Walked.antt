@@ -17,7 +17,7 @@ use Rattle.gev_capture.specs.Laws.{Stays}
 use Rattle.gev_capture.specs.Sightings.{Sighting, no_moments, sighted, sightings}
 use Rattle.gev_capture.specs.Reading.{most_held, ReadsOn, CauseOfEnd}
 use Rattle.gev_capture.specs.Walking as walking
-use Rattle.gev_capture.specs.Walking.{CaptureState, IsNext, Nexts, Walks}
+use Rattle.gev_capture.specs.Walking.{CaptureState, Nexts, Walks}
 use Rattle.gev_capture.proofs.OneCapture.{captures_are_one}
 use Rattle.gev_capture.proofs.Pieces.{pieces_tell}
 use Rattle.gev_capture.proofs.Walking.{walks_more, walks_next, walks_end, walks_on, packets_next, packets_append}

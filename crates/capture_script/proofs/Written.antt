@@ -10,7 +10,7 @@ use Rattle.capture_runs.specs.Texts.{said, state, whole, broken, tells}
 use Rattle.script_runs.specs.Verdicts.{IfTold}
 use Rattle.capture_runs.specs.Ends.{RunEnds, AnswersContent}
 use Rattle.capture_runs.proofs.Walked.{ends_as, run_none}
-use Rattle.capture_script.specs.Script.{Scripted, Written, not_written, stands_in, has_datagram, seen, no_lines, both, goes_on, ticks, carries, is_for, new_script, text_of, opening_lines, closing_lines, sighted, script_texts, lines_from, script_behind, begun_lines, begun_script, capture_script}
+use Rattle.capture_script.specs.Script.{Scripted, Written, not_written, stands_in, has_datagram, seen, no_lines, both, goes_on, ticks, carries, is_for, text_of, opening_lines, closing_lines, sighted, script_texts, lines_from, script_behind, begun_lines, begun_script, capture_script}
 use Rattle.take_lines.proofs.Texts.{text_of-append}
 
 said_is : (w : Written) (xs : List Sighting) → said script_texts w xs ≡ text_of (lines_from w.script xs)

@@ -3,14 +3,14 @@ use Rattle.std.proofs.Common.{◌≡◌, ℕ, zero, suc, ◌+◌, ◌-◌, ◌^�
 use Rattle.std.specs.Prelude.{◌==◌, nat_lt, position, if◌then◌else◌}
 use Rattle.gev_types.specs.declared.peer.Peer.{Peer}
 use Rattle.gev_links.specs.Given.{one_more}
-use Rattle.gev_capture.specs.Contents.{Seen, Carried, other, fragment, cut, datagram, lost}
+use Rattle.gev_capture.specs.Contents.{Seen, other, fragment, cut, datagram, lost}
 use Rattle.gev_capture.specs.Sightings.{Sighting}
 use Rattle.capture_streams.specs.declared.counts.Counts.{Counts}
 use Rattle.capture_streams.specs.declared.sign.Sign.{Sign}
 use Rattle.capture_streams.specs.declared.sign.Sign.TheVariants.{Leader, Payload, Other}
 use Rattle.capture_streams.specs.Signs.{sign}
-use Rattle.capture_streams.specs.Streams.{TableState, empty_table, is_between, begun, with_unlisted, with_new, with_datagram, with_carried, counts_by, counts_after, with_seen, counted}
-use Rattle.capture_streams.specs.Texts.{table_from, table_of}
+use Rattle.capture_streams.specs.Streams.{TableState, empty_table, is_between, begun, with_unlisted, with_new, with_datagram, counts_by, counts_after, with_seen, counted}
+use Rattle.capture_streams.specs.Texts.{table_from}
 use Rattle.capture_streams.specs.Laws.{AddUp, packets_of, packets_among, PacketsAreCounted}
 
 -- the same of each packet

@@ -1,11 +1,10 @@
 -- The datagrams of the streams are among those of the capture.
-use Rattle.std.proofs.Common.{◌≡◌, ℕ, zero, suc, ◌+◌, ◌-◌, ◌^◌, ◌<◌, ◌≤◌, List, [], ◌∷◌, ◌++◌, length, Bool, true, false, Option, Some, None, refl, ap, ◌∙◌, arith}
+use Rattle.std.proofs.Common.{◌≡◌, ℕ, zero, suc, ◌+◌, ◌-◌, ◌^◌, ◌<◌, ◌≤◌, List, [], ◌∷◌, ◌++◌, length, Bool, true, false, Option, Some, None, refl, ap, arith}
 use Rattle.std.specs.Prelude.{nat_lt, position, slice_get, slice_set, if◌then◌else◌}
 use Rattle.gev_types.specs.declared.peer.Peer.{Peer}
 use Rattle.gev_links.specs.Given.{one_more}
-use Rattle.gev_capture.specs.Contents.{Seen, Carried, other, fragment, cut, datagram, lost}
+use Rattle.gev_capture.specs.Contents.{Seen, other, fragment, cut, datagram, lost}
 use Rattle.gev_capture.specs.Sightings.{Sighting}
-use Rattle.capture_streams.specs.declared.counts.Counts.{Counts}
 use Rattle.capture_streams.specs.declared.sign.Sign.{Sign}
 use Rattle.capture_streams.specs.declared.sign.Sign.TheVariants.{Leader, Payload, Other}
 use Rattle.capture_streams.specs.declared.stream.Stream.{Stream}

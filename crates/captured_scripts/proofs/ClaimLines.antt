@@ -4,7 +4,6 @@ use Rattle.std.specs.Prelude.{Option, Some, Ok}
 use Rattle.std.specs.List.{AllByRecursion}
 use Rattle.hex.specs.Hex.{decode_of, encode_lower}
 use Rattle.gev_script.specs.Lines as line
-use Rattle.gev_script.specs.Lines.{ScriptLine}
 use Rattle.board_machine.specs.declared.events.Entry.{Entry}
 use Rattle.board_machine.specs.declared.events.Event.{Event}
 use Rattle.board_machine.specs.declared.events.Event.TheVariants.{Claim}

@@ -16,7 +16,7 @@ use Rattle.gev_script.proofs.Spelled.{words_split, words_are}
 use Rattle.script_runs.specs.Verdicts.{Verdict, goes_on, ends, whole, refused, judged, outcome_of, outcome}
 use Rattle.script_trace.specs.Standing.{is_out_of_place, later_kind, later_verdict, last_or_not, first_verdict, kind_of_read, replay_verdict}
 use Rattle.gev_capture.specs.Sightings as capture
-use Rattle.gev_capture.specs.Sightings.{no_moments, sightings}
+use Rattle.gev_capture.specs.Sightings.{no_moments}
 use Rattle.acquisition_machine.proofs.Order.{all_append}
 use Rattle.capture_script.specs.Playing.{stopped}
 use Rattle.capture_script.specs.Script.{Scripted, new_script, text_of, header_line, with_takes, closing_lines, lines_from, script_behind}

@@ -1,12 +1,11 @@
 -- Turns of the wait, one after the other.
-use Rattle.std.proofs.Common.{◌≡◌, ℕ, Bool, false, true, List, Option, Some, None, Result, Ok, Err, refl, sym, subst}
-use Rattle.client_machine.specs.Machine.{Client}
-use Rattle.gev_links.specs.Links.{Address, Answer}
+use Rattle.std.proofs.Common.{◌≡◌, ℕ, Bool, List, Option, Some, None, Result, Err, sym, subst}
+use Rattle.gev_links.specs.Links.{Address}
 use Rattle.first_leader.specs.declared.leading.FirstLeader.{FirstLeader}
 use Rattle.first_leader.specs.declared.no_leader.NoLeader.{NoLeader}
 use Rattle.first_leader.specs.declared.patience.Patience.{Patience}
 use Rattle.first_leader.specs.declared.silence.Pace.{Pace}
-use Rattle.first_leader.specs.Waiting.{WaitSide, Drops, Waits, goes_on, EndsTurn, found, unseen, ended, silent, EndsWait, by_turn, by_input, MakesTurn, on, ends_so, PassesTime, time_left, time_spent, control_ended, InputOf, FaultsOf}
+use Rattle.first_leader.specs.Waiting.{WaitSide, Drops, Waits, goes_on, EndsTurn, found, unseen, ended, silent, MakesTurn, on, ends_so, PassesTime, time_left, time_spent, control_ended, InputOf, FaultsOf}
 
 -- ---- a turn, by its look and what comes behind it
 

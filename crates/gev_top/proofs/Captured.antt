@@ -1,5 +1,5 @@
 -- What the bytes of a capture decide, and what an answer stands for.
-use Rattle.std.proofs.Common.{◌≡◌, ℕ, List, Bool, true, false, Option, Some, None, refl, subst, sym}
+use Rattle.std.proofs.Common.{◌≡◌, ℕ, List, true, false, Option, Some, None, refl, subst, sym}
 use Rattle.script_runs.specs.Verdicts.{IfTold}
 use Rattle.capture_runs.specs.declared.ending.Ending.{Ending}
 use Rattle.capture_runs.specs.declared.ending.Ending.TheVariants as endings

@@ -1,5 +1,5 @@
 -- What holds between two rounds: no packet waits in the camera, and it counts no more frames than were made.
-use Rattle.std.proofs.Common.{◌≡◌, ℕ, ◌+◌, ◌≤◌, Bool, true, false, List, [], ◌∷◌, Option, Some, None, refl, sym, ap, ◌∙◌, subst, arith}
+use Rattle.std.proofs.Common.{◌≡◌, ℕ, ◌+◌, ◌≤◌, Bool, true, false, List, [], ◌∷◌, Option, Some, None, refl, sym, ap, ◌∙◌, subst}
 use Rattle.std.specs.Prelude.{if◌then◌else◌, slice_get}
 use Rattle.gvcp_wire.specs.Messages.{PlainCommand}
 use Rattle.stream_packets.specs.Packets.{StreamPacket}

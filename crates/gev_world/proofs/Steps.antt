@@ -1,12 +1,12 @@
 -- What single steps do to a stage.
-use Rattle.std.proofs.Common.{◌≡◌, ℕ, ◌<◌, List, [], ◌∷◌, ◌++◌, length, Option, Some, Result, Ok, Err, Bool, true, false, sym, ap, subst, ◌∙◌, arith}
+use Rattle.std.proofs.Common.{◌≡◌, ℕ, ◌<◌, List, length, Option, Some, Result, Ok, Err, Bool, true, false, sym, ap, subst, ◌∙◌, arith}
 use Rattle.std.specs.Prelude.{OnOk}
 use Rattle.stream_packets.specs.Packets.{StreamPacket}
 use Rattle.gvsp_wire.specs.Plain.{plain}
 use Rattle.lossy_queue.specs.declared.datagram.Channel.TheVariants.{Control, Stream}
-use Rattle.camera_machine.specs.Camera.{Camera, Job}
+use Rattle.camera_machine.specs.Camera.{Camera}
 use Rattle.camera_machine.specs.Commands.{commanded}
-use Rattle.camera_machine.specs.Stream.{first_waiting, without_first, given, all_waiting, emptied}
+use Rattle.camera_machine.specs.Stream.{given, all_waiting, emptied}
 use Rattle.camera_machine.proofs.Order.{first_and_rest}
 use Rattle.soak_host.specs.Receiver.{Receiver, start}
 use Rattle.world_machine.specs.State.{Run, World}

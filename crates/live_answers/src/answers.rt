@@ -72,7 +72,8 @@ fn camera_status(
 
 /// The answer of a live run whose workers ended so: a link's failure (`LinkFault`) goes first, then want of memory
 /// (`NoMemory`), then a command without answer (`NoAnswer`) or one that was refused (`Refused`). Where none of these
-/// happened it is `Done` if all `frames` were taken, and else `TurnsSpent` where the reader's turns ran out.
+/// happened it is `Done` if all `frames` were taken, and else `TurnsSpent` where the reader's turns ran out, or
+/// `NoMemory` where the reader was stopped before.
 pub fn status_by(
     served: ServeEnd,
     end: AcqEnd,

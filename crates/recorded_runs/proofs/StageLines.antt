@@ -4,7 +4,6 @@ use Rattle.std.specs.Prelude.{Ok, codes}
 use Rattle.std.specs.List.{AllByRecursion}
 use Rattle.gev_types.specs.Filling.{Filling}
 use Rattle.gev_script.specs.Lines as line
-use Rattle.gev_script.specs.Lines.{ScriptLine}
 use Rattle.gev_report.specs.ReplayLines.{take_line}
 use Rattle.board_machine.specs.declared.events.Entry.{Entry}
 use Rattle.board_machine.specs.declared.events.Event.{Event}

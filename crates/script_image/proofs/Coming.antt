@@ -1,10 +1,9 @@
 -- What a line came to, by what was run and what was drawn.
-use Rattle.std.proofs.Common.{◌≡◌, ◌≢◌, ◌⊎◌, inl, inr, ℕ, ◌+◌, ◌<◌, ◌≤◌, ◌==◌, min, List, [], ◌∷◌, ◌++◌, length, Bool, true, false, Option, Some, None, Result, Ok, Err, refl, sym, ap, subst, ◌∙◌, append_assoc, arith}
+use Rattle.std.proofs.Common.{◌≡◌, ◌≢◌, ◌⊎◌, inr, ℕ, ◌+◌, ◌≤◌, ◌==◌, List, [], ◌∷◌, ◌++◌, Bool, true, false, Option, Some, None, Result, Ok, Err, refl, sym, ap, subst, ◌∙◌, append_assoc, arith}
 use Rattle.std.specs.Prelude.{◌||◌, take, if◌then◌else◌}
 use Rattle.std.specs.List.{AllByRecursion}
 use Rattle.std.proofs.lemmas.Bool.{eqb-true, eq-eqb}
 use Rattle.std.proofs.lemmas.List.{append-nil}
-use Rattle.gev_links.specs.Faults.{Rose}
 use Rattle.gev_links.specs.Told.{Appends}
 use Rattle.gev_types.specs.declared.image_info.ImageInfo.{ImageInfo}
 use Rattle.gev_types.specs.Filling.{Filling}
@@ -20,16 +19,16 @@ use Rattle.gev_script.specs.declared.kind.ScriptKind.{ScriptKind}
 use Rattle.gev_script.specs.Grammar.{line_of}
 use Rattle.gev_script.specs.Streams.{IsLine}
 use Rattle.picture_report.specs.Writing.{Draws, DrawsFront}
-use Rattle.script_runs.specs.declared.ran.Ran.TheVariants.{GoesOn, Ended}
+use Rattle.script_runs.specs.declared.ran.Ran.TheVariants.{GoesOn}
 use Rattle.script_runs.specs.declared.stop.Stop.{Stop}
 use Rattle.script_runs.specs.declared.stop.Stop.TheVariants as stops
 use Rattle.script_runs.specs.Runs.{IfRefused}
-use Rattle.script_runs.specs.Outcomes.{RefusesUnread, RefusesLine, RunsLast}
+use Rattle.script_runs.specs.Outcomes.{RefusesUnread, RefusesLine}
 use Rattle.script_trace.specs.Trace.{Trace, board}
 use Rattle.script_trace.specs.Fills.{IsHandedSo}
 use Rattle.acquisition_machine.specs.declared.config.AcqConfig.{AcqConfig}
 use Rattle.script_trace.specs.Wide.{Wide}
-use Rattle.script_trace.specs.Standing.{Standing, running, ReplayRuns, ReplayRefuses}
+use Rattle.script_trace.specs.Standing.{Standing, running, ReplayRefuses}
 use Rattle.script_replay.specs.declared.script.Script.{Script}
 use Rattle.script_replay.specs.Replays.{StandsFor, RefusesAs}
 use Rattle.script_image.specs.declared.image_end.ImageEnd.{ImageEnd}
@@ -41,7 +40,7 @@ use Rattle.script_image.specs.Taking.{Taking, TakingRuns, TakingRefuses, shown_t
 use Rattle.script_image.specs.declared.came.Came.{Came}
 use Rattle.script_image.specs.declared.came.Came.TheVariants.{On, Took, End}
 use Rattle.script_image.specs.Steps.{StepsOn, StepsTaking, StepsLast, StepsAs}
-use Rattle.script_image.specs.Ends.{TakesWanted, EndsBefore, OneEndsBy, OneEnds, ShowsNone, ShowsPart, AllEndBy, EndsBy}
+use Rattle.script_image.specs.Ends.{TakesWanted, EndsBefore, OneEndsBy, AllEndBy, EndsBy}
 use Rattle.script_image.specs.Showing.{ShowingState, has_text, Counts, IsShowing, IsShowingSome, WaitsSo, LiesAt, DrawsIn, is_done, stop_by, ShowsThere, ShowsTaken, last_end, stopped, ShowsOn, ComesTo}
 
 -- ---- what is written

@@ -4,7 +4,7 @@ use Rattle.std.specs.List.{AllByRecursion}
 use Rattle.std.proofs.lemmas.List.{take-append-drop}
 use Rattle.hex.specs.Hex.{encode_lower}
 use Rattle.gev_script.specs.Lines as line
-use Rattle.gev_script.specs.Lines.{ScriptLine, Config}
+use Rattle.gev_script.specs.Lines.{ScriptLine}
 use Rattle.gev_script.specs.Spelling.{IsConfig}
 use Rattle.gev_script.proofs.Unspelled.{unspelled}
 use Rattle.script_runs.specs.Runs.{RunsLines, AreLines}

@@ -1,28 +1,24 @@
 -- Lines that go on, turn by turn, and how they end.
-use Rattle.std.proofs.Common.{◌≡◌, ◌⊎◌, inl, inr, ℕ, ◌+◌, ◌-◌, ◌^◌, ◌<◌, ◌≤◌, List, [], ◌∷◌, ◌++◌, length, Bool, Option, Some, None, Result, Ok, Err, refl, sym, ap, subst, ◌∙◌, append_assoc, arith}
+use Rattle.std.proofs.Common.{◌≡◌, inl, inr, ℕ, ◌+◌, ◌-◌, ◌^◌, ◌<◌, ◌≤◌, List, [], ◌∷◌, ◌++◌, length, Option, Some, None, Ok, Err, refl, sym, ap, subst, ◌∙◌, append_assoc, arith}
 use Rattle.std.proofs.lemmas.List.{append-nil}
-use Rattle.gev_links.specs.Faults.{Rose}
 use Rattle.gev_links.specs.Told.{Gives, Appends}
 use Rattle.gev_script.specs.declared.line_end.LineEnd.{LineEnd}
 use Rattle.gev_script.specs.declared.line_end.LineEnd.TheVariants as lines_ends
 use Rattle.gev_script.specs.declared.kind.ScriptKind.TheVariants as kinds
-use Rattle.gev_script.specs.Streams.{LinesState, IsOpen, IsLine, ReadsOn, CauseOfEnd, Nexts}
+use Rattle.gev_script.specs.Streams.{LinesState, IsLine, ReadsOn, CauseOfEnd, Nexts}
 use Rattle.gev_script.proofs.Tellings.{Gives-append, Gives-same}
 use Rattle.script_runs.specs.declared.ran.Ran.{Ran}
-use Rattle.script_runs.specs.declared.ran.Ran.TheVariants.{GoesOn}
 use Rattle.script_runs.specs.Runs.{RunsLines, AreLines, lines_text}
-use Rattle.script_runs.specs.Outcomes.{RefusesLine}
-use Rattle.script_runs.specs.Turns.{GoesOnFrom}
 use Rattle.script_runs.proofs.Looping.{Stood, stood_none, stood_on}
 use Rattle.script_trace.specs.Standing.{Standing, first, running, ReplayRuns}
 use Rattle.script_image.specs.declared.image_end.ImageEnd.{ImageEnd}
 use Rattle.script_image.specs.declared.image_end.ImageEnd.TheVariants as ends
 use Rattle.script_image.specs.declared.wanted.Wanted.{Wanted}
 use Rattle.script_image.specs.declared.wanted.Wanted.TheVariants.{One, All}
-use Rattle.script_image.specs.Taking.{Taking, beginning, TakingRuns, TakingRefuses}
+use Rattle.script_image.specs.Taking.{Taking, beginning, TakingRuns}
 use Rattle.script_image.specs.Ends.{EndsBy, ImageEnds, IsInRange}
-use Rattle.script_image.specs.Showing.{ShowingState, Counts, IsShowing, IsShowingSome, WaitsSo, ShowsOn, ComesTo, unread_end, TurnsOn, Turn}
-use Rattle.script_image.proofs.Coming.{Appends-same, Appends-nothing, bad_comes, no_memory_comes}
+use Rattle.script_image.specs.Showing.{ShowingState, Counts, IsShowing, IsShowingSome, WaitsSo, ComesTo, unread_end, TurnsOn, Turn}
+use Rattle.script_image.proofs.Coming.{Appends-same, Appends-nothing, bad_comes}
 use Rattle.script_image.proofs.Leading.{waits_run}
 
 -- ---- as a replay's

@@ -16,7 +16,7 @@ use Rattle.script_image.specs.declared.came.Came.{Came}
 use Rattle.script_image.specs.declared.came.Came.TheVariants.{On, Took, End}
 use Rattle.script_image.specs.Taking.{got_by}
 use Rattle.script_image.specs.Lines.{got_in, WentAt, Went, CameBy}
-use Rattle.script_image.specs.Steps.{StepsOn, StepsLast, Steps, StepsAs}
+use Rattle.script_image.specs.Steps.{StepsOn, Steps, StepsAs}
 
 -- ---- a line behind the header
 

@@ -13,7 +13,7 @@ use Rattle.client_machine.specs.Times.{SENDS}
 use Rattle.client_machine.specs.declared.outcome.Outcome.TheVariants.{NoAnswer}
 use Rattle.client_machine.specs.Commands.{next_req, heartbeat, is_match}
 use Rattle.client_machine.specs.Machine.{Asked, Client, Told, goes_on, with_command, submitted, is_heartbeat_due, is_late, sent_again, ticked_with, ticked, not_waiting, to_send, taken, ended_by, pended, received_as}
-use Rattle.client_machine.specs.Events.{Request, new_request, submitted_at}
+use Rattle.client_machine.specs.Events.{new_request, submitted_at}
 use Rattle.client_machine.specs.Events as clients
 use Rattle.control_session.specs.Schedule.{Act, at_client, Line, heartbeat_at, with_last, bytes_of}
 use Rattle.control_session.proofs.Lines.{acts_once}

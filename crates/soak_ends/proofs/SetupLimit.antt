@@ -4,9 +4,8 @@ use Rattle.std.specs.Prelude.{⊤, slice_get}
 use Rattle.gvcp_wire.specs.Messages.{PlainCommand}
 use Rattle.lossy_queue.specs.declared.datagram.Channel.{Channel}
 use Rattle.lossy_queue.specs.declared.datagram.Channel.TheVariants.{Control, Stream}
-use Rattle.lossy_queue.specs.declared.datagram.Datagram.{Datagram}
 use Rattle.client_machine.specs.Times.{SEND_LIMIT}
-use Rattle.client_machine.specs.Machine.{Asked, Client, ticked, to_send, taken}
+use Rattle.client_machine.specs.Machine.{Asked, ticked, to_send, taken}
 use Rattle.client_machine.specs.Events.{submits as submits_at, ticks as ticks_at, receives as receives_at}
 use Rattle.client_machine.proofs.Limits.{step_keeps}
 use Rattle.world_machine.specs.State.{Host, Run, World}

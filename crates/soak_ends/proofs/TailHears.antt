@@ -8,7 +8,7 @@ use Rattle.stream_packets.specs.Packets.{StreamPacket}
 use Rattle.gvsp_wire.specs.declared.wire_error.WireError.{WireError}
 use Rattle.gvsp_wire.specs.Reading.{reading, ok_of}
 use Rattle.acquisition_machine.specs.Machine as turns
-use Rattle.acquisition_machine.specs.Machine.{datagram, claimed, tick, State, Turn, Request, request_bytes, unasked, opens_block, leaving, staying, requests_for, requests_of, number_after, after_rounds, step}
+use Rattle.acquisition_machine.specs.Machine.{datagram, claimed, State, Turn, unasked, opens_block, step}
 use Rattle.acquisition_machine.specs.TurnLaws.{asked_by}
 use Rattle.acquisition_machine.proofs.Turned.{turned}
 use Rattle.acquisition_machine.proofs.Window.{step_sound}

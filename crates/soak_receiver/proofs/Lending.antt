@@ -13,7 +13,6 @@ use Rattle.gentl_handles.specs.declared.opened.Opened.{Opened}
 use Rattle.gentl_handles.specs.Handles.{Handles, child_of}
 use Rattle.gev_report.specs.ReplayLines.{take_line}
 use Rattle.gev_script.specs.Lines as line
-use Rattle.gev_script.specs.Lines.{ScriptLine}
 use Rattle.board_machine.specs.declared.events.Event.{Event}
 use Rattle.board_machine.specs.declared.events.Event.TheVariants.{Take, Unpost, LookOut, Lay, Grab}
 use Rattle.board_machine.specs.declared.events.TakeEnd.TheVariants as taken

@@ -1,4 +1,4 @@
-use Rattle.std.proofs.Common.{Option, None, [], ◌∷◌, sym, subst}
+use Rattle.std.proofs.Common.{Option, [], ◌∷◌, sym, subst}
 use Rattle.camera_control.specs.declared.step.Step.TheVariants as step
 use Rattle.camera_control.specs.declared.control_end.ControlEnd.{ControlEnd}
 use Rattle.camera_control.specs.Taking.{Goes}

@@ -1,4 +1,4 @@
-use Rattle.std.proofs.Common.{[], ◌∷◌, None, map, length}
+use Rattle.std.proofs.Common.{[], ◌∷◌, None, map}
 use Rattle.bootstrap_regs.specs.Addresses.{SCPS0, SCDA0, SCP0}
 use Rattle.camera_control.specs.declared.step.Step.TheVariants as step
 use Rattle.camera_control.specs.Steps.{write_step}

@@ -1,6 +1,6 @@
 use Rattle.std.proofs.Common.{sym, option_map}
 use Rattle.read_filters.specs.Reads.{with_memory, heard_since}
-use Rattle.camera_description.proofs.Pieces.{has_told, same_heard, reads_as}
+use Rattle.camera_description.proofs.Pieces.{same_heard, reads_as}
 use Rattle.camera_description.proofs.reading.read_memory.Goals as goal
 
 pub returns-clause-reads : goal.returns-clause-reads

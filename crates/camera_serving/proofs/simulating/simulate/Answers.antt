@@ -1,5 +1,4 @@
-use Rattle.std.proofs.Common.{ap, subst, ◌∙◌, arith}
-use Rattle.camera_machine.specs.Camera.{Camera}
+use Rattle.std.proofs.Common.{subst, ◌∙◌}
 use Rattle.camera_serving.specs.Turning.{WroteEnd}
 use Rattle.camera_serving.proofs.Ending.{faults_of_turns, rose_back}
 use Rattle.camera_serving.proofs.simulating.simulate.Goals as goal

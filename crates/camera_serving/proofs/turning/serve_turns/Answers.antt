@@ -1,4 +1,4 @@
-use Rattle.std.proofs.Common.{refl, ◌∙◌, rules, arith}
+use Rattle.std.proofs.Common.{refl, ◌∙◌}
 use Rattle.gev_serve.specs.Wires.{wire}
 use Rattle.camera_serving.proofs.Serves.{serves_first, serves_more}
 use Rattle.camera_serving.proofs.turning.serve_turns.Goals as goal

@@ -1,4 +1,3 @@
-use Rattle.std.proofs.Common.{refl, ap, sym}
 use Rattle.capture_streams.proofs.Listed.{listed, listed_none}
 use Rattle.capture_streams.proofs.listing.list_streams.Goals as goal
 

@@ -1,7 +1,4 @@
-use Rattle.std.proofs.Common.{◌≡◌, ℕ, ◌≤◌, List, length, take, drop, sym, ap, ◌∙◌, arith}
-use Rattle.std.specs.List.{All}
-use Rattle.gvcp_discovery.specs.Discovery.{bytes_at}
-use Rattle.gvcp_discovery.specs.Laws.{discovery_body, bytes_of_words}
+use Rattle.std.proofs.Common.{◌≤◌, length, arith}
 use Rattle.gvcp_discovery.proofs.Spelled.{length_told, spelled_part, spelled_number, mac_part}
 use Rattle.gvcp_discovery.proofs.laws.the_registers_are_told.Goals as goal
 
