@@ -1,12 +1,13 @@
 //! Cases of the program's call: each line of standard input is a command line with the ports that it runs over, and is
 //! written again with how the call ended; the lines of its report stand below.
 //!
-//! `WORDS / SETTINGS` calls `gevacq_top`. How the words of each command are read stands in `top_cases`.
+//! `WORDS / SETTINGS` calls `gevacq_top`; other rows call `plain_top`, and read the words of each command (`plain`).
 #![tactic(auto)]
 
 mod datagrams;
 mod outcome;
 mod pacing;
+mod plain; // commands without ports
 mod running;
 mod setting;
 
@@ -18,18 +19,43 @@ use std::sync::Wait;
 use std::thread::Threads;
 
 fn main(rt: HostRuntime) -> io::Result<()> {
+    let mut input = Vec::new(rt.alloc());
+    print_all(&rt, &rt, &mut input)
+}
+
+/// Writes all lines of standard input again, each with what it comes to. A live run has its threads of `handles`.
+fn print_all<R: Threads + Wait + Sync>(
+    rt: &HostRuntime,
+    handles: &R,
+    input: &mut Vec<u8>,
+) -> io::Result<()> {
     for line in rt.lines(rt.alloc()) {
-        answer(&rt, &rt, line?.as_str())?;
+        answer(rt, handles, input, line?.as_str())?;
     }
     Ok(())
 }
 
-/// Writes a line again, a row with its answer. A live run has its threads of `handles`.
-fn answer<R: Threads + Wait + Sync>(rt: &HostRuntime, handles: &R, line: &str) -> io::Result<()> {
-    if line.is_empty() || line.starts_with("#") {
-        return println!(rt; "{line}");
+/// Writes a line again, a row with its answer.
+fn answer<R: Threads + Wait + Sync>(
+    rt: &HostRuntime,
+    handles: &R,
+    input: &mut Vec<u8>,
+    line: &str,
+) -> io::Result<()> {
+    match line.split_once(" /") {
+        Some((words, settings)) => answer_call(rt, handles, line, words, settings),
+        None => plain::answer(rt, rt.alloc(), input, line),
     }
-    let (words, settings) = line.split_once(" /").unwrap_or((line, ""));
+}
+
+/// Writes a row of a call again, with its answer.
+fn answer_call<R: Threads + Wait + Sync>(
+    rt: &HostRuntime,
+    handles: &R,
+    line: &str,
+    words: &str,
+    settings: &str,
+) -> io::Result<()> {
     match Setting::read(rt.alloc(), settings) {
         Ok(setting) => call(rt, handles, line, words, &setting),
         Err(Wrong::NotUnderstood) => println!(rt; "{line} = not understood"),

@@ -1,7 +1,7 @@
 //! Each read or each write fails in turn.
 
-use crate::input::number;
-use crate::running::{Ends, Run, run_words};
+use super::input::number;
+use super::running::{Ends, Run, run_words};
 use gev_status::Status;
 use std::alloc::Global;
 use std::io;

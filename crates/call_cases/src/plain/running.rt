@@ -1,6 +1,6 @@
 //! One run of a command line.
 
-use crate::input::number;
+use super::input::number;
 use gev_links::{MemorySink, MemorySource};
 use gev_status::Status;
 use gev_top::plain_top;

@@ -1,6 +1,6 @@
 //! The texts of those statuses that no run over memory has.
 
-use crate::input::number;
+use super::input::number;
 use gev_script::ScriptKind;
 use gev_status::Status;
 use std::io;

@@ -5,7 +5,6 @@
 //! runs the words over a source that gives so many bytes in a call, and of which this read fails, and a sink that takes so
 //! many and of which this write fails. `reads` and `writes` make each fail in turn. `words` reads words twice, and
 //! `text` is how a status is printed. A word of no bytes is written `""`.
-#![tactic(auto)]
 
 mod input; // what the source gives
 mod reading; // words, read twice
@@ -14,24 +13,15 @@ mod sweeping; // each read or write fails in turn
 mod text; // the texts of statuses
 
 use std::alloc::Global;
-use std::io::{self, BufRead, BufReader};
-
-fn main(rt: HostRuntime) -> io::Result<()> {
-    let alloc = rt.alloc();
-    let mut input = Vec::new(alloc);
-    print_all(&rt, alloc, &mut input)
-}
-
-/// Writes all lines of standard input again, each with what it comes to.
-fn print_all(rt: &HostRuntime, alloc: Global, input: &mut Vec<u8>) -> io::Result<()> {
-    for line in BufReader::new(alloc, rt.reader())?.lines(alloc) {
-        answer(rt, alloc, input, line?.as_str())?;
-    }
-    Ok(())
-}
+use std::io;
 
 /// Writes a row again, does what it says, and prints what is behind it, with the row's end.
-fn answer(rt: &impl Print, alloc: Global, input: &mut Vec<u8>, row: &str) -> io::Result<()> {
+pub(crate) fn answer(
+    rt: &impl Print,
+    alloc: Global,
+    input: &mut Vec<u8>,
+    row: &str,
+) -> io::Result<()> {
     rt.print(row)?;
     let (kind, rest) = row.split_once(' ').unwrap_or((row, ""));
     if input::add_row(alloc, input, kind, rest)? {

@@ -1,6 +1,6 @@
 //! Words are read by `read_errand`, and a second time by `clap`.
 
-use crate::running::list;
+use super::running::list;
 use clap::builder::ValueParser;
 use clap::error::ErrorKind;
 use clap::{Arg, ArgMatches, Command, Error};
