@@ -4,6 +4,7 @@ use Rattle.gev_lanes.specs.LineEnds.{BeginsWith}
 use Rattle.gev_lanes.specs.declared.parts.LaneQueues.{LaneQueues}
 use Rattle.gev_lanes.specs.declared.parts.ReaderLane.{ReaderLane}
 use Rattle.gev_lanes.specs.declared.parts.LaneHands.{LaneHands}
+use Rattle.gev_lanes.specs.declared.parts.LaneStarts.{LaneStarts}
 
 -- how many cells a lane has for datagrams and moments, and how many requests may wait
 abbrev pub CELLS : ℕ
@@ -71,6 +72,14 @@ pub record HasRoom (q : LaneQueues) : Type 0 where
 abbrev pub HaveRoom : List LaneQueues → Type 0
 HaveRoom [] = ⊤
 HaveRoom (q ∷ qs) = HasRoom q × HaveRoom qs
+
+-- Both ends of these new queues, before they part: 64 cells were given to the queue of free cells, and nothing else.
+pub record AreFresh (q : LaneQueues) (s : LaneStarts) : Type 0 where
+  pub room : HasRoom q
+  pub free : s.free.line ≡ q.free.table
+  pub given : length s.free.given ≡ CELLS
+  pub cells : s.cells ≡ record { line = q.cells.table; given = []; refusals = 0 }
+  pub requests : s.requests ≡ record { line = q.requests.table; given = []; refusals = 0 }
 
 -- A new lane: 64 cells were given to the queue of free cells, as the lane's first, and one is kept for the end;
 -- nothing else was given or taken, and no try was made that failed.

@@ -1,13 +1,13 @@
 //! All lanes: how they are made, and how a lane meets the reader.
 
-ghost use Rattle.std.specs.Prelude.{◌≡◌};
-ghost use Rattle.gev_lanes.specs.Sides.{IsReaderOf, IsLaneOf, AreReadersOf, IsLaneAt, Met, MetAt};
+ghost use Rattle.std.specs.Prelude.{◌≡◌, ◌+◌, ◌<◌, [], length, IfOk, vec_len, vec_capacity};
+ghost use Rattle.gev_lanes.specs.Sides.{IsReaderOf, IsLaneOf, AreReadersOf, IsLaneAt, AreNew, Met, MetAt};
 
 use crate::ends::{LaneEnds, Lanes, ReaderEnds};
 use crate::making::new_lane;
 use crate::parts::{LaneHands, LaneQueues, ReaderLane};
 use gev_types::NoMemory;
-use std::alloc::Global;
+use std::alloc::{AllocError, Global};
 
 // A lane's ends meet the reader's.
 fn meet_one(queues: &LaneQueues, side: &mut ReaderLane, hands: LaneHands)
@@ -37,6 +37,65 @@ fn meet_lane(queues: &[LaneQueues], sides: &mut [ReaderLane], number: u8, hands:
     meet_one(&queues[at], &mut sides[at], hands);
 }
 
+// Makes room for one more of each.
+fn make_room(
+    queues: &mut Vec<LaneQueues>,
+    sides: &mut Vec<ReaderLane>,
+    ends: &mut Vec<LaneEnds>,
+) -> Result<(), AllocError>
+    ensures queues { queues.new.items ≡ queues.old.items }
+    ensures sides { sides.new.items ≡ sides.old.items }
+    ensures ends { ends.new.items ≡ ends.old.items }
+    ensures room { IfOk result (λ _. vec_len queues.new < vec_capacity queues.new) }
+    ensures more { IfOk result (λ _. vec_len sides.new < vec_capacity sides.new) }
+    ensures most { IfOk result (λ _. vec_len ends.new < vec_capacity ends.new) }
+{
+    queues.reserve(1)?;
+    sides.reserve(1)?;
+    ends.reserve(1)
+}
+
+// Adds one new lane with the next number.
+fn add_lane(
+    alloc: Global,
+    number: u8,
+    queues: &mut Vec<LaneQueues>,
+    sides: &mut Vec<ReaderLane>,
+    ends: &mut Vec<LaneEnds>,
+) -> Result<(), NoMemory>
+    requires number { length queues.old.items ≡ number }
+    requires new { AreNew 0 queues.old.items sides.old.items ends.old.items }
+    ensures count { IfOk result (λ _. length queues.new.items ≡ number + 1) }
+    ensures new { IfOk result (λ _. AreNew 0 queues.new.items sides.new.items ends.new.items) }
+{
+    make_room(queues, sides, ends)?;
+    let (lane_queues, side, lane_ends) = new_lane(alloc, number)?;
+    queues.push_reserved(lane_queues);
+    sides.push_reserved(side);
+    ends.push_reserved(lane_ends);
+    Ok(())
+}
+
+// Adds so many new lanes to none.
+fn add_lanes(
+    alloc: Global,
+    lanes: u8,
+    queues: &mut Vec<LaneQueues>,
+    sides: &mut Vec<ReaderLane>,
+    ends: &mut Vec<LaneEnds>,
+) -> Result<(), NoMemory>
+    requires queues { queues.old.items ≡ [] }
+    requires sides { sides.old.items ≡ [] }
+    requires ends { ends.old.items ≡ [] }
+    ensures count { IfOk result (λ _. length queues.new.items ≡ lanes) }
+    ensures new { IfOk result (λ _. AreNew 0 queues.new.items sides.new.items ends.new.items) }
+{
+    'lanes: for number in 0..lanes {
+        add_lane(alloc, number, queues, sides, ends)?;
+    }
+    Ok(())
+}
+
 impl Lanes {
     ghost use Rattle.std.specs.Prelude.{◌≡◌, length, IfOk};
     ghost use Rattle.gev_lanes.specs.Sides.{AreReadersOf, IsLaneAt, AreLanesOf, AreNew, MetAt};
@@ -51,12 +110,7 @@ impl Lanes {
         let mut queues = Vec::new(alloc);
         let mut sides = Vec::new(alloc);
         let mut ends = Vec::new(alloc);
-        'lanes: for number in 0..lanes {
-            let (lane_queues, side, lane_ends) = new_lane(alloc, number)?;
-            queues.push(lane_queues)?;
-            sides.push(side)?;
-            ends.push(lane_ends)?;
-        }
+        add_lanes(alloc, lanes, &mut queues, &mut sides, &mut ends)?;
         Ok((
             Lanes { queues },
             ReaderEnds {

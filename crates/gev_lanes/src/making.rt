@@ -1,13 +1,13 @@
 //! New lanes.
 
 ghost use Rattle.std.specs.Prelude.{◌≡◌, ◌+◌, length, IfOk};
-ghost use Rattle.gev_lanes.specs.Sides.{CELLS as MANY, IsNew};
+ghost use Rattle.gev_lanes.specs.Sides.{CELLS as MANY, ROOM as WHOLE, AreFresh, IsNew};
 
 use crate::cell::{Cell, CellKind};
 use crate::ends::LaneEnds;
 use crate::line::Line;
 use crate::line_ends::Start;
-use crate::parts::{LaneHands, LaneQueues, ReaderLane};
+use crate::parts::{LaneHands, LaneQueues, LaneStarts, ReaderLane};
 use gev_types::{Bytes, NoMemory};
 use std::alloc::{AllocError, Global};
 
@@ -52,26 +52,46 @@ fn put_cells(alloc: Global, line: &Line<Cell>, start: &mut Start<Cell>) -> Resul
     Ok(())
 }
 
-/// A new lane with this number.
-pub(crate) fn new_lane(
-    alloc: Global,
-    number: u8,
-) -> Result<(LaneQueues, ReaderLane, LaneEnds), NoMemory>
-    ensures new { IfOk result (λ made. IsNew made.0 made.1 made.2 number) }
+// A queue with all free cells.
+fn full_line(alloc: Global) -> Result<(Line<Cell>, Start<Cell>), NoMemory>
+    ensures room { IfOk result (λ made. made.0.capacity ≡ WHOLE) }
+    ensures line { IfOk result (λ made. made.1.line ≡ made.0.table) }
+    ensures given { IfOk result (λ made. length made.1.given ≡ MANY) }
 {
-    let (free, mut free_start) = Line::new(alloc, ROOM)?;
+    let (line, mut start) = Line::new(alloc, ROOM)?;
+    put_cells(alloc, &line, &mut start)?;
+    Ok((line, start))
+}
+
+// The queues of a new lane.
+fn new_queues(alloc: Global) -> Result<(LaneQueues, LaneStarts), NoMemory>
+    ensures fresh { IfOk result (λ made. AreFresh made.0 made.1) }
+{
+    let (free, free_start) = full_line(alloc)?;
     let (cells, cells_start) = Line::new(alloc, ROOM)?;
     let (requests, requests_start) = Line::new(alloc, CELLS)?;
-    put_cells(alloc, &free, &mut free_start)?;
-    let kept = new_cell(alloc)?;
-    let (lane_free, reader_free) = free.part(free_start);
-    let (reader_cells, lane_cells) = cells.part(cells_start);
-    let (lane_requests, reader_requests) = requests.part(requests_start);
-    let queues = LaneQueues {
-        free,
-        cells,
-        requests,
-    };
+    Ok((
+        LaneQueues {
+            free,
+            cells,
+            requests,
+        },
+        LaneStarts {
+            free: free_start,
+            cells: cells_start,
+            requests: requests_start,
+        },
+    ))
+}
+
+// The ends of a new lane's queues part.
+fn part(queues: &LaneQueues, starts: LaneStarts, kept: Cell, number: u8) -> (ReaderLane, LaneEnds)
+    requires fresh { AreFresh queues.now starts }
+    ensures new { IsNew queues.now result.0 result.1 number }
+{
+    let (lane_free, reader_free) = queues.free.part(starts.free);
+    let (reader_cells, lane_cells) = queues.cells.part(starts.cells);
+    let (lane_requests, reader_requests) = queues.requests.part(starts.requests);
     let reader = ReaderLane {
         free: reader_free,
         cells: reader_cells,
@@ -84,5 +104,18 @@ pub(crate) fn new_lane(
         cells: lane_cells,
         requests: lane_requests,
     };
-    Ok((queues, reader, LaneEnds { number, hands }))
+    (reader, LaneEnds { number, hands })
+}
+
+/// A new lane with this number.
+pub(crate) fn new_lane(
+    alloc: Global,
+    number: u8,
+) -> Result<(LaneQueues, ReaderLane, LaneEnds), NoMemory>
+    ensures new { IfOk result (λ made. IsNew made.0 made.1 made.2 number) }
+{
+    let kept = new_cell(alloc)?;
+    let (queues, starts) = new_queues(alloc)?;
+    let (reader, lane) = part(&queues, starts, kept, number);
+    Ok((queues, reader, lane))
 }

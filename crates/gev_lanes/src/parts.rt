@@ -1,6 +1,6 @@
 use crate::cell::Cell;
 use crate::line::Line;
-use crate::line_ends::{Giver, Taker};
+use crate::line_ends::{Giver, Start, Taker};
 
 /// The three queues of a lane: the free cells, the cells on their way to the lane, and the lane's requests.
 #[derive(Drop)]
@@ -27,4 +27,12 @@ pub(crate) struct LaneHands {
     pub(crate) free: Giver<Cell>,
     pub(crate) cells: Taker<Cell>,
     pub(crate) requests: Giver<[u8; 28]>,
+}
+
+/// Both ends of a lane's queues, before they part.
+#[derive(Drop)]
+pub(crate) struct LaneStarts {
+    pub(crate) free: Start<Cell>,
+    pub(crate) cells: Start<Cell>,
+    pub(crate) requests: Start<[u8; 28]>,
 }
