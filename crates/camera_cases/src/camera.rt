@@ -2,7 +2,7 @@
 
 use crate::fault::Fault;
 use crate::frames::SHAPE;
-use crate::row::{bytes, number, port, word};
+use crate::row::{bytes, number, small_number, word};
 use crate::shown::{shown, told};
 use camera_sim::{Camera, MESSAGE_SIZE, PACKET_ROOM};
 use gev_types::{NoMemory, Peer};
@@ -96,7 +96,7 @@ fn command(alloc: Global, camera: &mut Camera, row: &str) -> Result<String, Faul
     let moment = number(row, 1)?;
     let peer = Peer {
         address: HOST,
-        port: port(row, 2)?,
+        port: small_number(row, 2)?,
     };
     let sent = bytes(alloc, row, 3)?;
     execute(alloc, camera, peer, sent.as_slice(), moment)

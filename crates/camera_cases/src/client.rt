@@ -1,7 +1,7 @@
 //! The client of the control channel.
 
 use crate::fault::Fault;
-use crate::row::{bytes, count, number, port, short_number, word};
+use crate::row::{bytes, count, number, short_number, small_number, word};
 use crate::shown::told;
 use control_client::{Client, SETUP_SIZE, setup_write};
 use gev_types::Peer;
@@ -57,7 +57,7 @@ fn read(alloc: Global, client: &mut Client, row: &str) -> Result<String, Fault> 
 /// Submits a command of the setup of a stream to a port of this machine.
 fn setup(alloc: Global, client: &mut Client, row: &str) -> Result<String, Fault> {
     let place = count(row, 2)?;
-    let port = port(row, 3)?;
+    let port = small_number(row, 3)?;
     submit_setup(alloc, client, place, port, number(row, 4)?)
 }
 

@@ -1,7 +1,7 @@
 //! Who has control. Peers are ports of one host.
 
 use crate::fault::Fault;
-use crate::row::{number, port, short_number, word};
+use crate::row::{number, short_number, small_number, word};
 use crate::shown::told;
 use control_privilege::Privilege;
 use gev_types::Peer;
@@ -33,7 +33,7 @@ fn tick(alloc: Global, privilege: &mut Privilege, row: &str) -> Result<String, F
 fn answer_peer(alloc: Global, privilege: &mut Privilege, row: &str) -> Result<String, Fault> {
     let peer = Peer {
         address: HOST,
-        port: port(row, 2)?,
+        port: small_number(row, 2)?,
     };
     match word(row, 1) {
         "renew" => renew(alloc, privilege, peer, row),

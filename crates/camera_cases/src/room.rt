@@ -1,6 +1,6 @@
 use crate::fault::Fault;
 use crate::row::word;
-use crate::{camera, client, frames, privilege, registers, script, store, stream};
+use crate::{camera, client, frames, privilege, registers, script, store, stream, world};
 use bootstrap_regs::Regs;
 use camera_sim::Camera;
 use camera_stream::CameraStream;
@@ -8,6 +8,7 @@ use control_client::Client;
 use control_privilege::Privilege;
 use gev_types::NoMemory;
 use resend_store::Store;
+use soak_receiver::SoakReceiver;
 use std::alloc::Global;
 
 /// What the rows work on.
@@ -19,6 +20,7 @@ pub struct Room {
     stream: CameraStream,
     camera: Camera,
     client: Client,
+    host: SoakReceiver,
 }
 
 impl Room {
@@ -31,6 +33,7 @@ impl Room {
             stream: CameraStream::new(alloc, 4)?,
             camera: camera::new_camera(alloc)?,
             client: Client::new(),
+            host: SoakReceiver::new(alloc)?,
         })
     }
 
@@ -45,14 +48,14 @@ impl Room {
         }
     }
 
-    /// The answer to a row of the stream, the camera as a whole, its scripts, or the client.
+    /// The answer to a row of the stream, the camera as a whole, its scripts, the client, or the worlds.
     fn answer_whole(&mut self, alloc: Global, row: &str) -> Result<String, Fault> {
         match word(row, 0) {
             "stream" => stream::answer(alloc, &mut self.stream, row),
             "camera" => camera::answer(alloc, &mut self.camera, row),
             "script" => script::answer(alloc, row),
             "client" => client::answer(alloc, &mut self.client, row),
-            _ => Err(Fault::NotUnderstood),
+            _ => world::answer(alloc, &mut self.host, row),
         }
     }
 }

@@ -1,6 +1,7 @@
 //! The words of a row, which single blanks part. Numbers are decimal, or hex behind `0x`.
 
 use crate::fault::Fault;
+use lossy_queue::Rates;
 use std::alloc::Global;
 
 /// The word at this place, from 0 on; the empty one where there is none.
@@ -24,7 +25,7 @@ pub fn short_number(row: &str, place: usize) -> Result<u32, Fault> {
 }
 
 /// The number of 16 bits at this place.
-pub fn port(row: &str, place: usize) -> Result<u16, Fault> {
+pub fn small_number(row: &str, place: usize) -> Result<u16, Fault> {
     u16::try_from(number(row, place)?).map_err(|_error| Fault::NotUnderstood)
 }
 
@@ -36,4 +37,13 @@ pub fn count(row: &str, place: usize) -> Result<u8, Fault> {
 /// The bytes whose hex digits stand at this place.
 pub fn bytes(alloc: Global, row: &str, place: usize) -> Result<Vec<u8>, Fault> {
     Ok(hex::decode(alloc, word(row, place))?)
+}
+
+/// How often datagrams are lost, repeated and swapped, by the words of a row.
+pub fn rates(row: &str) -> Result<Rates, Fault> {
+    Ok(Rates {
+        loss: small_number(row, 3)?,
+        repeat: small_number(row, 4)?,
+        swap: small_number(row, 5)?,
+    })
 }

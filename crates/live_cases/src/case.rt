@@ -1,7 +1,8 @@
-//! A row's fields.
+//! What the fields of a worker's row or of a run's hold.
 
 ghost use Rattle.std.specs.Prelude.{◌≤◌, IfOk};
 
+use crate::fields::Fields;
 use anyhow::{Result, anyhow};
 use gev_types::{NoMemory, Peer};
 use mode_calls::Mode;
@@ -17,7 +18,7 @@ pub struct Case<'x> {
     pub numbers: &'x [u64],
     /// The moments that the clock tells.
     pub moments: &'x [u64],
-    /// What the control link hears.
+    /// What the control link hears, or the camera's link.
     pub control: Heard<'x>,
     /// Which receives fail on that link, counted from 1.
     pub receives: &'x [u64],
@@ -25,6 +26,8 @@ pub struct Case<'x> {
     pub sends: &'x [u64],
     /// What the stream's link hears.
     pub stream: Heard<'x>,
+    /// Which receives fail on the stream's link.
+    pub losses: &'x [u64],
 }
 
 impl<'x> Case<'x> {
@@ -69,6 +72,7 @@ pub struct Row {
     receives: Vec<u64>,
     sends: Vec<u64>,
     stream: Vec<Option<Vec<u8>>>,
+    losses: Vec<u64>,
 }
 
 impl Row {
@@ -81,25 +85,32 @@ impl Row {
             receives: Vec::new(alloc),
             sends: Vec::new(alloc),
             stream: Vec::new(alloc),
+            losses: Vec::new(alloc),
         }
     }
 
-    /// Reads the fields of a line behind its word.
-    pub fn read(&mut self, alloc: Global, line: &str) -> Result<()> {
-        read_numbers(field(line, 1), &mut self.numbers)?;
-        read_numbers(field(line, 2), &mut self.moments)?;
-        self.read_links(alloc, line)
+    /// Reads the fields behind a row's word.
+    pub fn read(&mut self, alloc: Global, fields: &mut Fields<'_>) -> Result<()> {
+        fields.read_numbers(&mut self.numbers)?;
+        fields.read_numbers(&mut self.moments)?;
+        self.read_control(alloc, fields)?;
+        self.read_stream(alloc, fields)
     }
 
-    /// Reads the fields of the control link and of the stream's.
-    fn read_links(&mut self, alloc: Global, line: &str) -> Result<()> {
-        read_datagrams(alloc, field(line, 3), &mut self.control)?;
-        read_numbers(field(line, 4), &mut self.receives)?;
-        read_numbers(field(line, 5), &mut self.sends)?;
-        read_datagrams(alloc, field(line, 6), &mut self.stream)
+    /// Reads the fields of the control link, or the camera's.
+    fn read_control(&mut self, alloc: Global, fields: &mut Fields<'_>) -> Result<()> {
+        fields.read_datagrams(alloc, &mut self.control)?;
+        fields.read_numbers(&mut self.receives)?;
+        fields.read_numbers(&mut self.sends)
     }
 
-    /// The datagrams of the control link.
+    /// Reads the fields of the stream's link.
+    fn read_stream(&mut self, alloc: Global, fields: &mut Fields<'_>) -> Result<()> {
+        fields.read_datagrams(alloc, &mut self.stream)?;
+        fields.read_numbers(&mut self.losses)
+    }
+
+    /// The datagrams of the control link, or the camera's.
     pub fn control(&self) -> &[Option<Vec<u8>>] {
         self.control.as_slice()
     }
@@ -118,41 +129,9 @@ impl Row {
             receives: self.receives.as_slice(),
             sends: self.sends.as_slice(),
             stream,
+            losses: self.losses.as_slice(),
         }
     }
-}
-
-/// The field of a line at this place, `.` where it is left out.
-fn field(line: &str, place: usize) -> &str {
-    line.split(' ').nth(place).unwrap_or(".")
-}
-
-/// Reads a field of numbers. One that is `.` is empty.
-fn read_numbers(field: &str, into: &mut Vec<u64>) -> Result<()> {
-    for part in field.split(',') {
-        if let Ok(number) = part.parse::<u64>() {
-            into.push(number)?;
-        }
-    }
-    Ok(())
-}
-
-/// Reads a field of datagrams.
-fn read_datagrams(alloc: Global, field: &str, into: &mut Vec<Option<Vec<u8>>>) -> Result<()> {
-    for part in field.split(',') {
-        read_datagram(alloc, part, into)?;
-    }
-    Ok(())
-}
-
-/// Reads a datagram, or a receive that gets nothing.
-fn read_datagram(alloc: Global, part: &str, into: &mut Vec<Option<Vec<u8>>>) -> Result<()> {
-    if part == "-" {
-        into.push(None)?;
-    } else if let Some(digits) = part.strip_prefix("0x") {
-        into.push(Some(hex::decode(alloc, digits)?))?;
-    }
-    Ok(())
 }
 
 /// These datagrams as what a link hears from this peer.

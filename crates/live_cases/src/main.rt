@@ -1,22 +1,32 @@
-//! The rows of live and of recorded runs, of tapes and of scripts: what comes over links in memory and when, and what became of
-//! it. The rows of each worker stand in `worker_cases`.
+//! The rows of the live room: its workers one by one, whole runs with their tapes and scripts, and frames that are received. A
+//! row says what comes over links in memory and when, and its answer what became of that.
 //!
-//! A row is a word, and behind it up to six fields: numbers; the moments of the clock; what the control link hears; which of
-//! its receives fail, and which of its sends, or the writes of a sink; and what the stream's link hears.
-//! A datagram is `0x` and its bytes, `-` is a receive that gets nothing, and a field that is `.` or left out is empty.
+//! A row is a word and behind it its fields, a space before each.
+//!
+//! - `setup`, `turn`, `sends`, `orders`, `through`, `beat`, `acquire`, `paces`, `turns`, `read`, `served`, `told`, `serve`, `obey` and
+//!   `apply` are rows of a worker, and `laws` calls the workers' laws.
+//! - `live`, `record` and `retake` are rows of whole runs, `script` and `tape` of what is recorded.
+//! - `frame` and `receive` are rows of the lines of frames, `hand` and `tell` of the application that writes them.
+//!
+//! A worker and a run have up to seven fields: numbers; the moments of the clock; what the control link hears, or the camera's;
+//! which of its receives fail, and which of its sends, or the writes of a sink; what the stream's link hears, and which of its
+//! receives fail. Frames have fields of their own, which are numbers, words and texts. A comment before the rows of a word says
+//! what its numbers are.
+//!
+//! In one field several numbers, or several datagrams, stand with commas between them. A datagram is `0x` and its bytes, `-` is a
+//! receive that gets nothing, and a field that is `.` or left out is empty.
 #![tactic(auto)]
 
-mod case;
-mod frames;
-mod links;
-mod living;
-mod meeting;
-mod recording;
-mod scripts;
-mod tapes;
+mod board; // a board's buffers
+mod calls; // which call a row names
+mod case; // the fields of a worker or of a run
+mod fields; // a row's fields, one behind another
+mod links; // addresses, links and tapes
+mod printing; // what was sent, and texts
+mod received; // frames that are received
+mod runs; // whole runs, tapes and scripts
+mod workers; // the workers of a run
 
-use crate::case::{Case, Heard, Row, heard};
-use crate::links::CAMERA;
 use anyhow::Result;
 use std::sync::Wait;
 use std::thread::Threads;
@@ -44,66 +54,7 @@ fn is_row(line: &str) -> bool {
 }
 
 /// Prints the answer of a row behind an equals sign.
-fn print_answer<R: Threads + Wait + Sync>(rt: &HostRuntime, handles: &R, line: &str) -> Result<()> {
+fn print_answer<R: Threads + Wait + Sync>(rt: &HostRuntime, handles: &R, row: &str) -> Result<()> {
     print!(rt; " = ")?;
-    let mut row = Row::new(rt.alloc());
-    answer(rt, handles, line, &mut row)
-}
-
-/// Reads a row's fields, and prints its answer.
-fn answer<R: Threads + Wait + Sync>(
-    rt: &HostRuntime,
-    handles: &R,
-    line: &str,
-    row: &mut Row,
-) -> Result<()> {
-    row.read(rt.alloc(), line)?;
-    let word = line.split(' ').next().unwrap_or("");
-    answer_row(rt, handles, word, row)
-}
-
-/// The same, by what is heard on the control link. What is heard comes from the camera.
-fn answer_row<R: Threads + Wait + Sync>(
-    rt: &HostRuntime,
-    handles: &R,
-    word: &str,
-    row: &Row,
-) -> Result<()> {
-    let control = heard(rt.alloc(), row.control(), CAMERA)?;
-    answer_hearing(rt, handles, word, row, control.as_slice())
-}
-
-/// The same, by what is heard on the stream's link too.
-fn answer_hearing<'x, R: Threads + Wait + Sync>(
-    rt: &HostRuntime,
-    handles: &R,
-    word: &str,
-    row: &'x Row,
-    control: Heard<'x>,
-) -> Result<()> {
-    let stream = heard(rt.alloc(), row.stream(), CAMERA)?;
-    call(rt, handles, word, &row.case(control, stream.as_slice()))
-}
-
-/// Makes the call of this word.
-fn call<R: Threads + Wait + Sync>(
-    rt: &HostRuntime,
-    handles: &R,
-    word: &str,
-    case: &Case<'_>,
-) -> Result<()> {
-    match word {
-        "tape" => tapes::hear_some(rt, case),
-        "script" => scripts::write_turns(rt, case),
-        "live" => living::live(rt, handles, case),
-        "record" => recording::record(rt, handles, case),
-        "retake" => recording::retake(rt, handles, case),
-        _ => print_unknown(rt),
-    }
-}
-
-/// Prints that a row's word is none of these.
-fn print_unknown(rt: &HostRuntime) -> Result<()> {
-    print!(rt; "not understood")?;
-    Ok(())
+    calls::answer(rt, handles, row)
 }

@@ -1,5 +1,0 @@
-//! Tests of the camera's room that no row of a program can be: that its laws can be called.
-#![tactic(auto)]
-
-#[cfg(test)]
-mod laws;
