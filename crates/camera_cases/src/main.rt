@@ -42,12 +42,7 @@ fn answer_lines<R: Wait>(rt: &HostRuntime, handles: &R, room: &mut Room) -> Resu
 }
 
 /// Writes a line, and behind a row its answer.
-fn answer_line<R: Wait>(
-    rt: &HostRuntime,
-    handles: &R,
-    room: &mut Room,
-    line: &str,
-) -> Result<()> {
+fn answer_line<R: Wait>(rt: &HostRuntime, handles: &R, room: &mut Room, line: &str) -> Result<()> {
     if line.is_empty() || line.starts_with('#') {
         println!(rt; "{line}")?;
         return Ok(());

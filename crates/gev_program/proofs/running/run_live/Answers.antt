@@ -1,5 +1,5 @@
 -- The links were bound and the clocks taken, and the count of faults stood still until the run began.
-use Rattle.std.proofs.Common.{subst}
+use Rattle.std.proofs.Common.{◌∙◌, subst}
 use Rattle.gev_links.specs.Faults.{Rose}
 use Rattle.gev_program.specs.Runs.{RunsOver}
 use Rattle.gev_program.proofs.Addresses.{bound_so}
@@ -16,3 +16,21 @@ returns-in-Ok-clause-live g c =
 pub returns-in-Ok-clause-link_fault : goal.returns-in-Ok-clause-link_fault
 returns-in-Ok-clause-link_fault g c fault =
     subst (λ before. Rose before (g.P.Ports.faults c.run_over.new.ports)) c.in-Ok.ensures.no_fault (c.run_over.ensures.link_fault fault)
+
+pub returns-in-Ok-clause-alone : goal.returns-in-Ok-clause-alone
+returns-in-Ok-clause-alone g c = c.run_over.ensures.alone
+
+pub returns-in-Ok-clause-own : goal.returns-in-Ok-clause-own
+returns-in-Ok-clause-own g c = c.run_over.ensures.own
+
+pub returns-in-Ok-clause-writes_steady : goal.returns-in-Ok-clause-writes_steady
+returns-in-Ok-clause-writes_steady g c = c.run_over.ensures.writes_steady
+
+pub returns-in-Ok-clause-understood : goal.returns-in-Ok-clause-understood
+returns-in-Ok-clause-understood g c = c.run_over.ensures.understood
+
+pub returns-in-Ok-clause-complete : goal.returns-in-Ok-clause-complete
+returns-in-Ok-clause-complete g c = c.run_over.ensures.complete
+
+pub returns-in-Ok-clause-links_steady : goal.returns-in-Ok-clause-links_steady
+returns-in-Ok-clause-links_steady g c = λ steady. c.run_over.ensures.links_steady steady ∙ c.in-Ok.ensures.no_fault

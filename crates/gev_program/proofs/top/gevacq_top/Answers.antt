@@ -1,4 +1,7 @@
 -- What was done is what the words ask for.
+use Rattle.std.proofs.Common.{◌≡◌, ◌∙◌, ℕ, Ok, Err}
+use Rattle.gev_top.specs.declared.errand.Errand.{Errand}
+use Rattle.gev_top.specs.Usage.{Said}
 use Rattle.gev_program.proofs.Errands.{said_is}
 use Rattle.gev_program.proofs.top.gevacq_top.Goals as goal
 
@@ -34,3 +37,76 @@ returns-in-Ok-clause-writes_steady g c = λ asked is. c.run_errand.ensures.write
 
 pub returns-in-Ok-clause-receives : goal.returns-in-Ok-clause-receives
 returns-in-Ok-clause-receives g c = λ asked is. c.run_errand.ensures.receives asked (said_is _ _ _ c.in-Ok.ensures.said is)
+
+-- words that are refused ask for nothing
+refused : {P : Type 0} (place : ℕ) (asked : Errand) (said : Said Errand) → Err place ≡ said → said ≡ Ok asked → P
+refused place asked said a b = let e : Err place ≡ Ok asked = a ∙ b in cc
+
+pub returns-in-Ok-clause-cause : goal.returns-in-Ok-clause-cause
+returns-in-Ok-clause-cause g c = λ command is. c.run_errand.ensures.cause command (said_is _ _ _ c.in-Ok.ensures.said is)
+
+pub returns-in-Ok-clause-exact : goal.returns-in-Ok-clause-exact
+returns-in-Ok-clause-exact g c = λ command is. c.run_errand.ensures.exact command (said_is _ _ _ c.in-Ok.ensures.said is)
+
+pub returns-in-Ok-clause-plain_ports : goal.returns-in-Ok-clause-plain_ports
+returns-in-Ok-clause-plain_ports g c = λ command is. c.run_errand.ensures.plain_ports command (said_is _ _ _ c.in-Ok.ensures.said is)
+
+pub returns-in-Ok-clause-reads_steady : goal.returns-in-Ok-clause-reads_steady
+returns-in-Ok-clause-reads_steady g c = λ command is. c.run_errand.ensures.reads_steady command (said_is _ _ _ c.in-Ok.ensures.said is)
+
+pub returns-in-Ok-clause-headline : goal.returns-in-Ok-clause-headline
+returns-in-Ok-clause-headline g c = λ is. c.run_errand.ensures.headline (said_is _ _ _ c.in-Ok.ensures.said is)
+
+pub returns-in-Ok-clause-explained : goal.returns-in-Ok-clause-explained
+returns-in-Ok-clause-explained g c = λ is. c.run_errand.ensures.explained (said_is _ _ _ c.in-Ok.ensures.said is)
+
+pub returns-in-Err-clause-cause : goal.returns-in-Err-clause-cause
+returns-in-Err-clause-cause g c = λ _ is. refused _ _ _ c.in-Err.ensures.said is
+
+pub returns-in-Err-clause-exact : goal.returns-in-Err-clause-exact
+returns-in-Err-clause-exact g c = λ _ is. refused _ _ _ c.in-Err.ensures.said is
+
+pub returns-in-Err-clause-headline : goal.returns-in-Err-clause-headline
+returns-in-Err-clause-headline g c = λ is. refused _ _ _ c.in-Err.ensures.said is
+
+pub returns-in-Err-clause-explained : goal.returns-in-Err-clause-explained
+returns-in-Err-clause-explained g c = λ is. refused _ _ _ c.in-Err.ensures.said is
+
+pub returns-in-Err-clause-plain_ports : goal.returns-in-Err-clause-plain_ports
+returns-in-Err-clause-plain_ports g c = λ _ is. refused _ _ _ c.in-Err.ensures.said is
+
+pub returns-in-Err-clause-unread : goal.returns-in-Err-clause-unread
+returns-in-Err-clause-unread g c = λ _ is. refused _ _ _ c.in-Err.ensures.said is
+
+pub returns-in-Err-clause-live : goal.returns-in-Err-clause-live
+returns-in-Err-clause-live g c = λ _ is. refused _ _ _ c.in-Err.ensures.said is
+
+pub returns-in-Err-clause-recorded : goal.returns-in-Err-clause-recorded
+returns-in-Err-clause-recorded g c = λ _ is. refused _ _ _ c.in-Err.ensures.said is
+
+pub returns-in-Err-clause-none : goal.returns-in-Err-clause-none
+returns-in-Err-clause-none g c = λ _ is. refused _ _ _ c.in-Err.ensures.said is
+
+pub returns-in-Err-clause-discovers : goal.returns-in-Err-clause-discovers
+returns-in-Err-clause-discovers g c = λ _ is. refused _ _ _ c.in-Err.ensures.said is
+
+pub returns-in-Err-clause-describes : goal.returns-in-Err-clause-describes
+returns-in-Err-clause-describes g c = λ _ is. refused _ _ _ c.in-Err.ensures.said is
+
+pub returns-in-Err-clause-cameras : goal.returns-in-Err-clause-cameras
+returns-in-Err-clause-cameras g c = λ _ is. refused _ _ _ c.in-Err.ensures.said is
+
+pub returns-in-Err-clause-simulates : goal.returns-in-Err-clause-simulates
+returns-in-Err-clause-simulates g c = λ _ is. refused _ _ _ c.in-Err.ensures.said is
+
+pub returns-in-Err-clause-receives : goal.returns-in-Err-clause-receives
+returns-in-Err-clause-receives g c = λ _ is. refused _ _ _ c.in-Err.ensures.said is
+
+pub returns-in-Err-clause-complete : goal.returns-in-Err-clause-complete
+returns-in-Err-clause-complete g c = λ _ is. refused _ _ _ c.in-Err.ensures.said is
+
+pub returns-in-Err-clause-reads_steady : goal.returns-in-Err-clause-reads_steady
+returns-in-Err-clause-reads_steady g c = λ _ is. refused _ _ _ c.in-Err.ensures.said is
+
+pub returns-in-Err-clause-writes_steady : goal.returns-in-Err-clause-writes_steady
+returns-in-Err-clause-writes_steady g c = λ _ is. refused _ _ _ c.in-Err.ensures.said is

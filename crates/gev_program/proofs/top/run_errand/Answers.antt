@@ -1,9 +1,11 @@
 -- A command over source and sink alone.
 use Rattle.std.proofs.Common.{sym, ◌∙◌, option_map, subst}
+use Rattle.std.specs.Prelude.{⊤}
 use Rattle.camera_words.specs.declared.settings.Settings.{Settings}
 use Rattle.camera_words.specs.declared.simulate_words.SimulateWords.{SimulateWords}
 use Rattle.gev_top.specs.declared.command.Command.TheVariants as commands
 use Rattle.gev_top.specs.declared.errand.Errand.{Errand}
+use Rattle.gev_top.specs.declared.errand.Errand.TheVariants.{Plain, Live, Record, Discover, Description, Simulate, Receive}
 use Rattle.receive_promises.specs.Over.{ReceivesSo}
 use Rattle.gev_program.specs.Cameras.{DiscoversOver, DescribesOver}
 use Rattle.gev_program.specs.Simulation.{SimulatesSo}
@@ -88,3 +90,250 @@ pub returns-in-Receive-clause-complete : goal.returns-in-Receive-clause-complete
 returns-in-Receive-clause-complete g c =
     λ asked is none none_written none_failed.
     receive_completes c.in-Receive.settings asked c.run_receive.result _ (sym c.in-Receive.is ∙ is) (c.run_receive.ensures.complete none_written none_failed)
+
+-- these, by what is asked for
+abbrev By : Type 0 → Type 0 → Type 0 → Type 0 → Type 0 → Type 0 → Type 0 → Errand → Type 0
+By p l r d i s f (Plain _) = p
+By p l r d i s f (Live _) = l
+By p l r d i s f (Record _) = r
+By p l r d i s f (Discover _) = d
+By p l r d i s f (Description _) = i
+By p l r d i s f (Simulate _) = s
+By p l r d i s f (Receive _) = f
+
+abbrev IsPlain : Errand → Type 0
+IsPlain = By ⊤ ⊥ ⊥ ⊥ ⊥ ⊥ ⊥
+
+abbrev IsLive : Errand → Type 0
+IsLive = By ⊥ ⊤ ⊥ ⊥ ⊥ ⊥ ⊥
+
+abbrev IsRecord : Errand → Type 0
+IsRecord = By ⊥ ⊥ ⊤ ⊥ ⊥ ⊥ ⊥
+
+abbrev IsDiscover : Errand → Type 0
+IsDiscover = By ⊥ ⊥ ⊥ ⊤ ⊥ ⊥ ⊥
+
+abbrev IsDescription : Errand → Type 0
+IsDescription = By ⊥ ⊥ ⊥ ⊥ ⊤ ⊥ ⊥
+
+abbrev IsSimulate : Errand → Type 0
+IsSimulate = By ⊥ ⊥ ⊥ ⊥ ⊥ ⊤ ⊥
+
+abbrev IsReceive : Errand → Type 0
+IsReceive = By ⊥ ⊥ ⊥ ⊥ ⊥ ⊥ ⊤
+
+pub returns-in-Plain-clause-live : goal.returns-in-Plain-clause-live
+returns-in-Plain-clause-live g c = λ _ is. absurd (subst IsPlain (sym c.in-Plain.is ∙ is) tt)
+
+pub returns-in-Plain-clause-recorded : goal.returns-in-Plain-clause-recorded
+returns-in-Plain-clause-recorded g c = λ _ is. absurd (subst IsPlain (sym c.in-Plain.is ∙ is) tt)
+
+pub returns-in-Plain-clause-discovers : goal.returns-in-Plain-clause-discovers
+returns-in-Plain-clause-discovers g c = λ _ is. absurd (subst IsPlain (sym c.in-Plain.is ∙ is) tt)
+
+pub returns-in-Plain-clause-describes : goal.returns-in-Plain-clause-describes
+returns-in-Plain-clause-describes g c = λ _ is. absurd (subst IsPlain (sym c.in-Plain.is ∙ is) tt)
+
+pub returns-in-Plain-clause-simulates : goal.returns-in-Plain-clause-simulates
+returns-in-Plain-clause-simulates g c = λ _ is. absurd (subst IsPlain (sym c.in-Plain.is ∙ is) tt)
+
+pub returns-in-Plain-clause-receives : goal.returns-in-Plain-clause-receives
+returns-in-Plain-clause-receives g c = λ _ is. absurd (subst IsPlain (sym c.in-Plain.is ∙ is) tt)
+
+pub returns-in-Live-clause-cause : goal.returns-in-Live-clause-cause
+returns-in-Live-clause-cause g c = λ _ is. absurd (subst IsLive (sym c.in-Live.is ∙ is) tt)
+
+pub returns-in-Live-clause-exact : goal.returns-in-Live-clause-exact
+returns-in-Live-clause-exact g c = λ _ is. absurd (subst IsLive (sym c.in-Live.is ∙ is) tt)
+
+pub returns-in-Live-clause-headline : goal.returns-in-Live-clause-headline
+returns-in-Live-clause-headline g c = λ is. absurd (subst IsLive (sym c.in-Live.is ∙ is) tt)
+
+pub returns-in-Live-clause-explained : goal.returns-in-Live-clause-explained
+returns-in-Live-clause-explained g c = λ is. absurd (subst IsLive (sym c.in-Live.is ∙ is) tt)
+
+pub returns-in-Live-clause-plain_ports : goal.returns-in-Live-clause-plain_ports
+returns-in-Live-clause-plain_ports g c = λ _ is. absurd (subst IsLive (sym c.in-Live.is ∙ is) tt)
+
+pub returns-in-Live-clause-reads_steady : goal.returns-in-Live-clause-reads_steady
+returns-in-Live-clause-reads_steady g c = λ _ is. absurd (subst IsLive (sym c.in-Live.is ∙ is) tt)
+
+pub returns-in-Live-clause-recorded : goal.returns-in-Live-clause-recorded
+returns-in-Live-clause-recorded g c = λ _ is. absurd (subst IsLive (sym c.in-Live.is ∙ is) tt)
+
+pub returns-in-Live-clause-discovers : goal.returns-in-Live-clause-discovers
+returns-in-Live-clause-discovers g c = λ _ is. absurd (subst IsLive (sym c.in-Live.is ∙ is) tt)
+
+pub returns-in-Live-clause-describes : goal.returns-in-Live-clause-describes
+returns-in-Live-clause-describes g c = λ _ is. absurd (subst IsLive (sym c.in-Live.is ∙ is) tt)
+
+pub returns-in-Live-clause-simulates : goal.returns-in-Live-clause-simulates
+returns-in-Live-clause-simulates g c = λ _ is. absurd (subst IsLive (sym c.in-Live.is ∙ is) tt)
+
+pub returns-in-Live-clause-receives : goal.returns-in-Live-clause-receives
+returns-in-Live-clause-receives g c = λ _ is. absurd (subst IsLive (sym c.in-Live.is ∙ is) tt)
+
+pub returns-in-Record-clause-cause : goal.returns-in-Record-clause-cause
+returns-in-Record-clause-cause g c = λ _ is. absurd (subst IsRecord (sym c.in-Record.is ∙ is) tt)
+
+pub returns-in-Record-clause-exact : goal.returns-in-Record-clause-exact
+returns-in-Record-clause-exact g c = λ _ is. absurd (subst IsRecord (sym c.in-Record.is ∙ is) tt)
+
+pub returns-in-Record-clause-headline : goal.returns-in-Record-clause-headline
+returns-in-Record-clause-headline g c = λ is. absurd (subst IsRecord (sym c.in-Record.is ∙ is) tt)
+
+pub returns-in-Record-clause-explained : goal.returns-in-Record-clause-explained
+returns-in-Record-clause-explained g c = λ is. absurd (subst IsRecord (sym c.in-Record.is ∙ is) tt)
+
+pub returns-in-Record-clause-plain_ports : goal.returns-in-Record-clause-plain_ports
+returns-in-Record-clause-plain_ports g c = λ _ is. absurd (subst IsRecord (sym c.in-Record.is ∙ is) tt)
+
+pub returns-in-Record-clause-reads_steady : goal.returns-in-Record-clause-reads_steady
+returns-in-Record-clause-reads_steady g c = λ _ is. absurd (subst IsRecord (sym c.in-Record.is ∙ is) tt)
+
+pub returns-in-Record-clause-live : goal.returns-in-Record-clause-live
+returns-in-Record-clause-live g c = λ _ is. absurd (subst IsRecord (sym c.in-Record.is ∙ is) tt)
+
+pub returns-in-Record-clause-discovers : goal.returns-in-Record-clause-discovers
+returns-in-Record-clause-discovers g c = λ _ is. absurd (subst IsRecord (sym c.in-Record.is ∙ is) tt)
+
+pub returns-in-Record-clause-describes : goal.returns-in-Record-clause-describes
+returns-in-Record-clause-describes g c = λ _ is. absurd (subst IsRecord (sym c.in-Record.is ∙ is) tt)
+
+pub returns-in-Record-clause-simulates : goal.returns-in-Record-clause-simulates
+returns-in-Record-clause-simulates g c = λ _ is. absurd (subst IsRecord (sym c.in-Record.is ∙ is) tt)
+
+pub returns-in-Record-clause-receives : goal.returns-in-Record-clause-receives
+returns-in-Record-clause-receives g c = λ _ is. absurd (subst IsRecord (sym c.in-Record.is ∙ is) tt)
+
+pub returns-in-Discover-clause-cause : goal.returns-in-Discover-clause-cause
+returns-in-Discover-clause-cause g c = λ _ is. absurd (subst IsDiscover (sym c.in-Discover.is ∙ is) tt)
+
+pub returns-in-Discover-clause-exact : goal.returns-in-Discover-clause-exact
+returns-in-Discover-clause-exact g c = λ _ is. absurd (subst IsDiscover (sym c.in-Discover.is ∙ is) tt)
+
+pub returns-in-Discover-clause-headline : goal.returns-in-Discover-clause-headline
+returns-in-Discover-clause-headline g c = λ is. absurd (subst IsDiscover (sym c.in-Discover.is ∙ is) tt)
+
+pub returns-in-Discover-clause-explained : goal.returns-in-Discover-clause-explained
+returns-in-Discover-clause-explained g c = λ is. absurd (subst IsDiscover (sym c.in-Discover.is ∙ is) tt)
+
+pub returns-in-Discover-clause-plain_ports : goal.returns-in-Discover-clause-plain_ports
+returns-in-Discover-clause-plain_ports g c = λ _ is. absurd (subst IsDiscover (sym c.in-Discover.is ∙ is) tt)
+
+pub returns-in-Discover-clause-reads_steady : goal.returns-in-Discover-clause-reads_steady
+returns-in-Discover-clause-reads_steady g c = λ _ is. absurd (subst IsDiscover (sym c.in-Discover.is ∙ is) tt)
+
+pub returns-in-Discover-clause-live : goal.returns-in-Discover-clause-live
+returns-in-Discover-clause-live g c = λ _ is. absurd (subst IsDiscover (sym c.in-Discover.is ∙ is) tt)
+
+pub returns-in-Discover-clause-recorded : goal.returns-in-Discover-clause-recorded
+returns-in-Discover-clause-recorded g c = λ _ is. absurd (subst IsDiscover (sym c.in-Discover.is ∙ is) tt)
+
+pub returns-in-Discover-clause-describes : goal.returns-in-Discover-clause-describes
+returns-in-Discover-clause-describes g c = λ _ is. absurd (subst IsDiscover (sym c.in-Discover.is ∙ is) tt)
+
+pub returns-in-Discover-clause-simulates : goal.returns-in-Discover-clause-simulates
+returns-in-Discover-clause-simulates g c = λ _ is. absurd (subst IsDiscover (sym c.in-Discover.is ∙ is) tt)
+
+pub returns-in-Discover-clause-receives : goal.returns-in-Discover-clause-receives
+returns-in-Discover-clause-receives g c = λ _ is. absurd (subst IsDiscover (sym c.in-Discover.is ∙ is) tt)
+
+pub returns-in-Description-clause-cause : goal.returns-in-Description-clause-cause
+returns-in-Description-clause-cause g c = λ _ is. absurd (subst IsDescription (sym c.in-Description.is ∙ is) tt)
+
+pub returns-in-Description-clause-exact : goal.returns-in-Description-clause-exact
+returns-in-Description-clause-exact g c = λ _ is. absurd (subst IsDescription (sym c.in-Description.is ∙ is) tt)
+
+pub returns-in-Description-clause-headline : goal.returns-in-Description-clause-headline
+returns-in-Description-clause-headline g c = λ is. absurd (subst IsDescription (sym c.in-Description.is ∙ is) tt)
+
+pub returns-in-Description-clause-explained : goal.returns-in-Description-clause-explained
+returns-in-Description-clause-explained g c = λ is. absurd (subst IsDescription (sym c.in-Description.is ∙ is) tt)
+
+pub returns-in-Description-clause-plain_ports : goal.returns-in-Description-clause-plain_ports
+returns-in-Description-clause-plain_ports g c = λ _ is. absurd (subst IsDescription (sym c.in-Description.is ∙ is) tt)
+
+pub returns-in-Description-clause-reads_steady : goal.returns-in-Description-clause-reads_steady
+returns-in-Description-clause-reads_steady g c = λ _ is. absurd (subst IsDescription (sym c.in-Description.is ∙ is) tt)
+
+pub returns-in-Description-clause-live : goal.returns-in-Description-clause-live
+returns-in-Description-clause-live g c = λ _ is. absurd (subst IsDescription (sym c.in-Description.is ∙ is) tt)
+
+pub returns-in-Description-clause-recorded : goal.returns-in-Description-clause-recorded
+returns-in-Description-clause-recorded g c = λ _ is. absurd (subst IsDescription (sym c.in-Description.is ∙ is) tt)
+
+pub returns-in-Description-clause-discovers : goal.returns-in-Description-clause-discovers
+returns-in-Description-clause-discovers g c = λ _ is. absurd (subst IsDescription (sym c.in-Description.is ∙ is) tt)
+
+pub returns-in-Description-clause-simulates : goal.returns-in-Description-clause-simulates
+returns-in-Description-clause-simulates g c = λ _ is. absurd (subst IsDescription (sym c.in-Description.is ∙ is) tt)
+
+pub returns-in-Description-clause-receives : goal.returns-in-Description-clause-receives
+returns-in-Description-clause-receives g c = λ _ is. absurd (subst IsDescription (sym c.in-Description.is ∙ is) tt)
+
+pub returns-in-Simulate-clause-cause : goal.returns-in-Simulate-clause-cause
+returns-in-Simulate-clause-cause g c = λ _ is. absurd (subst IsSimulate (sym c.in-Simulate.is ∙ is) tt)
+
+pub returns-in-Simulate-clause-exact : goal.returns-in-Simulate-clause-exact
+returns-in-Simulate-clause-exact g c = λ _ is. absurd (subst IsSimulate (sym c.in-Simulate.is ∙ is) tt)
+
+pub returns-in-Simulate-clause-headline : goal.returns-in-Simulate-clause-headline
+returns-in-Simulate-clause-headline g c = λ is. absurd (subst IsSimulate (sym c.in-Simulate.is ∙ is) tt)
+
+pub returns-in-Simulate-clause-explained : goal.returns-in-Simulate-clause-explained
+returns-in-Simulate-clause-explained g c = λ is. absurd (subst IsSimulate (sym c.in-Simulate.is ∙ is) tt)
+
+pub returns-in-Simulate-clause-plain_ports : goal.returns-in-Simulate-clause-plain_ports
+returns-in-Simulate-clause-plain_ports g c = λ _ is. absurd (subst IsSimulate (sym c.in-Simulate.is ∙ is) tt)
+
+pub returns-in-Simulate-clause-reads_steady : goal.returns-in-Simulate-clause-reads_steady
+returns-in-Simulate-clause-reads_steady g c = λ _ is. absurd (subst IsSimulate (sym c.in-Simulate.is ∙ is) tt)
+
+pub returns-in-Simulate-clause-live : goal.returns-in-Simulate-clause-live
+returns-in-Simulate-clause-live g c = λ _ is. absurd (subst IsSimulate (sym c.in-Simulate.is ∙ is) tt)
+
+pub returns-in-Simulate-clause-recorded : goal.returns-in-Simulate-clause-recorded
+returns-in-Simulate-clause-recorded g c = λ _ is. absurd (subst IsSimulate (sym c.in-Simulate.is ∙ is) tt)
+
+pub returns-in-Simulate-clause-discovers : goal.returns-in-Simulate-clause-discovers
+returns-in-Simulate-clause-discovers g c = λ _ is. absurd (subst IsSimulate (sym c.in-Simulate.is ∙ is) tt)
+
+pub returns-in-Simulate-clause-describes : goal.returns-in-Simulate-clause-describes
+returns-in-Simulate-clause-describes g c = λ _ is. absurd (subst IsSimulate (sym c.in-Simulate.is ∙ is) tt)
+
+pub returns-in-Simulate-clause-receives : goal.returns-in-Simulate-clause-receives
+returns-in-Simulate-clause-receives g c = λ _ is. absurd (subst IsSimulate (sym c.in-Simulate.is ∙ is) tt)
+
+pub returns-in-Receive-clause-cause : goal.returns-in-Receive-clause-cause
+returns-in-Receive-clause-cause g c = λ _ is. absurd (subst IsReceive (sym c.in-Receive.is ∙ is) tt)
+
+pub returns-in-Receive-clause-exact : goal.returns-in-Receive-clause-exact
+returns-in-Receive-clause-exact g c = λ _ is. absurd (subst IsReceive (sym c.in-Receive.is ∙ is) tt)
+
+pub returns-in-Receive-clause-headline : goal.returns-in-Receive-clause-headline
+returns-in-Receive-clause-headline g c = λ is. absurd (subst IsReceive (sym c.in-Receive.is ∙ is) tt)
+
+pub returns-in-Receive-clause-explained : goal.returns-in-Receive-clause-explained
+returns-in-Receive-clause-explained g c = λ is. absurd (subst IsReceive (sym c.in-Receive.is ∙ is) tt)
+
+pub returns-in-Receive-clause-plain_ports : goal.returns-in-Receive-clause-plain_ports
+returns-in-Receive-clause-plain_ports g c = λ _ is. absurd (subst IsReceive (sym c.in-Receive.is ∙ is) tt)
+
+pub returns-in-Receive-clause-reads_steady : goal.returns-in-Receive-clause-reads_steady
+returns-in-Receive-clause-reads_steady g c = λ _ is. absurd (subst IsReceive (sym c.in-Receive.is ∙ is) tt)
+
+pub returns-in-Receive-clause-live : goal.returns-in-Receive-clause-live
+returns-in-Receive-clause-live g c = λ _ is. absurd (subst IsReceive (sym c.in-Receive.is ∙ is) tt)
+
+pub returns-in-Receive-clause-recorded : goal.returns-in-Receive-clause-recorded
+returns-in-Receive-clause-recorded g c = λ _ is. absurd (subst IsReceive (sym c.in-Receive.is ∙ is) tt)
+
+pub returns-in-Receive-clause-discovers : goal.returns-in-Receive-clause-discovers
+returns-in-Receive-clause-discovers g c = λ _ is. absurd (subst IsReceive (sym c.in-Receive.is ∙ is) tt)
+
+pub returns-in-Receive-clause-describes : goal.returns-in-Receive-clause-describes
+returns-in-Receive-clause-describes g c = λ _ is. absurd (subst IsReceive (sym c.in-Receive.is ∙ is) tt)
+
+pub returns-in-Receive-clause-simulates : goal.returns-in-Receive-clause-simulates
+returns-in-Receive-clause-simulates g c = λ _ is. absurd (subst IsReceive (sym c.in-Receive.is ∙ is) tt)
