@@ -58,3 +58,21 @@ writes_kept n camera stream answer o e written written_after faults faults_after
     wrote_kept answer _ written written_after faults faults_after run.ended.wrote other
 writes_kept n camera stream answer o e written written_after faults faults_after h (inl (one, inr never)) other = never.no_fault
 writes_kept n camera stream answer o e written written_after faults faults_after h (inr (more, inr never)) other = never.no_fault
+
+never_usage : (answer : Status) (place : ℕ) → answer ≡ NoMemory → answer ≡ Usage place → ⊥
+never_usage answer place wanted is = let bad : Usage place ≡ NoMemory = sym is ∙ wanted in cc
+
+wrote_usage : (answer : Status) (place : ℕ) (text : List ℕ) (written written_after : Option (List ℕ)) (faults faults_after : ℕ) → Wrote answer text written written_after faults faults_after
+    → answer ≢ Usage place
+wrote_usage answer place text written written_after faults faults_after wrote is =
+    subst (λ (a : Status). Wrote a text written written_after faults faults_after) is wrote
+
+-- the answer of a run is none to words
+pub run_understood : (n : LiveNumbers) (camera stream : Address) (answer : Status) (o e : Told) (written written_after : Option (List ℕ)) (faults faults_after : ℕ) (h : List Entry)
+    → RunsSo n camera stream answer o e written written_after faults faults_after h → (place : ℕ) → answer ≢ Usage place
+run_understood n camera stream answer o e written written_after faults faults_after h (inl (one, inl run)) place is =
+    wrote_usage answer place _ written written_after faults faults_after run.ended.wrote is
+run_understood n camera stream answer o e written written_after faults faults_after h (inr (more, inl run)) place is =
+    wrote_usage answer place _ written written_after faults faults_after run.ended.wrote is
+run_understood n camera stream answer o e written written_after faults faults_after h (inl (one, inr never)) place is = never_usage answer place never.wanted is
+run_understood n camera stream answer o e written written_after faults faults_after h (inr (more, inr never)) place is = never_usage answer place never.wanted is

@@ -1,4 +1,7 @@
-use Rattle.std.proofs.Common.{◌∙◌}
+-- Both links go back, in the order in which they came.
+use Rattle.std.proofs.Common.{◌∙◌, subst}
+use Rattle.gev_links.specs.Given.{ToldOfThree}
+use Rattle.gev_program.proofs.Backs.{two_back}
 use Rattle.gev_program.proofs.binding.bind_last.Goals as goal
 
 pub returns-in-Ok-clause-camera : goal.returns-in-Ok-clause-camera
@@ -33,3 +36,9 @@ returns-in-Ok-clause-clocks g c = c.with_clocks.ensures.clocks ∙ c.in-Ok.ensur
 
 pub returns-in-Ok-clause-no_fault : goal.returns-in-Ok-clause-no_fault
 returns-in-Ok-clause-no_fault g c = c.with_clocks.ensures.faults ∙ c.in-Ok.ensures.no_fault
+
+pub returns-in-Err-clause-back : goal.returns-in-Err-clause-back
+returns-in-Err-clause-back g c =
+    two_back _ (g.P.Ports.links c.unbind.new.self) _ c.args.camera c.args.stream
+    (subst (λ old. ToldOfThree old (g.P.Ports.links c.unbind.new.self) c.args.camera) c.in-Err.ensures.links c.unbind.ensures.links)
+    (search depth 0)

@@ -18,3 +18,18 @@ pub returns-clause-complete : goal.returns-clause-complete
 returns-clause-complete g c =
     λ none_written none.
     receive_ends c.receive_over.result _ _ _ _ c.receive_over.ensures.answers c.receive_over.ensures.link_failed c.receive_over.ensures.write_failed none_written none
+
+pub returns-clause-alone : goal.returns-clause-alone
+returns-clause-alone g c = c.receive_over.ensures.alone
+
+pub returns-clause-own : goal.returns-clause-own
+returns-clause-own g c = c.receive_over.ensures.own
+
+pub returns-clause-link_fault : goal.returns-clause-link_fault
+returns-clause-link_fault g c = c.receive_over.ensures.link_failed
+
+pub returns-clause-links_steady : goal.returns-clause-links_steady
+returns-clause-links_steady g c = c.receive_over.ensures.link_steady
+
+pub returns-clause-writes_steady : goal.returns-clause-writes_steady
+returns-clause-writes_steady g c = c.receive_over.ensures.write_steady

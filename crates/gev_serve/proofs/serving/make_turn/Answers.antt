@@ -11,3 +11,6 @@ returns-in-Ok g c = record {
       (g.C.Clock.told c.args.clock.now) (g.C.Clock.told c.now-moment.new.self) c.in-Ok.came c.recv.new.out c.now-moment.result
       c.in-Ok.ensures.received c.in-Ok.ensures.sent c.in-Ok.ensures.no_fault c.now-moment.ensures.told c.serve_once.ensures.sends c.serve_once.ensures.state c.serve_once.ensures.block;
 }
+
+pub recv-requires : goal.recv-requires
+recv-requires g c = record { room = assumption }

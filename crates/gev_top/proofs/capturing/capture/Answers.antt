@@ -1,5 +1,7 @@
+use Rattle.std.proofs.Common.{ap, ◌∙◌}
 use Rattle.capture_runs.specs.Ends.{RunEnds}
 use Rattle.capture_script.specs.Script.{capture_script, begun_script, has_datagram}
+use Rattle.gev_top.specs.Capturing.{script_status}
 use Rattle.gev_top.proofs.Captured.{script_stands_by, script_told, script_is_whole}
 use Rattle.gev_top.proofs.capturing.capture.Goals as goal
 
@@ -16,3 +18,6 @@ returns-clause-exact g c =
 
 pub returns-clause-reads_steady : goal.returns-clause-reads_steady
 returns-clause-reads_steady g c read = c.write_capture.ensures.reads_steady (script_is_whole c.args.port c.write_capture.result c.script_status.result c.script_status.ensures read)
+
+pub returns-clause-writes_steady : goal.returns-clause-writes_steady
+returns-clause-writes_steady g c = λ steady. c.write_capture.ensures.writes_steady (λ is. steady (c.script_status.ensures ∙ ap (script_status c.args.port) is))

@@ -1,5 +1,7 @@
+use Rattle.std.proofs.Common.{ap, ◌∙◌}
 use Rattle.capture_runs.specs.Ends.{RunEnds}
 use Rattle.capture_streams.specs.Texts.{streams_text, listed_text, always}
+use Rattle.gev_top.specs.Capturing.{status_from}
 use Rattle.gev_top.proofs.Captured.{stands_by, capture_told, is_whole}
 use Rattle.gev_top.proofs.capturing.streams.Goals as goal
 
@@ -16,3 +18,6 @@ returns-clause-exact g c =
 
 pub returns-clause-reads_steady : goal.returns-clause-reads_steady
 returns-clause-reads_steady g c read = c.list_streams.ensures.reads_steady (is_whole c.list_streams.result c.status_from.result c.status_from.ensures read)
+
+pub returns-clause-writes_steady : goal.returns-clause-writes_steady
+returns-clause-writes_steady g c = λ steady. c.list_streams.ensures.writes_steady (λ is. steady (c.status_from.ensures ∙ ap status_from is))

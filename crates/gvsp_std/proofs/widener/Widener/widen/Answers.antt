@@ -1,4 +1,4 @@
-use Rattle.std.proofs.Common.{ℕ, ◌∙◌, sym, ap, arith}
+use Rattle.std.proofs.Common.{ℕ, ◌∙◌, refl, sym, ap, arith, rules}
 use Rattle.std.specs.Prelude.{max}
 use Rattle.gvsp_wire.specs.Plain.{AreBytes}
 use Rattle.gvsp_std.specs.Widening.{wide_in}
@@ -12,6 +12,9 @@ write_wide-len-requires-clause-room c =
     (sym c.self.view_is) (sym c.chosen.ensures ∙ c.in-Some.is) in
     let room = c.requires.room (c.in-Some.block, wide_in c.in-Some.block c.args.bytes.now) is in
     omega (arith, room, wide_long c.in-Some.block c.args.bytes.now c.if-bytes-lt-STANDARD_SIZE.false)
+
+pub returns-in_default-clause-answer : goal.returns-in_default-clause-answer
+returns-in_default-clause-answer c = record { is = first_of (search rules, grind arith); top_stays = cc; out_stays = refl }
 
 pub returns-clause-answer : goal.returns-clause-answer
 returns-clause-answer c =
