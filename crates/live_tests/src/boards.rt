@@ -1,16 +1,17 @@
 //! Boards for the tests of lanes, and the blocks that they are told of.
 
-ghost use Rattle.std.specs.Prelude.{◌≡◌, ◌<◌, IfOk};
+ghost use Rattle.std.specs.Prelude.{◌≡◌, ◌≤◌, IfOk};
 ghost use Rattle.buffer_words.specs.Boards.{board_id};
+ghost use Rattle.gev_types.specs.Limits.{place_count};
 
 use acq_core::AcqConfig;
 use board_calls::TakeEnd;
 use buffer_words::{Board, Pass};
-use gev_types::{Buf, Peer};
+use gev_types::{Buf, NoMemory, Peer};
+use live_crew::prepare;
 use output_queue::take;
 use std::alloc::Global;
 use std::sync::Wait;
-use std::test::Fail;
 
 pub const CAMERA: Peer = Peer {
     address: 0x7f00_0001,
@@ -47,51 +48,25 @@ pub const PACKETS: &[Option<(&[u8], Peer)>] = &[
     )),
 ];
 
-// Announces a buffer of 4 bytes at a place and puts it into the pool.
-fn bring(alloc: Global, board: &Board, pass: &mut Pass, place: u8) -> Result<(), Fail>
-    requires table { pass.old.table ≡ board_id board.now }
-    requires in_range { place < 15 }
-    ensures table { pass.new.table ≡ pass.old.table }
-{
-    let buf = Buf::new(alloc, 4)?;
-    match board.enrol(pass, place, buf) {
-        Ok(_) => {
-            board.pool(pass, place);
-            Ok(())
-        }
-        Err(_) => Err(Fail::new("not vacant")),
-    }
-}
-
-// The same at place 1, where two buffers are wanted.
-fn bring_second(alloc: Global, board: &Board, pass: &mut Pass, buffers: u8) -> Result<(), Fail>
-    requires table { pass.old.table ≡ board_id board.now }
-    ensures table { pass.new.table ≡ pass.old.table }
-{
-    if buffers < 2 {
-        return Ok(());
-    }
-    bring(alloc, board, pass, 1)
-}
-
-// Starts the acquisition, with one or two buffers in the pool.
-fn start(alloc: Global, board: &Board, pass: &mut Pass, buffers: u8) -> Result<(), Fail>
-    requires table { pass.old.table ≡ board_id board.now }
-    ensures table { pass.new.table ≡ pass.old.table }
-{
-    bring(alloc, board, pass, 0)?;
-    bring_second(alloc, board, pass, buffers)?;
-    let _ = board.start(pass);
-    Ok(())
-}
-
-// A board whose acquisition runs, with one or two buffers in the pool.
-pub fn new_board(alloc: Global, buffers: u8) -> Result<(Board, Pass), Fail>
+// A board whose acquisition runs, with so many buffers of 4 bytes in the pool.
+pub fn new_board(alloc: Global, buffers: u8) -> Result<(Board, Pass), NoMemory>
+    requires few { buffers ≤ place_count }
     ensures table { IfOk result (λ made. made.1.table ≡ board_id made.0) }
 {
     let (board, mut pass) = Board::new(alloc)?;
-    start(alloc, &board, &mut pass, buffers)?;
+    prepare(alloc, &board, &mut pass, 4, buffers)?;
     Ok((board, pass))
+}
+
+/// The block of this buffer; 9 where it isn't the block's whole image.
+fn whole_block(buf: &Buf) -> u64 {
+    let block = buf.rec().block;
+    let image: &[u8] = if block == 1 { b"abc\0" } else { b"xyz\0" };
+    if buf.rec().complete && buf.bytes() == image {
+        block
+    } else {
+        9
+    }
 }
 
 // The block of the first buffer in the output; 0 where there is none, and 9 where it isn't the block's whole image.
@@ -102,11 +77,9 @@ pub fn next_block<R: Wait>(rt: &R, board: &Board, pass: &mut Pass) -> u64
     match take(rt, board, pass) {
         TakeEnd::Taken(place) => {
             let buf = board.lift(pass, place);
-            let block = buf.rec().block;
-            let image: &[u8] = if block == 1 { b"abc\0" } else { b"xyz\0" };
-            let is_whole = buf.rec().complete && buf.bytes() == image;
+            let block = whole_block(&buf);
             board.set_down(pass, place, buf);
-            if is_whole { block } else { 9 }
+            block
         }
         _ => 0,
     }

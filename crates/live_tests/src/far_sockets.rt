@@ -1,5 +1,6 @@
 //! Sockets that are bound towards a peer, at a port and for broadcasts, and looks at what waits in one.
 
+use crate::sockets::{LOOKS, gets};
 use gev_far::{FarPorts, PeekLink};
 use gev_links::{Link, Ports, Source};
 use gev_real::{RealPorts, StandardInput, UdpLink};
@@ -8,22 +9,6 @@ use std::fs::Files;
 use std::net::Net;
 use std::test::Fail;
 use std::time::Clock as Time;
-
-/// How often a test looks for a datagram that was sent.
-const LOOKS: u32 = 1_000;
-
-/// Whether this datagram is the next one that comes, from this sender.
-fn gets(link: &mut UdpLink, want: &[u8], from: Peer) -> bool {
-    let mut out = [0xee; 9000];
-    for _ in 0..LOOKS {
-        match link.recv(&mut out) {
-            Ok(Some((count, peer))) => return &out[..count] == want && peer == from,
-            Ok(None) => {}
-            Err(_) => return false,
-        }
-    }
-    false
-}
 
 /// Whether a look of at most 16 bytes finds this datagram, from this sender.
 fn shows(link: &mut UdpLink, want: &[u8], from: Peer) -> bool {
@@ -62,6 +47,14 @@ fn shows_and_gets(here: &mut UdpLink, from: Peer) -> bool {
         && here.faults() == 0
 }
 
+/// Whether a look at this new link shows nothing, and what the peer's link then sends to its address comes.
+fn hears(here: &mut UdpLink, own: Peer, there: &mut UdpLink, peer: Peer) -> bool {
+    is_silent(here)
+        && there.send(own, &[1, 2, 3]).is_ok()
+        && there.send(own, &[4]).is_ok()
+        && shows_and_gets(here, peer)
+}
+
 /// Whether a link towards this peer has an address of its own, and what the peer's link sends there comes.
 fn hears_the_peer<R: Net + Time + Files + Sync>(
     ports: &mut RealPorts<'_, R>,
@@ -71,11 +64,9 @@ fn hears_the_peer<R: Net + Time + Files + Sync>(
     match ports.bind_towards(peer) {
         Ok((mut here, own)) => {
             let stands = own.address == 0x7f00_0001 && own.port != 0 && own != peer;
-            let silent = stands && is_silent(&mut here);
-            let sent = there.send(own, &[1, 2, 3]).is_ok() && there.send(own, &[4]).is_ok();
-            let came = sent && shows_and_gets(&mut here, peer);
+            let heard = stands && hears(&mut here, own, there, peer);
             ports.unbind(here);
-            silent && came
+            heard
         }
         Err(_) => false,
     }
@@ -163,6 +154,17 @@ fn sends_many(link: &mut UdpLink, to: Peer, count: u64) -> bool {
     true
 }
 
+/// Whether the system has dropped anything of this link's, where it tells.
+fn has_drops<R: Net + Time + Files + Sync>(
+    ports: &RealPorts<'_, R>,
+    link: &UdpLink,
+) -> Option<bool> {
+    match ports.drops(link) {
+        Some(told) => Some(told.datagrams > 0),
+        None => None,
+    }
+}
+
 /// Whether the system tells of drops of the link here, once its room is full, and of none of the link there.
 fn drops_are_told<R: Net + Time + Files + Sync>(
     ports: &RealPorts<'_, R>,
@@ -170,12 +172,14 @@ fn drops_are_told<R: Net + Time + Files + Sync>(
     here: &UdpLink,
     own: Peer,
 ) -> bool {
-    let before = ports.drops(here);
-    let room = before.map_or(0, |told| told.socket_bytes);
-    before.is_some_and(|told| told.datagrams == 0 && told.socket_bytes > 0)
-        && sends_many(there, own, room / 8000 + 3)
-        && ports.drops(here).is_some_and(|told| told.datagrams > 0)
-        && ports.drops(there).is_some_and(|told| told.datagrams == 0)
+    let Some(before) = ports.drops(here) else {
+        return false;
+    };
+    before.datagrams == 0
+        && before.socket_bytes > 0
+        && sends_many(there, own, before.socket_bytes / 8000 + 3)
+        && has_drops(ports, here) == Some(true)
+        && has_drops(ports, there) == Some(false)
 }
 
 /// Whether drops are told of the next link of these ports, to which this link sends.

@@ -37,9 +37,8 @@ fn next_message<R: Wait>(rt: &R, lanes: &Lanes, lane: &mut LaneEnds) -> (u64, Ce
     message
 }
 
-// A datagram, a moment and the end reach the lane, and the moment of a last cell comes no second time; then a request and
-// no other reaches the reader.
-fn goes_round<R: Wait>(
+/// Whether a datagram, a moment and the end reach the lane, and the moment of a last cell comes no second time.
+fn cells_come<R: Wait>(
     rt: &R,
     lanes: &Lanes,
     reader: &mut ReaderEnds,
@@ -50,6 +49,8 @@ fn goes_round<R: Wait>(
     requires kept { AreKept reader.old }
     requires number { number < length lanes.now }
     requires lane { IsLaneAt lanes.now lane.old }
+    ensures reader { AreReadersOf lanes.now reader.new }
+    ensures lane { IsLaneAt lanes.now lane.new }
 {
     lanes.bring(rt, reader, number, 5, &[7, 8, 9]);
     lanes.tick(rt, reader, number, 5);
@@ -58,14 +59,27 @@ fn goes_round<R: Wait>(
     let first = next_message(rt, lanes, lane);
     let second = next_message(rt, lanes, lane);
     let third = next_message(rt, lanes, lane);
-    lanes.put_request(rt, lane, [4; 28]);
-    let request = lanes.ask(rt, reader, number);
-    let none = lanes.ask(rt, reader, number);
     first == (5, CellKind::Datagram(3), 7)
         && second == (6, CellKind::Tick, 0)
         && third == (0, CellKind::End, 0)
-        && request == Some([4; 28])
-        && none.is_none()
+}
+
+/// Whether a request of the lane reaches the reader, and no other.
+fn request_comes<R: Wait>(
+    rt: &R,
+    lanes: &Lanes,
+    reader: &mut ReaderEnds,
+    number: usize,
+    lane: &mut LaneEnds,
+) -> bool
+    requires reader { AreReadersOf lanes.now reader.old }
+    requires number { number < length lanes.now }
+    requires lane { IsLaneAt lanes.now lane.old }
+{
+    lanes.put_request(rt, lane, [4; 28]);
+    let request = lanes.ask(rt, reader, number);
+    let none = lanes.ask(rt, reader, number);
+    request == Some([4; 28]) && none.is_none()
 }
 
 /// Whether a datagram, a moment and the end reach the last of these lanes in order, and one request of it the reader.
@@ -84,7 +98,8 @@ fn last_goes_round<R: Wait>(
         Some(mut lane) => {
             let number = lanes.count() - 1;
             lane_ends_cross(reader, &lane);
-            goes_round(rt, lanes, reader, number, &mut lane)
+            cells_come(rt, lanes, reader, number, &mut lane)
+                && request_comes(rt, lanes, reader, number, &mut lane)
         }
         None => false,
     }

@@ -9,10 +9,10 @@ use std::test::Fail;
 use std::time::Clock as Time;
 
 /// How often a test looks for a datagram that was sent.
-const LOOKS: u32 = 1_000;
+pub const LOOKS: u32 = 1_000;
 
 /// Whether this datagram is the next one that comes, from this sender.
-fn gets(link: &mut UdpLink, want: &[u8], from: Peer) -> bool {
+pub fn gets(link: &mut UdpLink, want: &[u8], from: Peer) -> bool {
     let mut out = [0xee; 9000];
     for _ in 0..LOOKS {
         match link.recv(&mut out) {
@@ -45,13 +45,18 @@ fn gets_nothing(link: &mut UdpLink) -> bool {
     matches!(link.recv(&mut out), Ok(None)) && link.faults() == 0
 }
 
-/// Whether these links, which are bound here and there, send to each other. A datagram that is longer than a short slice
-/// is cut, and the next one is whole. A link has no fault by a receive that gets nothing.
+/// Whether what one link sends comes here: a datagram that is longer than a short slice is cut, and the next one is whole.
+fn sends_two(sender: &mut UdpLink, there: Peer, receiver: &mut UdpLink, here: Peer) -> bool {
+    sender.send(here, &[5; 1602]).is_ok()
+        && sender.send(here, &[7]).is_ok()
+        && gets_front(receiver, &[5; 1600], there)
+        && gets(receiver, &[7], there)
+}
+
+/// Whether these links, which are bound here and there, send to each other. A link has no fault by a receive that gets
+/// nothing.
 fn send_both_ways(waiting: &mut UdpLink, here: Peer, looking: &mut UdpLink, there: Peer) -> bool {
-    looking.send(here, &[5; 1602]).is_ok()
-        && looking.send(here, &[7]).is_ok()
-        && gets_front(waiting, &[5; 1600], there)
-        && gets(waiting, &[7], there)
+    sends_two(looking, there, waiting, here)
         && waiting.send(there, &[8, 9]).is_ok()
         && gets(looking, &[8, 9], here)
         && gets_nothing(waiting)

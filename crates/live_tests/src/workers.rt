@@ -1,7 +1,8 @@
 //! Two lanes and their reader, one after the other on one thread.
 
-ghost use Rattle.std.specs.Prelude.{◌≡◌, ◌<◌, length};
+ghost use Rattle.std.specs.Prelude.{◌≡◌, ◌<◌, ◌≤◌, length};
 ghost use Rattle.buffer_words.specs.Boards.{board_id};
+ghost use Rattle.gev_types.specs.Limits.{place_count};
 ghost use Rattle.gev_lanes.specs.Sides.{AreReadersOf, AreKept, AreLanesOf, IsLaneAt};
 
 use crate::boards::{CAMERA, ONE_BLOCK, PACKETS, new_board, next_block};
@@ -16,7 +17,6 @@ use lane_crew::lane;
 use lane_reader::read_lanes;
 use mode_calls::Mode;
 use std::alloc::Global;
-use std::process::Abort;
 use std::sync::Wait;
 use std::test::Fail;
 
@@ -135,18 +135,20 @@ fn serves_blocks<R: Wait>(
     serves_links(rt, alloc, board, pass, &mut stream, &mut control, mode)
 }
 
-/// The blocks of two takes, once all that came was served.
-fn blocks_served<R: Abort + Wait>(
+/// Whether all that came was served, and the blocks of two takes behind that.
+fn blocks_served<R: Wait>(
     rt: &R,
     alloc: Global,
     buffers: u8,
     mode: Mode,
-) -> Result<(u64, u64), Fail> {
+) -> Result<(bool, u64, u64), NoMemory>
+    requires few { buffers ≤ place_count }
+{
     let (board, mut pass) = new_board(alloc, buffers)?;
-    assert!(rt; serves_blocks(rt, alloc, &board, &mut pass, mode)?);
+    let served = serves_blocks(rt, alloc, &board, &mut pass, mode)?;
     let first = next_block(rt, &board, &mut pass);
     let second = next_block(rt, &board, &mut pass);
-    Ok((first, second))
+    Ok((served, first, second))
 }
 
 // Two lanes fill a block each; with one buffer, which waits with block 2, lane 0 overwrites it; and where lane 0 has a
@@ -154,8 +156,8 @@ fn blocks_served<R: Abort + Wait>(
 #[test]
 fn two_lanes_fill_by_the_mode(rt: HostRuntime) -> Result<(), Fail> {
     let alloc = rt.alloc();
-    assert!(rt; blocks_served(&rt, alloc, 2, Mode::OldestFirst)? == (2, 1));
-    assert!(rt; blocks_served(&rt, alloc, 1, Mode::OldestFirstOverwrite)? == (1, 0));
-    assert!(rt; blocks_served(&rt, alloc, 2, Mode::NewestOnly)? == (1, 0));
+    assert!(rt; blocks_served(&rt, alloc, 2, Mode::OldestFirst)? == (true, 2, 1));
+    assert!(rt; blocks_served(&rt, alloc, 1, Mode::OldestFirstOverwrite)? == (true, 1, 0));
+    assert!(rt; blocks_served(&rt, alloc, 2, Mode::NewestOnly)? == (true, 1, 0));
     Ok(())
 }

@@ -2,7 +2,7 @@
 use Rattle.std.proofs.Common.{arith}
 use Rattle.gev_lanes.proofs.News.{readers_length}
 use Rattle.live_tests.proofs.Kept.{bring_keeps, tick_keeps, kept_at}
-use Rattle.live_tests.proofs.rounds.goes_round.Goals as goal
+use Rattle.live_tests.proofs.rounds.cells_come.Goals as goal
 
 pub end-requires-clause-kept : goal.end-requires-clause-kept
 end-requires-clause-kept g c =
