@@ -1,6 +1,0 @@
-use Rattle.std.proofs.Common.{◌≡◌}
-use Rattle.buffer_words.specs.Passes.{IsEmptyHanded}
-use Rattle.board_tests.proofs.call_meeting.fill_pool.Given as goal
-
-abbrev pub invariant-fills : goal.invariant-fills
-invariant-fills g l = (l.pass.table ≡ l.fn.pass.table) × IsEmptyHanded l.pass

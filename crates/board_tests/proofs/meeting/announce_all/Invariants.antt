@@ -1,6 +1,0 @@
-use Rattle.std.proofs.Common.{◌≡◌}
-use Rattle.buffer_words.specs.Passes.{IsEmptyHanded}
-use Rattle.board_tests.proofs.meeting.announce_all.Given as goal
-
-abbrev pub invariant-buffers : goal.invariant-buffers
-invariant-buffers l = (l.pass.table ≡ l.fn.pass.table) × IsEmptyHanded l.pass

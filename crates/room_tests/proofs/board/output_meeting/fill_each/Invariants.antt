@@ -1,0 +1,6 @@
+use Rattle.std.proofs.Common.{◌≡◌}
+use Rattle.buffer_words.specs.Passes.{IsEmptyHanded}
+use Rattle.room_tests.proofs.board.output_meeting.fill_each.Given as goal
+
+abbrev pub invariant-loop-place : goal.invariant-loop-place
+invariant-loop-place g l = (l.pass.table ≡ l.fn.pass.table) × IsEmptyHanded l.pass
