@@ -30,7 +30,7 @@ use Rattle.receive_lines.specs.declared.receive_counts.ReceiveCounts.{ReceiveCou
 use Rattle.receive_answers.specs.Answers.{control_status, leader_status, reader_status, handed_status, leave_status, rank, weightier, is_lost, is_told, StreamEnd}
 use Rattle.gev_receive.specs.Ending.{has_last, wrote, failed, lacked, EndsWith}
 use Rattle.gev_receive.specs.Receives.{control_part, Streams, unled, undrawn, streamed, Meets}
-use Rattle.receive_causes.proofs.Reception.{receptions_have}
+use Rattle.receive_promises.proofs.Reception.{receptions_have}
 use Rattle.receive_promises.specs.Meaning.{is_written, WritesTexts}
 use Rattle.receive_promises.specs.Received.{KeepsStream, StopsUnless, StopsHeld, KeepsMeeting}
 use Rattle.receive_promises.specs.Written.{lent_by_stream, lent_by_meeting, last_if, WritesRun, ReceptionsKeepPromises}

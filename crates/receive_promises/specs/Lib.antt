@@ -1,3 +1,8 @@
+pub mod Acts
+pub mod Causes
+pub mod Commands
+pub mod Silence
+pub mod Reception
 pub mod FramesRun
 pub mod Meaning
 pub mod Promises

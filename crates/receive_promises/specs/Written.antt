@@ -17,7 +17,7 @@ use Rattle.receive_lines.specs.ReceiveLine.{receive_line}
 use Rattle.receive_answers.specs.Answers.{StreamEnd, is_told}
 use Rattle.gev_receive.specs.Ending.{has_last, with_strangers}
 use Rattle.gev_receive.specs.Receives.{Told, sum_of, Streams, unled, undrawn, streamed, Meets, Receives}
-use Rattle.receive_causes.specs.Reception.{ReceptionHasCauses}
+use Rattle.receive_promises.specs.Reception.{ReceptionHasCauses}
 use Rattle.receive_promises.specs.Received.{KeepsStream, KeepsMeeting}
 
 -- ---- which buffers

@@ -13,10 +13,10 @@ use Rattle.receive_lines.specs.declared.receive_counts.ReceiveCounts.{ReceiveCou
 use Rattle.receive_answers.specs.Answers.{control_status, leave_status, rank, weightier, is_lost}
 use Rattle.gev_receive.specs.Ending.{has_last, WritesLast, wrote, failed, lacked, EndsWith}
 use Rattle.gev_receive.specs.Receives.{SEND_LIMIT, host_side, control_part, LeavesUnless, LeavesHeld, Meets}
-use Rattle.receive_causes.specs.Reception.{WasSilent, IsOrLacks, ReceptionsHaveCauses}
-use Rattle.receive_causes.proofs.Meeting.{meeting_causes}
-use Rattle.receive_causes.proofs.Streaming.{stream_silent}
-use Rattle.receive_causes.proofs.Weights.{which, never_silent}
+use Rattle.receive_promises.specs.Reception.{WasSilent, IsOrLacks, ReceptionsHaveCauses}
+use Rattle.receive_promises.proofs.Meeting.{meeting_causes}
+use Rattle.receive_promises.proofs.Streaming.{stream_silent}
+use Rattle.receive_promises.proofs.Weights.{which, never_silent}
 
 -- ---- silence
 

@@ -17,11 +17,11 @@ use Rattle.camera_control.specs.declared.step.Step.{Step}
 use Rattle.camera_control.specs.declared.step.Step.TheVariants as step
 use Rattle.camera_control.specs.Steps.{commands_in, read_of}
 use Rattle.camera_control.specs.Taking.{Makes}
-use Rattle.receive_causes.specs.Acts.{Act, turns, clocked, behind_all, HasActed, NoneLost, Ended, ended_in, submitted_if, submitted_in, asked_in}
-use Rattle.receive_causes.specs.Causes.{Answers}
-use Rattle.receive_causes.proofs.Acting.{behind-append, ended-append, submitted-append, asked-append, whole_both}
-use Rattle.receive_causes.proofs.Lists.{given_at, given_in, gets_of, turn_acts, list_acts, IsQuiet, AreQuiet, next_is, turn_behind, carried_quiet, carried_acted}
-use Rattle.receive_causes.proofs.Outstanding.{IsOut, Came, came_so, tick_out, after_came}
+use Rattle.receive_promises.specs.Acts.{Act, turns, clocked, behind_all, HasActed, NoneLost, Ended, ended_in, submitted_if, submitted_in, asked_in}
+use Rattle.receive_promises.specs.Causes.{Answers}
+use Rattle.receive_promises.proofs.Acting.{behind-append, ended-append, submitted-append, asked-append, whole_both}
+use Rattle.receive_promises.proofs.Lists.{given_at, given_in, gets_of, turn_acts, list_acts, IsQuiet, AreQuiet, next_is, turn_behind, carried_quiet, carried_acted}
+use Rattle.receive_promises.proofs.Outstanding.{IsOut, Came, came_so, tick_out, after_came}
 
 -- Among these acts the client gave a command up; up to then no send had failed.
 pub record GaveUp (req : ℕ) (s : Client) (acts : List Act) : Type 0 where

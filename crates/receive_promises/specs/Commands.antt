@@ -10,8 +10,8 @@ use Rattle.acquisition_machine.specs.Machine.{Request as Resend, request_bytes}
 use Rattle.packet_requests.specs.declared.id_mode.IdMode.{IdMode}
 use Rattle.packet_requests.specs.Requests.{control_request}
 use Rattle.camera_control.specs.Steps.{CAPABILITY, read_of, allows_resends}
-use Rattle.receive_causes.specs.Acts.{Act, turns, with_given, behind_all, Ended, ended_in, submitted_in, asked_in}
-use Rattle.receive_causes.specs.Causes.{Answers, value_in}
+use Rattle.receive_promises.specs.Acts.{Act, turns, with_given, behind_all, Ended, ended_in, submitted_in, asked_in}
+use Rattle.receive_promises.specs.Causes.{Answers, value_in}
 
 -- ---- commands, one after the other
 

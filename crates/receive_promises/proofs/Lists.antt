@@ -22,8 +22,8 @@ use Rattle.gev_control.specs.OrderLaws.{tick_outcome}
 use Rattle.gev_control.proofs.OrderEnds.{ends_as_told}
 use Rattle.live_promises.specs.Moves.{Move, sends_all, moves_sent, moves_heard, datagrams}
 use Rattle.live_promises.proofs.Links.{sent-append, heard-append, datagrams-append}
-use Rattle.receive_causes.specs.Acts.{Act, turns, gets, with_given, clocked, behind_all, sent_if, moves_in, AreTimed, HasActed}
-use Rattle.receive_causes.proofs.Acting.{behind-append, moves-append, timed_both}
+use Rattle.receive_promises.specs.Acts.{Act, turns, gets, with_given, clocked, behind_all, sent_if, moves_in, AreTimed, HasActed}
+use Rattle.receive_promises.proofs.Acting.{behind-append, moves-append, timed_both}
 
 -- ---- acts
 

@@ -6,10 +6,10 @@ use Rattle.gvcp_wire.specs.Reading.{ack_reading}
 use Rattle.client_machine.specs.Commands.{next_req}
 use Rattle.client_machine.specs.Machine.{Asked, Client, submitted_with, not_waiting, taken, received}
 use Rattle.client_machine.specs.Events.{Request, request_of, new_request}
-use Rattle.receive_causes.specs.Acts.{Act, turns, gets, asks, with_given, clocked, behind, behind_all, Ended, ended_as, ended_by, ended_in}
-use Rattle.receive_causes.specs.Commands.{IsOver, CommandsWait}
-use Rattle.receive_causes.proofs.Outstanding.{IsOut, TickOut, tick_out, ReceiveOut, receive_out, IsUp, is_up}
-use Rattle.receive_causes.proofs.Stepping.{submit_out}
+use Rattle.receive_promises.specs.Acts.{Act, turns, gets, asks, with_given, clocked, behind, behind_all, Ended, ended_as, ended_by, ended_in}
+use Rattle.receive_promises.specs.Commands.{IsOver, CommandsWait}
+use Rattle.receive_promises.proofs.Outstanding.{IsOut, TickOut, tick_out, ReceiveOut, receive_out, IsUp, is_up}
+use Rattle.receive_promises.proofs.Stepping.{submit_out}
 
 later_over : (r : Request) (s : Client) (a : Act) (rest : List Act) → IsOver r (behind s a) rest → IsOver r s (a ∷ rest)
 later_over r s a rest (inl answered) = inl (record {

@@ -9,7 +9,7 @@ use Rattle.gev_control.specs.Sends.{addressed}
 use Rattle.gev_control.proofs.Fronts.{added_then}
 use Rattle.live_promises.specs.Moves.{Move, moves_sent, moves_heard, datagrams}
 use Rattle.live_promises.proofs.Links.{sent-append, heard-append, datagrams-append}
-use Rattle.receive_causes.specs.Acts.{Act, turns, gets, asks, behind, behind_all, moves_by, moves_in, IsAmong, IsTimed, AreTimed, HasActed, NoneLost, Ended, ended_by, ended_in, submitted_by, submitted_in, asked_by, asked_in}
+use Rattle.receive_promises.specs.Acts.{Act, turns, gets, asks, behind, behind_all, moves_by, moves_in, IsAmong, IsTimed, AreTimed, HasActed, NoneLost, Ended, ended_by, ended_in, submitted_by, submitted_in, asked_by, asked_in}
 
 pub behind-append : (s : Client) (xs ys : List Act) → behind_all s (xs ++ ys) ≡ behind_all (behind_all s xs) ys
 behind-append s [] ys = refl

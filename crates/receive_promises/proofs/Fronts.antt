@@ -19,14 +19,14 @@ use Rattle.camera_control.specs.declared.control_end.ControlEnd.TheVariants as c
 use Rattle.camera_control.specs.Steps.{ACCESS_DENIED, commands_in, is_held, cause_of}
 use Rattle.camera_control.specs.Taking.{Made, steps_in, Halts}
 use Rattle.camera_control.specs.Laws.{commands_of}
-use Rattle.receive_causes.specs.Acts.{HasActed, NoneLost, Ended, ended_in, submitted_in}
-use Rattle.receive_causes.specs.Causes.{value_in, is_held_if, tells_held, first_tells_held}
-use Rattle.receive_causes.specs.Commands.{none, CarriesFront}
-use Rattle.receive_causes.proofs.Acting.{ended-append, acted_then}
-use Rattle.receive_causes.proofs.Outstanding.{Came}
-use Rattle.receive_causes.proofs.Stepping.{GaveUp, Outs, StepCame, step_came}
-use Rattle.receive_causes.proofs.Logs.{EndsBy, LogCame, log_came, commands-append, Awaited, OkStep, AreOk, cause_came}
-use Rattle.receive_causes.proofs.Parts.{CausedIf, caused_later, is_other}
+use Rattle.receive_promises.specs.Acts.{HasActed, NoneLost, Ended, ended_in, submitted_in}
+use Rattle.receive_promises.specs.Causes.{value_in, is_held_if, tells_held, first_tells_held}
+use Rattle.receive_promises.specs.Commands.{none, CarriesFront}
+use Rattle.receive_promises.proofs.Acting.{ended-append, acted_then}
+use Rattle.receive_promises.proofs.Outstanding.{Came}
+use Rattle.receive_promises.proofs.Stepping.{GaveUp, Outs, StepCame, step_came}
+use Rattle.receive_promises.proofs.Logs.{EndsBy, LogCame, log_came, commands-append, Awaited, OkStep, AreOk, cause_came}
+use Rattle.receive_promises.proofs.Parts.{CausedIf, caused_later, is_other}
 
 -- ---- lists of steps
 

@@ -17,10 +17,10 @@ use Rattle.receive_lines.specs.declared.receive_counts.ReceiveCounts.{ReceiveCou
 use Rattle.receive_answers.specs.Answers.{StreamEnd}
 use Rattle.gev_receive.specs.Starting.{writes_at}
 use Rattle.gev_receive.specs.Receives.{Told, SEND_LIMIT, host_side, control_part, wish_of, Streams, unled, undrawn, streamed, Meets, Receives}
-use Rattle.receive_causes.specs.Acts.{Act, HasActed, ended_in}
-use Rattle.receive_causes.specs.Causes.{HadNoAnswer, IsRefused, first_tells_held, HasLost}
-use Rattle.receive_causes.specs.Commands.{SendsCommands}
-use Rattle.receive_causes.specs.Silence.{WaitsSilent, ReadsSilent}
+use Rattle.receive_promises.specs.Acts.{Act, HasActed, ended_in}
+use Rattle.receive_promises.specs.Causes.{HadNoAnswer, IsRefused, first_tells_held, HasLost}
+use Rattle.receive_promises.specs.Commands.{SendsCommands}
+use Rattle.receive_promises.specs.Silence.{WaitsSilent, ReadsSilent}
 
 -- ---- the steps of a run, by its words
 

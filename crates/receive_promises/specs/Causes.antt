@@ -9,7 +9,7 @@ use Rattle.control_client.specs.Values.{value_of}
 use Rattle.camera_control.specs.Steps.{ACCESS_DENIED, read_of, is_held}
 use Rattle.live_promises.specs.Moves.{later_moves}
 use Rattle.live_promises.specs.ClientCauses.{IsUnanswered}
-use Rattle.receive_causes.specs.Acts.{Act, turns, with_given, behind_all, moves_in, Ended}
+use Rattle.receive_promises.specs.Acts.{Act, turns, with_given, behind_all, moves_in, Ended}
 
 -- ---- no answer
 

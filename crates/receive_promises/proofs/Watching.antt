@@ -37,12 +37,12 @@ use Rattle.gev_receive.specs.Receives.{control_part}
 use Rattle.gev_receive.specs.Reader.{EndsReading}
 use Rattle.live_promises.specs.Moves.{moves_sent, moves_heard, datagrams}
 use Rattle.live_promises.proofs.Links.{sent-append, heard-append, datagrams-append}
-use Rattle.receive_causes.specs.Acts.{Act, asks, behind_all, moves_in, AreTimed, HasActed, NoneLost, submitted_in, asked_in}
-use Rattle.receive_causes.specs.Commands.{IsResend}
-use Rattle.receive_causes.proofs.Acting.{behind-append, moves-append, submitted-append, asked-append, timed_both, acted_none, acted_then}
-use Rattle.receive_causes.proofs.Stepping.{Outs}
-use Rattle.receive_causes.proofs.Logs.{Awaited}
-use Rattle.receive_causes.proofs.Parts.{control_acts, is_on, control_behind, control_sent, control_heard, control_timed, control_submits, control_asks, control_outs, CausedIf, control_caused, caused_later}
+use Rattle.receive_promises.specs.Acts.{Act, asks, behind_all, moves_in, AreTimed, HasActed, NoneLost, submitted_in, asked_in}
+use Rattle.receive_promises.specs.Commands.{IsResend}
+use Rattle.receive_promises.proofs.Acting.{behind-append, moves-append, submitted-append, asked-append, timed_both, acted_none, acted_then}
+use Rattle.receive_promises.proofs.Stepping.{Outs}
+use Rattle.receive_promises.proofs.Logs.{Awaited}
+use Rattle.receive_promises.proofs.Parts.{control_acts, is_on, control_behind, control_sent, control_heard, control_timed, control_submits, control_asks, control_outs, CausedIf, control_caused, caused_later}
 
 -- What was done without a command, up to this cause, if it ended all. Where packets may not be asked for again none were.
 pub record WatchCame (camera : Address) (allowed : Bool) (o n : ControlSide) (cause : Option ControlEnd) : Type 0 where

@@ -21,12 +21,12 @@ use Rattle.camera_control.specs.Steps.{ACCESS_DENIED, commands_in, read_of, is_h
 use Rattle.camera_control.specs.Taking.{Made, made_so, Passes, begins, goes_on, steps_in, earlier, refusal_among}
 use Rattle.camera_control.specs.Laws.{commands_of}
 use Rattle.camera_control.proofs.Joining.{steps-append}
-use Rattle.receive_causes.specs.Acts.{Act, behind_all, HasActed, NoneLost, Ended, ended_in, submitted_in, asked_in}
-use Rattle.receive_causes.specs.Causes.{Answers, Accesses, IsRefused, value_in, HasLost}
-use Rattle.receive_causes.specs.Commands.{CarriesEach, none, more, meanwhile}
-use Rattle.receive_causes.proofs.Acting.{ended-append, asked-append, whole_both, acted_none, acted_then}
-use Rattle.receive_causes.proofs.Outstanding.{Came, HasEnded}
-use Rattle.receive_causes.proofs.Stepping.{GaveUp, ForStep, Outs, StepCame, step_came, AnswersStep, answers_step}
+use Rattle.receive_promises.specs.Acts.{Act, behind_all, HasActed, NoneLost, Ended, ended_in, submitted_in, asked_in}
+use Rattle.receive_promises.specs.Causes.{Answers, Accesses, IsRefused, value_in, HasLost}
+use Rattle.receive_promises.specs.Commands.{CarriesEach, none, more, meanwhile}
+use Rattle.receive_promises.proofs.Acting.{ended-append, asked-append, whole_both, acted_none, acted_then}
+use Rattle.receive_promises.proofs.Outstanding.{Came, HasEnded}
+use Rattle.receive_promises.proofs.Stepping.{GaveUp, ForStep, Outs, StepCame, step_came, AnswersStep, answers_step}
 
 -- ---- steps and acknowledges, one by one
 

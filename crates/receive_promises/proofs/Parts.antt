@@ -26,13 +26,13 @@ use Rattle.camera_control.specs.declared.control_end.ControlEnd.TheVariants as c
 use Rattle.camera_control.specs.Steps.{is_held, lost_cause}
 use Rattle.first_leader.specs.Waiting.{beat_cause}
 use Rattle.live_promises.specs.Moves.{sends_all, moves_sent, moves_heard, datagrams}
-use Rattle.receive_causes.specs.Acts.{Act, turns, gets, behind_all, sent_if, moves_in, AreTimed, NoneLost, Ended, ended_as, ended_in, submitted_if, submitted_in, asked_in}
-use Rattle.receive_causes.specs.Causes.{IsRefused, HasLost}
-use Rattle.receive_causes.proofs.Acting.{ended-append, whole_both}
-use Rattle.receive_causes.proofs.Lists.{given_up_idle, taken_idle, ticks_sent}
-use Rattle.receive_causes.proofs.Outstanding.{IsOut, tick_out, StillOut, receive_out, EndsIt}
-use Rattle.receive_causes.proofs.Stepping.{GaveUp, gave_later, Outs}
-use Rattle.receive_causes.proofs.Logs.{Awaited, CauseFrom, refused_later}
+use Rattle.receive_promises.specs.Acts.{Act, turns, gets, behind_all, sent_if, moves_in, AreTimed, NoneLost, Ended, ended_as, ended_in, submitted_if, submitted_in, asked_in}
+use Rattle.receive_promises.specs.Causes.{IsRefused, HasLost}
+use Rattle.receive_promises.proofs.Acting.{ended-append, whole_both}
+use Rattle.receive_promises.proofs.Lists.{given_up_idle, taken_idle, ticks_sent}
+use Rattle.receive_promises.proofs.Outstanding.{IsOut, tick_out, StillOut, receive_out, EndsIt}
+use Rattle.receive_promises.proofs.Stepping.{GaveUp, gave_later, Outs}
+use Rattle.receive_promises.proofs.Logs.{Awaited, CauseFrom, refused_later}
 
 -- ---- acts
 -- where the command was refused the client doesn't tick

@@ -18,8 +18,8 @@ use Rattle.gev_control.specs.declared.acq_end.AcqEnd.{AcqEnd}
 use Rattle.gev_control.specs.declared.acq_end.AcqEnd.TheVariants as how
 use Rattle.gev_control.specs.Controlled.{after_tick}
 use Rattle.gev_control.specs.OrderTurns.{OrderTurned, end_at, hears_order, after_send}
-use Rattle.receive_causes.specs.Acts.{Ended, ended_if, ended_as, ended_in}
-use Rattle.receive_causes.proofs.Lists.{gets_of}
+use Rattle.receive_promises.specs.Acts.{Ended, ended_if, ended_as, ended_in}
+use Rattle.receive_promises.proofs.Lists.{gets_of}
 
 -- a command with this request is outstanding
 abbrev pub IsOut : Request → Client → Type 0

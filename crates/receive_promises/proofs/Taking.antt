@@ -23,13 +23,13 @@ use Rattle.camera_control.specs.declared.taken.Taken.{Taken}
 use Rattle.camera_control.specs.Steps.{CAPABILITY, read_of, cause_of, value_read, readings_of, write_step, stop_step, agree_steps, take_steps, leave_steps, allows_resends}
 use Rattle.camera_control.specs.Taking.{Made, steps_in, readings_in, Goes, Halts, Tells, Takes, Leaves}
 use Rattle.camera_control.specs.Laws.{commands_of}
-use Rattle.receive_causes.specs.Acts.{Act, HasActed, NoneLost, Ended, ended_in}
-use Rattle.receive_causes.specs.Causes.{Answers, IsRefused, value_in, first_tells_held, HasLost}
-use Rattle.receive_causes.specs.Commands.{CarriesFront, AllowsResends}
-use Rattle.receive_causes.proofs.Stepping.{GaveUp, Outs, AnswersStep}
-use Rattle.receive_causes.proofs.Logs.{EndsBy, FitsEach, fits_length, LogCame, log_came, Awaited, OkStep, AreOk, RefusesBy, log_refuses}
-use Rattle.receive_causes.proofs.Parts.{CausedIf, is_other}
-use Rattle.receive_causes.proofs.Fronts.{HasNoAsk, ok_both, ok_rest, HaltCame, halt_came, all_front, passed_ask, ask_halts, later_other, is_gone, unbeaten}
+use Rattle.receive_promises.specs.Acts.{Act, HasActed, NoneLost, Ended, ended_in}
+use Rattle.receive_promises.specs.Causes.{Answers, IsRefused, value_in, first_tells_held, HasLost}
+use Rattle.receive_promises.specs.Commands.{CarriesFront, AllowsResends}
+use Rattle.receive_promises.proofs.Stepping.{GaveUp, Outs, AnswersStep}
+use Rattle.receive_promises.proofs.Logs.{EndsBy, FitsEach, fits_length, LogCame, log_came, Awaited, OkStep, AreOk, RefusesBy, log_refuses}
+use Rattle.receive_promises.proofs.Parts.{CausedIf, is_other}
+use Rattle.receive_promises.proofs.Fronts.{HasNoAsk, ok_both, ok_rest, HaltCame, halt_came, all_front, passed_ask, ask_halts, later_other, is_gone, unbeaten}
 
 -- ---- the steps
 

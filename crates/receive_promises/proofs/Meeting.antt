@@ -23,19 +23,19 @@ use Rattle.receive_lines.specs.declared.receive_counts.ReceiveCounts.{ReceiveCou
 use Rattle.receive_answers.specs.Answers.{control_status, leave_status, rank, weightier, is_lost}
 use Rattle.gev_receive.specs.Starting.{writes_at}
 use Rattle.gev_receive.specs.Receives.{control_part, wish_of, LeavesUnless, LeavesHeld, TakesBy, MeetsNot, MeetsAndStreams, Meets}
-use Rattle.receive_causes.specs.Acts.{Act, behind_all, HasActed, NoneLost, Ended, ended_in, submitted_in, asked_in}
-use Rattle.receive_causes.specs.Causes.{IsRefused, first_tells_held, HasLost}
-use Rattle.receive_causes.specs.Commands.{CarriesFront, IsResend, AllowsResends, SendsCommands}
-use Rattle.receive_causes.specs.Reception.{steps_to_take, steps_to_leave, HasCauses}
-use Rattle.receive_causes.proofs.Acting.{ended-append, acted_none, acted_then}
-use Rattle.receive_causes.proofs.Stepping.{GaveUp, gave_later, gave_sooner, Outs}
-use Rattle.receive_causes.proofs.Logs.{Awaited, refused_later, refused_sooner}
-use Rattle.receive_causes.proofs.Parts.{is_other, CausedIf, lost_later, lost_sooner, outs_none}
-use Rattle.receive_causes.proofs.Keeping.{had_no_answer}
-use Rattle.receive_causes.proofs.Fronts.{none_front, is_gone}
-use Rattle.receive_causes.proofs.Taking.{TookCame, took_came, TookNot, took_not, LeftWith, LeftBy, LeaveCame, leave_came}
-use Rattle.receive_causes.proofs.Weights.{Follows, cause_rank, rank_control, which, no_answer_of, refused_of, controlled_of, lost_of}
-use Rattle.receive_causes.proofs.Streaming.{StreamCame, stream_came}
+use Rattle.receive_promises.specs.Acts.{Act, behind_all, HasActed, NoneLost, Ended, ended_in, submitted_in, asked_in}
+use Rattle.receive_promises.specs.Causes.{IsRefused, first_tells_held, HasLost}
+use Rattle.receive_promises.specs.Commands.{CarriesFront, IsResend, AllowsResends, SendsCommands}
+use Rattle.receive_promises.specs.Reception.{steps_to_take, steps_to_leave, HasCauses}
+use Rattle.receive_promises.proofs.Acting.{ended-append, acted_none, acted_then}
+use Rattle.receive_promises.proofs.Stepping.{GaveUp, gave_later, gave_sooner, Outs}
+use Rattle.receive_promises.proofs.Logs.{Awaited, refused_later, refused_sooner}
+use Rattle.receive_promises.proofs.Parts.{is_other, CausedIf, lost_later, lost_sooner, outs_none}
+use Rattle.receive_promises.proofs.GivingUp.{had_no_answer}
+use Rattle.receive_promises.proofs.Fronts.{none_front, is_gone}
+use Rattle.receive_promises.proofs.Taking.{TookCame, took_came, TookNot, took_not, LeftWith, LeftBy, LeaveCame, leave_came}
+use Rattle.receive_promises.proofs.Weights.{Follows, cause_rank, rank_control, which, no_answer_of, refused_of, controlled_of, lost_of}
+use Rattle.receive_promises.proofs.Streaming.{StreamCame, stream_came}
 
 -- ---- the stop
 

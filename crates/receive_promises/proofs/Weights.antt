@@ -13,8 +13,8 @@ use Rattle.frame_writing.specs.declared.handed_out.HandedEnd.TheVariants as hand
 use Rattle.gev_status.specs.declared.status.Status.{Status}
 use Rattle.gev_status.specs.declared.status.Status.TheVariants as status
 use Rattle.receive_answers.specs.Answers.{control_status, leader_status, reader_status, handed_status, rank, weightier}
-use Rattle.receive_causes.proofs.Parts.{is_other, is_other_if}
-use Rattle.receive_causes.proofs.Watching.{read_cause}
+use Rattle.receive_promises.proofs.Parts.{is_other, is_other_if}
+use Rattle.receive_promises.proofs.Watching.{read_cause}
 
 -- ---- which cause an answer tells
 

@@ -31,13 +31,13 @@ use Rattle.gev_receive.specs.Starting.{config_of}
 use Rattle.gev_receive.specs.Reader.{EndsReading}
 use Rattle.gev_receive.specs.Frames.{RanFrames, NeverRan, Runs}
 use Rattle.gev_receive.specs.Receives.{control_part, outside_of, patience_of, Streams, unled, undrawn, streamed}
-use Rattle.receive_causes.specs.Silence.{WaitsSilent, ReadsSilent}
-use Rattle.receive_causes.specs.Reception.{StreamSilent}
-use Rattle.receive_causes.proofs.Stepping.{Outs}
-use Rattle.receive_causes.proofs.Logs.{Awaited}
-use Rattle.receive_causes.proofs.Parts.{is_other_if, beat_other}
-use Rattle.receive_causes.proofs.Watching.{WatchCame, watch_none, watch_then, wait_cause, wait_watch, read_cause, ReadCame, read_came, read_watch}
-use Rattle.receive_causes.proofs.Weights.{Follows, follows_both, follows_handed, follows_reader, follows_control, cause_rank, rank_both, rank_reader, rank_control, wait_silent, both_silent}
+use Rattle.receive_promises.specs.Silence.{WaitsSilent, ReadsSilent}
+use Rattle.receive_promises.specs.Reception.{StreamSilent}
+use Rattle.receive_promises.proofs.Stepping.{Outs}
+use Rattle.receive_promises.proofs.Logs.{Awaited}
+use Rattle.receive_promises.proofs.Parts.{is_other_if, beat_other}
+use Rattle.receive_promises.proofs.Watching.{WatchCame, watch_none, watch_then, wait_cause, wait_watch, read_cause, ReadCame, read_came, read_watch}
+use Rattle.receive_promises.proofs.Weights.{Follows, follows_both, follows_handed, follows_reader, follows_control, cause_rank, rank_both, rank_reader, rank_control, wait_silent, both_silent}
 
 -- ---- no other application is told of
 

@@ -10,11 +10,11 @@ use Rattle.gev_control.specs.Controlled.{listed}
 use Rattle.live_promises.specs.Moves.{Move, sends, sends_all, later_moves}
 use Rattle.live_promises.specs.ClientCauses.{IsUnanswered}
 use Rattle.live_promises.proofs.ClientKeeping.{later-append, Kept, kept_on, take_kept, TickCame, tick_kept, new_tick, receive_kept}
-use Rattle.receive_causes.specs.Acts.{Act, turns, gets, asks, with_given, clocked, behind, behind_all, moves_by, moves_in, NoneLost}
-use Rattle.receive_causes.specs.Causes.{HadNoAnswer}
-use Rattle.receive_causes.proofs.Lists.{given_up_idle}
-use Rattle.receive_causes.proofs.Outstanding.{IsUp, is_up}
-use Rattle.receive_causes.proofs.Stepping.{GaveUp}
+use Rattle.receive_promises.specs.Acts.{Act, turns, gets, asks, with_given, clocked, behind, behind_all, moves_by, moves_in, NoneLost}
+use Rattle.receive_promises.specs.Causes.{HadNoAnswer}
+use Rattle.receive_promises.proofs.Lists.{given_up_idle}
+use Rattle.receive_promises.proofs.Outstanding.{IsUp, is_up}
+use Rattle.receive_promises.proofs.Stepping.{GaveUp}
 
 -- the outstanding command was sent as often as it counts, and the client's sends have a limit
 abbrev pub KeptSo : Client → List Move → Type 0
