@@ -9,3 +9,4 @@ pub mod Parsed
 pub mod LineKinds
 pub mod Tellings
 pub mod Windows
+pub mod Written

@@ -1,14 +1,15 @@
 -- Lines in a room, and bytes that come behind those that are held.
-use Rattle.std.proofs.Common.{◌≡◌, ℕ, ◌+◌, ◌-◌, ◌<◌, ◌≤◌, List, [], ◌∷◌, ◌++◌, length, get_or, take, drop, Option, Some, None, refl, ap, sym, ◌∙◌, subst, arith, inl, inr, length-drop, length-take, length-append, get_or-take, append_assoc}
+use Rattle.std.proofs.Common.{◌≡◌, ℕ, ◌+◌, ◌-◌, ◌<◌, ◌≤◌, List, [], ◌∷◌, ◌++◌, length, get_or, take, drop, Option, Some, None, Result, Ok, Err, OnErr, refl, ap, sym, ◌∙◌, subst, arith, inl, inr, length-drop, length-take, length-append, get_or-take, append_assoc}
 use Rattle.std.specs.List.{between}
 use Rattle.std.proofs.lemmas.Bool.{eq-eqb, eqb-true, cases_lt}
 use Rattle.std.proofs.lemmas.List.{append-nil, take-append-drop, get_or-drop, get_or_append_left, take-take, drop-drop, drop-take, take_rest, drop-append-le, nil_from_length}
 use Rattle.std.proofs.lemmas.List.Edits.{length-between}
 use Rattle.std.proofs.lemmas.Slice.{between_is}
 use Rattle.memchr.specs.Find.{IsFirstByte, is_byte}
+use Rattle.gev_links.specs.Faults.{Rose}
 use Rattle.gev_links.specs.Told.{Gives, IsSpent}
 use Rattle.gev_script.specs.Streams.{IsOpen, IsLine, IsPrompt, ReadsOn}
-use Rattle.gev_script.specs.Window.{NoFeedBelow, FindsFeed, Holds}
+use Rattle.gev_script.specs.Window.{NoFeedBelow, FindsFeed, Holds, IsWindow}
 use Rattle.gev_script.proofs.Splitting.{cut_at}
 use Rattle.gev_script.proofs.Tellings.{spent_after, Gives-append, Gives-same}
 
@@ -98,6 +99,48 @@ more_held old new start end n order fits same =
     ∙ ap (λ t. t ++ take n (drop end new)) (sym (between_is old start end))
     ∙ ap (λ t. between start end old ++ t) (sym (drop-take end n new) ∙ sym (between_is new end (end + n)))
 
+-- what holds anyway, said of a refusal
+pub on_err : {T E : Type 0} (r : Result T E) (P : Type 0) → P → OnErr r P
+on_err (Ok x) P p = tt
+on_err (Err e) P p = p
+
+-- the bytes that are held, where the room before their end is as it was
+pub held_still : (old new : List ℕ) (start end : ℕ) → take end new ≡ take end old → between start end new ≡ between start end old
+held_still old new start end same = between_is new start end ∙ ap (drop start) same ∙ sym (between_is old start end)
+
+pub few_held : (room : List ℕ) (start end : ℕ) → length room ≡ 32768 → end ≤ 32768 → length (between start end room) ≤ 32768
+few_held room start end size within = omega (arith, length-between room start end (omega arith))
+
+-- a window whose held bytes stand elsewhere, and one into which bytes were read
+pub moved_window : (old new : List ℕ) (line_start line_end start end searched start_now end_now : ℕ)
+    → IsWindow old line_start line_end start end searched → between start_now end_now new ≡ between start end old
+    → end_now ≡ start_now + (end - start) → length new ≡ 32768 → end_now ≤ 32768
+    → IsWindow new 0 0 start_now end_now searched
+moved_window old new line_start line_end start end searched start_now end_now w same long size within = record {
+  size = size;
+  line_order = omega arith;
+  line_within = omega arith;
+  order = omega arith;
+  within = within;
+  searched_within = omega (arith, w.order, w.searched_within);
+  no_feed = subst (NoFeedBelow searched) (sym same) w.no_feed;
+}
+
+pub longer_window : (room : List ℕ) (start end n searched : ℕ) → IsWindow room 0 0 start end searched → end + n ≤ 32768 → IsWindow room 0 0 start (end + n) searched
+longer_window room start end n searched w fits =
+    let more = more_held room room start end n w.order (omega (arith, w.size)) refl in
+    let long = length-between room start end (omega (arith, w.size)) in
+    record {
+      size = w.size;
+      line_order = omega arith;
+      line_within = omega arith;
+      order = omega (arith, w.order);
+      within = fits;
+      searched_within = omega (arith, w.searched_within);
+      no_feed = λ i low e.
+          w.no_feed i low (sym (get_or_append_left (between start end room) (between end (end + n) room) 0 i (omega (arith, long, w.searched_within))) ∙ ap (λ t. get_or t i 0) (sym more) ∙ e);
+    }
+
 pub holds_more : (l m : Option (List ℕ)) (held old new : List ℕ) (start end n : ℕ)
     → between start end old ≡ held → start ≤ end → end + n ≤ length new → take end new ≡ take end old
     → Gives l m (between end (end + n) new) → (n ≡ 0 → IsSpent l)
@@ -151,3 +194,25 @@ reads_on held now l m P c few p =
 pub open_still : (now after : List ℕ) (l m : Option (List ℕ)) → IsOpen now → Holds 0 now after l m → IsOpen after
 open_still now after l m is_open h =
     subst IsOpen (sym (h.is ∙ ap (λ t. now ++ t) (nil_from_length h.piece h.size) ∙ append-nil now)) is_open
+
+-- bytes that were read behind those that a search left as they were
+pub came_behind : (held now found after : List ℕ) (l m n : Option (List ℕ)) (count : ℕ) → Came held now l m → IsOpen now → found ≡ now → Holds count found after m n → Came held after l n
+came_behind held now found after l m n count c is_open same h = came_more held now after l m n count c is_open (subst (λ t. Holds count t after m n) same h)
+
+pub longer_behind : (now found after : List ℕ) (m n : Option (List ℕ)) (count : ℕ) → IsOpen now → found ≡ now → Holds count found after m n → 0 < count → 40000 - length after < 40000 - length now
+longer_behind now found after m n count is_open same h some =
+    let long : length after ≡ length found + length h.piece = ap length h.is ∙ length-append found h.piece in
+    omega (arith, long, ap length same, h.size, is_open.short)
+
+-- why no line was taken: nothing is left, or the source failed
+pub ends_spent : (held now found after : List ℕ) (l m n : Option (List ℕ)) (count : ℕ) → Came held now l m → IsOpen now → found ≡ now → Holds count found after m n → count ≡ 0
+    → length after ≤ 32768 → ReadsOn held l n (λ bytes. IsOpen bytes × (after ≡ bytes) × IsSpent n)
+ends_spent held now found after l m n count c is_open same h none few =
+    let h0 = subst (λ k. Holds k now after m n) none (subst (λ t. Holds count t after m n) same h) in
+    reads_on held after l n (λ bytes. IsOpen bytes × (after ≡ bytes) × IsSpent n) (came_behind held now found after l m n count c is_open same h) few
+    (open_still now after m n is_open h0, refl, h.spent none)
+
+pub ends_failed : (held now found after : List ℕ) (l m n : Option (List ℕ)) (faults faults_after : ℕ) → Came held now l m → IsOpen now → found ≡ now → after ≡ found → n ≡ m
+    → length now ≤ 32768 → Rose faults faults_after → ReadsOn held l n (λ bytes. IsOpen bytes × (after ≡ bytes) × Rose faults faults_after)
+ends_failed held now found after l m n faults faults_after c is_open same kept untaken few rose =
+    reads_on held now l n (λ bytes. IsOpen bytes × (after ≡ bytes) × Rose faults faults_after) (subst (Came held now l) (sym untaken) c) few (is_open, kept ∙ same, rose)
