@@ -22,6 +22,15 @@ pub(crate) fn add(out: &mut Vec<u8>, pieces: &[Piece<'_>]) -> Result<(), NoMemor
     Ok(())
 }
 
+/// Adds a text, or nothing.
+fn add_text(out: &mut Vec<u8>, text: &[u8]) -> Result<(), NoMemory>
+    ensures text { OnOk result (out.new.items ≡ out.old.items ++ text.now) }
+    ensures unchanged { OnErr result (out.new.items ≡ out.old.items) }
+{
+    out.extend_from_slice(text)?;
+    Ok(())
+}
+
 /// Adds a piece, or nothing.
 fn add_piece(out: &mut Vec<u8>, piece: &Piece<'_>) -> Result<(), NoMemory>
     ensures text { OnOk result (out.new.items ≡ out.old.items ++ piece_text piece.now) }
@@ -29,13 +38,13 @@ fn add_piece(out: &mut Vec<u8>, piece: &Piece<'_>) -> Result<(), NoMemory>
 {
     let mut buffer = Buffer::new();
     match piece {
-        Piece::Text(text) => out.extend_from_slice(text)?,
-        Piece::Number(number) => out.extend_from_slice(buffer.format(*number).as_bytes())?,
-        Piece::Code(code) => out.extend_from_slice(buffer.format(*code).as_bytes())?,
-        Piece::Flag(flag) => out.push(if *flag { b'1' } else { b'0' })?,
-        Piece::Hex(bytes) => add_hex(out, bytes)?,
+        Piece::Text(text) => add_text(out, text),
+        Piece::Number(number) => add_text(out, buffer.format(*number).as_bytes()),
+        Piece::Code(code) => add_text(out, buffer.format(*code).as_bytes()),
+        Piece::Flag(true) => add_text(out, b"1"),
+        Piece::Flag(false) => add_text(out, b"0"),
+        Piece::Hex(bytes) => add_hex(out, bytes),
     }
-    Ok(())
 }
 
 /// Adds two hex digits for each byte, or nothing.
