@@ -3,11 +3,13 @@ pub mod Settling
 pub mod Places
 pub mod Acting
 pub mod Judging
+pub mod Widths
 pub mod Wanting
 pub mod Noting
 pub mod Listening
 pub mod Stopping
 pub mod Opening
 pub mod Rounding
+pub mod Ticking
 pub mod Receiving
 pub mod FirstOnes

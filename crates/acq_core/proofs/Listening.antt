@@ -9,7 +9,7 @@ use Rattle.gvsp_wire.specs.Reading.{reading}
 use Rattle.acquisition_machine.specs.declared.need.Need.{Need}
 use Rattle.acquisition_machine.specs.declared.need.Need.TheVariants.{Done}
 use Rattle.acquisition_machine.specs.declared.need.Why.{Why}
-use Rattle.acquisition_machine.specs.declared.need.Why.TheVariants.{Late}
+use Rattle.acquisition_machine.specs.declared.need.Why.TheVariants.{Late, Misfit, Notice}
 use Rattle.acquisition_machine.specs.Blocks.{Open}
 use Rattle.acquisition_machine.specs.Machine.{State, bound, shown, open_at, leaving, staying, unasked, ignored, wants, hears, hears_packet, datagram, step}
 use Rattle.acquisition_machine.specs.Sound.{IsSound}
@@ -51,6 +51,14 @@ pub is_open : (m n : Window) (s : State) (x : StreamPacket) (h : Head) (xs : Lis
 is_open m n s x h xs at answer acts sound same items is f =
     let a = at_found m.config.p (head_of x).block s.floor at m.slots.items s.opens acts.slots sound.rise (searched m x h xs (Some at) same items is) in
     subst (λ o. Answers m n answer (hears_packet m.config x o s)) (sym a.is) (f a.block a.is)
+
+-- a notice of a block that isn't open
+pub new_notice : (m n : Window) (s : State) (x : StreamPacket) (answer : Need) → is_notice x ≡ true → Answers m n answer (ignored Notice s) → Answers m n answer (hears_packet m.config x None s)
+new_notice m n s x answer is a = rw is a
+
+-- a packet that doesn't fit
+pub new_misfit : (m n : Window) (s : State) (x : StreamPacket) (answer : Need) → is_notice x ≡ false → fits m.config.p x ≡ false → Answers m n answer (ignored Misfit s) → Answers m n answer (hears_packet m.config x None s)
+new_misfit m n s x answer none fit a = rw (none, fit) a
 
 -- a packet that fits, of a block that isn't open
 pub new_wants : (m n : Window) (s : State) (x : StreamPacket) (h : Head) (answer : Need) → is_notice x ≡ false → fits m.config.p x ≡ true → h ≡ head_of x → Answers m n answer (wants m.config h.block s) → Answers m n answer (hears_packet m.config x None s)

@@ -12,7 +12,7 @@ use Rattle.board_machine.specs.Adding.{AddsEntry, AddsOf}
 use Rattle.board_machine.proofs.Adding.{adds_more, adds_as, adds_nothing, adds_kind, adds_first, adds_step}
 use Rattle.board_calls.specs.Rounds.{filled_or_laid, FillsEach}
 use Rattle.board_calls.specs.Calls.{FlushesToOutput}
-use Rattle.board_model.specs.Plain.{nothing, lying}
+use Rattle.board_model.specs.Plain.{PlainState, HasBuf, content_at, nothing, lying}
 use Rattle.board_model.specs.Holdings.{LeftHand, HaveBufs, FillsOneAsLying, FillsAsLying, FlushesAsLying, emptied, with_empty_records}
 use Rattle.board_model.proofs.CallsHands.{filled, laid}
 use Rattle.board_model.proofs.CallsParts.{left_more}
@@ -33,6 +33,16 @@ pub lying_within : (c : List (Option Filling)) (i : ℕ) → lying c i ≢ nothi
 lying_within [] i some = absurd (some refl)
 lying_within (x ∷ c) zero some = omega arith
 lying_within (x ∷ c) (suc i) some = omega (arith, lying_within c i some)
+
+read_within : (c : List (Option Filling)) (i : ℕ) (x y : Option Filling) → i < length c → x ≡ get_or c i x → get_or c i y ≡ x
+read_within [] i x y within is = absurd (omega arith)
+read_within (z ∷ c) zero x y within is = sym is
+read_within (z ∷ c) (suc i) x y within is = read_within c i x y (omega arith) is
+
+-- what is read at a place where something lies
+pub read_there : (v s : PlainState) (i : ℕ) (x : Option Filling) → v ≡ s → HasBuf s i → x ≡ get_or v.contents i x → content_at s i ≡ x
+read_there v s i x same has is =
+    read_within s.contents i x nothing (lying_within s.contents i has) (subst (λ (t : PlainState). x ≡ get_or t.contents i x) same is)
 
 -- the buffer with the empty record
 pub emptied_is : (o : Option Filling) (f g : Filling) → o ≡ Some f → g.bytes ≡ f.bytes → g.rec ≡ empty_record → Some g ≡ emptied o

@@ -1,4 +1,4 @@
-use Rattle.std.proofs.Common.{rules, arith, ◌≡◌, ◌+◌, Some, refl, sym, ap}
+use Rattle.std.proofs.Common.{◌≡◌, ◌+◌, Some, refl, sym, ap}
 use Rattle.board_machine.specs.Places.{times}
 use Rattle.board_machine.specs.Machine.{Board, word_at, IsActor, CanEnrol}
 use Rattle.board_machine.specs.Owners.{due}
@@ -34,7 +34,11 @@ returns-clause-step c =
     vacant_not_out b c.args.place c.self.inside.out.items (sym (places_items c.self.inside.bufs.items c.self.inside.out.items)) c.self.invariant.owned can.0
     in
     record {
-      may = first_of (search rules, grind arith);
+      may = rw (← c.self.view_is)
+          (record {
+            actor = at_board (λ (b : Board). IsActor b c.args.actor) _ _ c.self.view_is c.requires.actor;
+            meets = (c.requires.in_range, c.bytes.ensures.some, c.bytes.ensures.in_limits, can, refl);
+          });
       after = rw (← c.self.view_is, c.put.ensures, c.bytes.ensures.value, items_apart c.self.inside.bufs.items c.args.place (Some c.args.buf) c.self.inside.out.items none);
     }
 
