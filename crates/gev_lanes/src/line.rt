@@ -221,15 +221,13 @@ impl<T: Drop> Line<T> {
         ensures same { taker.new ≡ taker.old }
         ensures most { result ≤ most }
     {
-        let mut rests = 0;
-        'rests: for _ in rt.forever() {
-            if rests == most || self.waiting(rt, taker) >= few {
+        'rests: for rests in 0..most {
+            if self.waiting(rt, taker) >= few {
                 return rests;
             }
             rest_for(rt, SHORT);
-            rests += 1;
         }
-        unreachable!()
+        most
     }
 
     /// The ends meet: what was taken is the front of what was given.

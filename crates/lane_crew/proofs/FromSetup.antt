@@ -1,5 +1,5 @@
 -- The setup alone, or the reader's turns after it, and the end for each lane.
-use Rattle.std.proofs.Common.{◌≡◌, ℕ, List, [], ◌∷◌, ◌++◌, Option, refl, sym, subst}
+use Rattle.std.proofs.Common.{◌≡◌, ◌≢◌, ℕ, List, [], ◌∷◌, ◌++◌, Bool, true, false, Option, refl, sym, subst, inr}
 use Rattle.std.proofs.lemmas.List.{append-nil}
 use Rattle.board_machine.specs.declared.events.Event.{Event}
 use Rattle.board_machine.specs.declared.events.Event.TheVariants.{LookRun}
@@ -12,11 +12,12 @@ use Rattle.buffer_words.specs.Several.{EntersEach}
 use Rattle.buffer_words.proofs.Several.{each_none, each_then}
 use Rattle.gev_control.specs.declared.acq_end.AcqEnd.{AcqEnd}
 use Rattle.gev_control.specs.declared.acq_end.AcqEnd.TheVariants as how
-use Rattle.gev_control.specs.Sends.{addressed}
+use Rattle.gev_control.specs.Sends.{addressed, Fails}
 use Rattle.gev_control.specs.SetupTurns.{set_up, SetupTurned}
 use Rattle.gev_control.specs.SetsUp.{SetupSide, SetsUp, setup_sent, setup_heards, setup_moments}
 use Rattle.gev_control.proofs.Fronts.{added_then}
 use Rattle.gev_acq.specs.Acquired.{LooksLast}
+use Rattle.gev_acq.specs.Reading.{FaultsOf}
 use Rattle.gev_acq.specs.Reads.{IsSetUp, LastLook}
 use Rattle.gev_lanes.specs.declared.parts.ReaderLane.{ReaderLane}
 use Rattle.lane_reader.specs.LanesTurns.{EndsEach}
@@ -35,12 +36,20 @@ setup_is camera stream o n end up = record {
   client = up.client;
 }
 
+-- where the setup ended otherwise, there are no turns, and no look
+no_turns : (end : AcqEnd) (turns : ℕ) → end ≢ how.Stopped → EndsAfter end end turns [] × LastLook end []
+no_turns how.Stopped turns other = absurd (other refl)
+no_turns how.Spent turns other = ((refl, refl), refl)
+no_turns how.Fault turns other = ((refl, refl), refl)
+no_turns (how.NoAnswer req) turns other = ((refl, refl), refl)
+no_turns (how.Refused status) turns other = ((refl, refl), refl)
+
 -- the setup ended before the turns
-ends_early : (n : ℕ) (camera stream : Address) (r h k : Option (List Answer)) (w v : Option (List (Address × List ℕ))) (d b : Option (List ℕ)) (s u : Client)
-    (turns : ℕ) (end : AcqEnd) (ss us : List ReaderLane) (t : Token) → EndsAfter end end turns [] → LastLook end []
+pub ends_early : (n : ℕ) (camera stream : Address) (r h k : Option (List Answer)) (w v : Option (List (Address × List ℕ))) (d b : Option (List ℕ)) (s u : Client)
+    (turns : ℕ) (end : AcqEnd) (ss us : List ReaderLane) (t : Token) → end ≢ how.Stopped
     → SetsUp camera stream (record { heard = h; sent = w; told = d; client = s }) (record { heard = k; sent = v; told = b; client = u }) end → EndsEach ss us
     → ReadsAll n camera stream (record { received = r; heard = h; sent = w; told = d; client = s }) (record { received = r; heard = k; sent = v; told = b; client = u }) turns end ss us t t
-ends_early n camera stream r h k w v d b s u turns end ss us t ends looks up each = record {
+ends_early n camera stream r h k w v d b s u turns end ss us t other up each = record {
   made = [];
   last = [];
   on = record {
@@ -48,8 +57,8 @@ ends_early n camera stream r h k w v d b s u turns end ss us t ends looks up eac
     setup_end = end;
     client = u;
     set_up_by = setup_is camera stream (record { heard = h; sent = w; told = d; client = s }) (record { heard = k; sent = v; told = b; client = u }) end up;
-    ends = ends;
-    looks = looks;
+    ends = (no_turns end turns other).0;
+    looks = (no_turns end turns other).1;
     controlled = refl;
     received = tells_none r;
     heard = subst (TellsEach h k) (sym (append-nil (setup_heards made))) up.heard;
@@ -63,14 +72,14 @@ ends_early n camera stream r h k w v d b s u turns end ss us t ends looks up eac
     made : List SetupTurned
     made = up.before ++ up.last ∷ []
 
--- the same, where the end is told as a result
-pub ends_early_so : (n : ℕ) (camera stream : Address) (r h k : Option (List Answer)) (w v : Option (List (Address × List ℕ))) (d b : Option (List ℕ)) (s u : Client)
-    (turns : ℕ) (end told : AcqEnd) (ss us : List ReaderLane) (t : Token) → EndsAfter end end turns [] → LastLook end [] → told ≡ end
-    → SetsUp camera stream (record { heard = h; sent = w; told = d; client = s }) (record { heard = k; sent = v; told = b; client = u }) end → EndsEach ss us
-    → ReadsAll n camera stream (record { received = r; heard = h; sent = w; told = d; client = s }) (record { received = r; heard = k; sent = v; told = b; client = u }) turns told ss us t t
-ends_early_so n camera stream r h k w v d b s u turns end told ss us t ends looks is up each =
-    subst (λ e. ReadsAll n camera stream (record { received = r; heard = h; sent = w; told = d; client = s }) (record { received = r; heard = k; sent = v; told = b; client = u }) turns e ss us t t)
-    (sym is) (ends_early n camera stream r h k w v d b s u turns end ss us t ends looks up each)
+-- the faults of the setup alone, and of the turns behind it
+pub faults_early : (is : Bool) (stream control control_after : ℕ) → Fails false is control control_after → FaultsOf is stream stream control control_after
+faults_early true stream control control_after rose = inr (refl, rose)
+faults_early false stream control control_after same = (refl, same)
+
+pub faults_then : (is : Bool) (stream stream_after control control_then control_after : ℕ) → Fails false false control control_then
+    → FaultsOf is stream stream_after control_then control_after → FaultsOf is stream stream_after control control_after
+faults_then is stream stream_after control control_then control_after same faults = subst (λ n. FaultsOf is stream stream_after n control_after) same faults
 
 -- the last look, where there was one
 record LooksSo (end : AcqEnd) (s t : Token) : Type 0 where

@@ -8,28 +8,15 @@ ghost use Rattle.gev_control.specs.Ends.{is_fault_end};
 ghost use Rattle.gev_acq.specs.Reading.{FaultsOf};
 ghost use Rattle.gev_acq.specs.Hosts.{outside_of};
 ghost use Rattle.gev_lanes.specs.Sides.{AreReadersOf, AreKept};
-ghost use Rattle.lane_reader.specs.LanesTurns.{EndsEach};
 ghost use Rattle.lane_crew.specs.Reader.{ReadsAll};
 
 use crate::lanes_reader::Reading;
 use buffer_words::Board;
 use gev_control::{AcqEnd, setup};
-use gev_lanes::{Lanes, ReaderEnds};
+use gev_lanes::Lanes;
 use gev_links::{Clock, Link};
 use lane_reader::{end_lanes, read_lanes};
 use std::sync::Wait;
-
-// The lanes are told of the end, where the setup came to this one.
-fn end_early<R: Wait>(rt: &R, lanes: &Lanes, reader: &mut ReaderEnds, end: AcqEnd) -> AcqEnd
-    requires reader { AreReadersOf lanes.now reader.old }
-    requires kept { AreKept reader.old }
-    ensures reader { AreReadersOf lanes.now reader.new }
-    ensures ends { EndsEach reader.old reader.new }
-    ensures end { result ≡ end }
-{
-    end_lanes(rt, lanes, reader);
-    end
-}
 
 /// Sets the camera up, makes the reader's turns where that was done, and in every case tells each lane of the end.
 pub(crate) fn read_all<R: Wait, S: Link, M: Link, C: Clock>(
@@ -50,14 +37,15 @@ pub(crate) fn read_all<R: Wait, S: Link, M: Link, C: Clock>(
     ensures table { mine.new.pass.table ≡ mine.old.pass.table }
     ensures hands { SameHands mine.old.pass mine.new.pass }
 {
-    match setup(
+    let end = setup(
         rt,
         &mut mine.host.client,
         &mut mine.host.control,
         &mut mine.host.clock,
         mine.camera,
         mine.own,
-    ) {
+    );
+    match end {
         AcqEnd::Stopped => read_lanes(
             rt,
             board,
@@ -71,11 +59,9 @@ pub(crate) fn read_all<R: Wait, S: Link, M: Link, C: Clock>(
             mine.camera,
             mine.turns,
         ),
-        AcqEnd::Spent => end_early(rt, lanes, &mut mine.reader, AcqEnd::Spent),
-        AcqEnd::Fault => end_early(rt, lanes, &mut mine.reader, AcqEnd::Fault),
-        AcqEnd::NoAnswer(req) => end_early(rt, lanes, &mut mine.reader, AcqEnd::NoAnswer(req)),
-        AcqEnd::Refused(status) => {
-            end_early(rt, lanes, &mut mine.reader, AcqEnd::Refused(status))
+        _ => {
+            end_lanes(rt, lanes, &mut mine.reader);
+            end
         }
     }
 }

@@ -1,5 +1,5 @@
 -- The kept cell with the end was given.
-use Rattle.std.proofs.Common.{sym, ◌∙◌, rules}
+use Rattle.std.proofs.Common.{sym, ◌∙◌}
 use Rattle.gev_lanes.specs.Messages.{ended}
 use Rattle.gev_lanes.proofs.Acting.{kept_given}
 use Rattle.gev_lanes.proofs.reader_acts.end_one.Goals as goal
