@@ -137,13 +137,17 @@ fn give_away<R: Wait, L: Link, C: Clock>(
         (record { heard = L.received control.new; sent = L.sent control.new; told = C.told clock.new; client = client.new }) result }
     ensures fails { FailsAs result (L.faults control.old) (L.faults control.new) }
 {
-    match stop_one(rt, client, control, clock, camera, SCP0, 0) {
-        Ok(first) => match stop_one(rt, client, control, clock, camera, CCP, 0) {
-            Ok(later) => Ok(earlier(first, later)),
-            Err(cause) => Err(cause),
+    let stops = [
+        RegisterWrite {
+            register: SCP0,
+            value: 0,
         },
-        Err(cause) => Err(cause),
-    }
+        RegisterWrite {
+            register: CCP,
+            value: 0,
+        },
+    ];
+    stop_each(rt, client, control, clock, camera, &stops)
 }
 
 // Stops the camera, closes the stream, and gives control away: the first refusal.

@@ -157,37 +157,8 @@ fn agree_on_size<R: Wait, L: Link, C: Clock>(
     }
 }
 
-// Writes where the stream goes: the address, and the port, which opens the channel.
-fn open_channel<R: Wait, L: Link, C: Clock>(
-    rt: &R,
-    client: &mut Client,
-    control: &mut L,
-    clock: &mut C,
-    camera: Peer,
-    receiver: Peer,
-) -> Result<(), ControlEnd>
-    requires { IsIdle client.old }
-    ensures runs { Runs camera (step.Write SCDA0_AT receiver.address ∷ step.Write SCP0_AT receiver.port ∷ [])
-        (record { heard = L.received control.old; sent = L.sent control.old; told = C.told clock.old; client = client.old })
-        (record { heard = L.received control.new; sent = L.sent control.new; told = C.told clock.new; client = client.new }) result }
-    ensures idle { IfOk result (λ _. IsIdle client.new) }
-    ensures fails { FailsAs result (L.faults control.old) (L.faults control.new) }
-{
-    match write_one(rt, client, control, clock, camera, SCDA0, receiver.address) {
-        Ok(()) => write_one(
-            rt,
-            client,
-            control,
-            clock,
-            camera,
-            SCP0,
-            u32::from(receiver.port),
-        ),
-        Err(cause) => Err(cause),
-    }
-}
-
-// Opens the stream and starts the camera, once the packet size was agreed on.
+// Opens the stream and starts the camera, once the packet size was agreed on: writes the address to which the stream
+// goes, the port, which opens the channel, and what is to be written behind them.
 fn start<R: Wait, L: Link, C: Clock>(
     rt: &R,
     client: &mut Client,
@@ -204,7 +175,17 @@ fn start<R: Wait, L: Link, C: Clock>(
     ensures idle { IfOk result (λ _. IsIdle client.new) }
     ensures fails { FailsAs result (L.faults control.old) (L.faults control.new) }
 {
-    match open_channel(rt, client, control, clock, camera, receiver) {
+    let channel = [
+        RegisterWrite {
+            register: SCDA0,
+            value: receiver.address,
+        },
+        RegisterWrite {
+            register: SCP0,
+            value: u32::from(receiver.port),
+        },
+    ];
+    match write_each(rt, client, control, clock, camera, &channel) {
         Ok(()) => write_each(rt, client, control, clock, camera, starts),
         Err(cause) => Err(cause),
     }

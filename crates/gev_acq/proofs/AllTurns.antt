@@ -1,5 +1,5 @@
 -- All turns of the reader, one after the other.
-use Rattle.std.proofs.Common.{◌≡◌, ◌≢◌, ℕ, ◌+◌, ◌<◌, ◌≤◌, List, [], ◌∷◌, ◌++◌, length, refl, ap, sym, ◌∙◌, subst, append_assoc, length-append, arith}
+use Rattle.std.proofs.Common.{◌≡◌, ◌≢◌, ℕ, Bool, ◌+◌, ◌<◌, ◌≤◌, List, [], ◌∷◌, ◌++◌, length, Some, None, refl, ap, sym, ◌∙◌, subst, append_assoc, length-append, arith}
 use Rattle.std.proofs.lemmas.List.{append-nil}
 use Rattle.board_machine.specs.declared.events.Event.TheVariants.{LookRun}
 use Rattle.acquisition_machine.specs.declared.config.AcqConfig.{AcqConfig}
@@ -15,14 +15,16 @@ use Rattle.mode_calls.specs.declared.mode.Mode.{Mode}
 use Rattle.gev_acq.specs.declared.turn.Turn.{Turn}
 use Rattle.gev_control.specs.declared.turn_end.TurnEnd.{TurnEnd}
 use Rattle.gev_control.specs.declared.turn_end.TurnEnd.TheVariants as ends
+use Rattle.gev_control.specs.declared.acq_end.AcqEnd.{AcqEnd}
 use Rattle.gev_control.specs.declared.acq_end.AcqEnd.TheVariants as how
 use Rattle.gev_acq.specs.Serving.{Serves}
 use Rattle.gev_acq.specs.Claims.{Claims}
 use Rattle.gev_control.specs.Sends.{addressed}
 use Rattle.gev_control.specs.Controlled.{listed, is_fault}
+use Rattle.gev_control.specs.Ends.{is_fault_end}
 use Rattle.gev_acq.specs.Reading.{FaultsOf}
 use Rattle.gev_acq.specs.Turns.{Turned, Outside, inputs_of, TakesTurn, TakesOne}
-use Rattle.gev_acq.specs.Acquired.{inputs_in, answers_in, moments_in, heards_in, sends_in, TurnsOn, TellsOwn, AllGoOn, EndsIn, Acquires}
+use Rattle.gev_acq.specs.Acquired.{inputs_in, answers_in, moments_in, heards_in, sends_in, TurnsOn, TellsOwn, AllGoOn, EndsIn, EndsBy, ended_by, LooksLast, Acquires}
 use Rattle.gev_acq.proofs.Owning.{claims_none, claims_then}
 use Rattle.gev_control.proofs.Fronts.{added_then}
 use Rattle.gev_acq.proofs.TurnLists.{inputs-push, answers-push, moments-push, heards-push, sends-push, own-push, go_on-push, turns-push, notes-push, controls-push}
@@ -158,59 +160,52 @@ ends_in mode c camera Old New o n journal journal_after count turns end s v more
   record { before = more.made; last = more.turned; is = refl; on = more.all; ended = more.ended },
 )
 
-pub ends_fault : (mode : Mode) (c d : AcqConfig) (camera : Address) (Old Mid New : List Input → Type 0) (o m n : Outside) (journal journal_now journal_after : List Turn) (count turns run : ℕ) (entry : Turn) (end : TurnEnd) (s t u v : Token)
-    → GoesOn mode c camera Old Mid o m journal journal_now count s t → d ≡ c → Enters t (LookRun run) u → run ≡ 1 → TakesOne mode d camera Mid New Own m n entry end u v → journal_after ≡ journal_now ++ entry ∷ []
-    → count < turns → end ≡ ends.Fault → Acquires mode c camera Old New o n journal journal_after turns how.Fault s v
-ends_fault mode c d camera Old Mid New o m n journal journal_now journal_after count turns run entry end s t u v so config look one takes pushed few is = record {
-  made = more.made ++ more.turned ∷ [];
-  entries = more.entries;
-  middle = v;
-  on = more.on;
-  own = more.own;
-  last = refl;
-  ends = ends_in mode c camera Old New o n journal journal_after count turns ends.Fault s v more few;
-  journal_is = more.journal_is;
-}
-  where
-    more : OneMore mode c camera Old New o n journal journal_after count ends.Fault s v
-    more = one_more mode c d camera Old Mid New o m n journal journal_now journal_after count run entry ends.Fault s t u v so config look one
-        (subst (λ e. TakesOne mode d camera Mid New Own m n entry e u v) is takes) pushed
+-- a turn with such an end goes on
+pub then_on : (end : TurnEnd) → None ≡ ended_by end → end ≡ ends.GoesOn
+then_on ends.GoesOn none = refl
+then_on ends.Fault none = cc
+then_on (ends.NoAnswer req) none = cc
+then_on (ends.Refused status) none = cc
 
-pub ends_unanswered : (mode : Mode) (c d : AcqConfig) (camera : Address) (Old Mid New : List Input → Type 0) (o m n : Outside) (journal journal_now journal_after : List Turn) (count turns run req : ℕ) (entry : Turn) (end : TurnEnd) (s t u v : Token)
-    → GoesOn mode c camera Old Mid o m journal journal_now count s t → d ≡ c → Enters t (LookRun run) u → run ≡ 1 → TakesOne mode d camera Mid New Own m n entry end u v → journal_after ≡ journal_now ++ entry ∷ []
-    → count < turns → end ≡ ends.NoAnswer req → Acquires mode c camera Old New o n journal journal_after turns (how.NoAnswer req) s v
-ends_unanswered mode c d camera Old Mid New o m n journal journal_now journal_after count turns run req entry end s t u v so config look one takes pushed few is = record {
-  made = more.made ++ more.turned ∷ [];
-  entries = more.entries;
-  middle = v;
-  on = more.on;
-  own = more.own;
-  last = refl;
-  ends = ends_in mode c camera Old New o n journal journal_after count turns (ends.NoAnswer req) s v more few;
-  journal_is = more.journal_is;
-}
-  where
-    more : OneMore mode c camera Old New o n journal journal_after count (ends.NoAnswer req) s v
-    more = one_more mode c d camera Old Mid New o m n journal journal_now journal_after count run entry (ends.NoAnswer req) s t u v so config look one
-        (subst (λ e. TakesOne mode d camera Mid New Own m n entry e u v) is takes) pushed
+-- the reader's end is a fault where the turn's is
+pub then_fault : (end : TurnEnd) (last : AcqEnd) → Some last ≡ ended_by end → is_fault end ≡ is_fault_end last
+then_fault ends.GoesOn last some = cc
+then_fault ends.Fault last some = let same : how.Fault ≡ last = cc in ap is_fault_end same
+then_fault (ends.NoAnswer req) last some = let same : how.NoAnswer req ≡ last = cc in ap is_fault_end same
+then_fault (ends.Refused status) last some = let same : how.Refused status ≡ last = cc in ap is_fault_end same
 
-pub ends_refused : (mode : Mode) (c d : AcqConfig) (camera : Address) (Old Mid New : List Input → Type 0) (o m n : Outside) (journal journal_now journal_after : List Turn) (count turns run status : ℕ) (entry : Turn) (end : TurnEnd) (s t u v : Token)
+-- how the turns ended, by the last turn's end, and that there was no further look
+then_ends : (end : TurnEnd) (last : AcqEnd) (turns : ℕ) (made : List Turned) (v : Token) → Some last ≡ ended_by end → (length made ≤ turns) × EndsIn end made
+    → LooksLast last v v × EndsBy last turns made
+then_ends ends.GoesOn last turns made v some so = cc
+then_ends ends.Fault last turns made v some so =
+    let same : how.Fault ≡ last = cc in subst (λ (e : AcqEnd). LooksLast e v v × EndsBy e turns made) same (refl, so)
+then_ends (ends.NoAnswer req) last turns made v some so =
+    let same : how.NoAnswer req ≡ last = cc in subst (λ (e : AcqEnd). LooksLast e v v × EndsBy e turns made) same (refl, so)
+then_ends (ends.Refused status) last turns made v some so =
+    let same : how.Refused status ≡ last = cc in subst (λ (e : AcqEnd). LooksLast e v v × EndsBy e turns made) same (refl, so)
+
+-- the turn was the last one
+pub ends_with : (mode : Mode) (c d : AcqConfig) (camera : Address) (Old Mid New : List Input → Type 0) (o m n : Outside) (journal journal_now journal_after : List Turn) (count turns run : ℕ) (entry : Turn) (end : TurnEnd) (last : AcqEnd) (s t u v : Token)
     → GoesOn mode c camera Old Mid o m journal journal_now count s t → d ≡ c → Enters t (LookRun run) u → run ≡ 1 → TakesOne mode d camera Mid New Own m n entry end u v → journal_after ≡ journal_now ++ entry ∷ []
-    → count < turns → end ≡ ends.Refused status → Acquires mode c camera Old New o n journal journal_after turns (how.Refused status) s v
-ends_refused mode c d camera Old Mid New o m n journal journal_now journal_after count turns run status entry end s t u v so config look one takes pushed few is = record {
+    → count < turns → Some last ≡ ended_by end → Acquires mode c camera Old New o n journal journal_after turns last s v
+ends_with mode c d camera Old Mid New o m n journal journal_now journal_after count turns run entry end last s t u v so config look one takes pushed few some = record {
   made = more.made ++ more.turned ∷ [];
   entries = more.entries;
   middle = v;
   on = more.on;
   own = more.own;
-  last = refl;
-  ends = ends_in mode c camera Old New o n journal journal_after count turns (ends.Refused status) s v more few;
+  last = ended.0;
+  ends = ended.1;
   journal_is = more.journal_is;
 }
   where
-    more : OneMore mode c camera Old New o n journal journal_after count (ends.Refused status) s v
-    more = one_more mode c d camera Old Mid New o m n journal journal_now journal_after count run entry (ends.Refused status) s t u v so config look one
-        (subst (λ e. TakesOne mode d camera Mid New Own m n entry e u v) is takes) pushed
+    more : OneMore mode c camera Old New o n journal journal_after count end s v
+    more = one_more mode c d camera Old Mid New o m n journal journal_now journal_after count run entry end s t u v so config look one takes pushed
+
+    ended : LooksLast last v v × EndsBy last turns (more.made ++ more.turned ∷ [])
+    ended = then_ends end last turns (more.made ++ more.turned ∷ []) v some
+        (ends_in mode c camera Old New o n journal journal_after count turns end s v more few)
 
 pub ends_stopped : (mode : Mode) (c : AcqConfig) (camera : Address) (Old New : List Input → Type 0) (o n : Outside) (journal journal_now : List Turn) (count turns run : ℕ) (s t u : Token)
     → GoesOn mode c camera Old New o n journal journal_now count s t → Enters t (LookRun run) u → run ≢ 1 → count < turns → Acquires mode c camera Old New o n journal journal_now turns how.Stopped s u
@@ -237,6 +232,11 @@ ends_spent mode c camera Old New o n journal journal_now count turns s t so all 
   ends = (so.number ∙ all, so.all);
   journal_is = so.journal_is;
 }
+
+-- nothing had failed before
+pub faults_later : (is was : Bool) (stream stream_then stream_after control control_then control_after : ℕ) → was ≡ is → stream_then ≡ stream → control_then ≡ control
+    → FaultsOf was stream_then stream_after control_then control_after → FaultsOf is stream stream_after control control_after
+faults_later is was stream stream_then stream_after control control_then control_after same stream_stays control_stays faults = rw (← same, ← stream_stays, ← control_stays) faults
 
 -- a turn that went on had no fault
 pub counts_stay : (end : TurnEnd) (stream stream_after control control_after : ℕ) → FaultsOf (is_fault end) stream stream_after control control_after → end ≡ ends.GoesOn

@@ -1,5 +1,5 @@
 -- The setup, the turns and the stop, one after the other.
-use Rattle.std.proofs.Common.{◌≡◌, ℕ, false, List, [], ◌∷◌, ◌++◌, Option, Result, refl, sym, ◌∙◌, subst, append_assoc}
+use Rattle.std.proofs.Common.{◌≡◌, ◌≢◌, ℕ, false, List, [], ◌∷◌, ◌++◌, Option, Result, refl, sym, ◌∙◌, subst, append_assoc}
 use Rattle.std.proofs.lemmas.List.{append-nil}
 use Rattle.board_machine.specs.declared.events.Event.{Event}
 use Rattle.board_machine.specs.declared.events.Event.TheVariants.{LookRun, Stop}
@@ -40,12 +40,20 @@ setup_is camera stream o n end up = record {
   client = up.client;
 }
 
+-- where the camera wasn't set up there are no turns and no look
+no_turns : (end : AcqEnd) (turns : ℕ) → end ≢ how.Stopped → EndsAfter end end turns [] × LastLook end []
+no_turns how.Stopped turns other = absurd (other refl)
+no_turns how.Spent turns other = ((refl, refl), refl)
+no_turns how.Fault turns other = ((refl, refl), refl)
+no_turns (how.NoAnswer req) turns other = ((refl, refl), refl)
+no_turns (how.Refused status) turns other = ((refl, refl), refl)
+
 -- the setup ended before the turns
 pub ends_early : (mode : Mode) (c : AcqConfig) (camera stream : Address) (New : List Input → Type 0) (r y h k : Option (List Answer)) (w v : Option (List (Address × List ℕ))) (d b : Option (List ℕ)) (s u : Client)
-    (journal : List Turn) (turns : ℕ) (end : AcqEnd) (t : Token) → EndsAfter end end turns [] → LastLook end [] → New [] → y ≡ r
+    (journal : List Turn) (turns : ℕ) (end : AcqEnd) (t : Token) → end ≢ how.Stopped → New [] → y ≡ r
     → SetsUp camera stream (record { heard = h; sent = w; told = d; client = s }) (record { heard = k; sent = v; told = b; client = u }) end
     → ReadsTurns mode c camera stream New (record { received = r; heard = h; sent = w; told = d; client = s }) (record { received = y; heard = k; sent = v; told = b; client = u }) journal journal turns end t t
-ends_early mode c camera stream New r y h k w v d b s u journal turns end t ends looks new same up = record {
+ends_early mode c camera stream New r y h k w v d b s u journal turns end t other new same up = record {
   made = [];
   turned = [];
   last = [];
@@ -54,10 +62,10 @@ ends_early mode c camera stream New r y h k w v d b s u journal turns end t ends
     setup_end = end;
     client = u;
     set_up_by = setup_is camera stream (record { heard = h; sent = w; told = d; client = s }) (record { heard = k; sent = v; told = b; client = u }) end up;
-    ends = ends;
+    ends = ended.0;
     serves = refl;
     own = tt;
-    looks = looks;
+    looks = ended.1;
     controlled = refl;
     entries = [];
     notes = tt;
@@ -74,6 +82,9 @@ ends_early mode c camera stream New r y h k w v d b s u journal turns end t ends
   where
     made : List SetupTurned
     made = up.before ++ up.last ∷ []
+
+    ended : EndsAfter end end turns [] × LastLook end []
+    ended = no_turns end turns other
 
 -- the last look, where there was one
 record LooksSo (end : AcqEnd) (s t : Token) : Type 0 where

@@ -1,5 +1,5 @@
 -- A datagram that asked for a buffer and was told again.
-use Rattle.std.proofs.Common.{◌≡◌, ℕ, Bool, List, [], ◌∷◌, ◌++◌, Option, Some, ap, sym, ◌∙◌, subst, append_assoc}
+use Rattle.std.proofs.Common.{◌≡◌, ℕ, Bool, List, [], ◌∷◌, ◌++◌, Option, Some, None, ap, refl, sym, ◌∙◌, subst, append_assoc}
 use Rattle.std.specs.Prelude.{is_some}
 use Rattle.acquisition_machine.specs.declared.config.AcqConfig.{AcqConfig}
 use Rattle.acquisition_machine.specs.declared.need.Need.{Need}
@@ -26,6 +26,20 @@ twice mode c A B C D bytes block place need kept s t u v first second third is =
     kept = is ∙ sym (ap kept_by (third.need_is (q ++ (datagram bytes ∷ claimed second.given ∷ []))
         (subst C (append_assoc q (datagram bytes ∷ []) (claimed second.given ∷ [])) (second.serves.stands (q ++ datagram bytes ∷ []) (first.serves.stands q old)))));
     claim = second.is;
+  };
+}
+
+-- a datagram that asked for none
+pub heard_once : (mode : Mode) (c : AcqConfig) (A B : List Input → Type 0) (bytes : List ℕ) (need : Need) (s t : Token) → TellsOnce mode c A B bytes need s t
+    → asked_by (Some need) ≡ None → Receives mode c A B bytes (record { kept = kept_by (Some need); opened = 0; claim = None }) s t
+heard_once mode c A B bytes need s t told none = record {
+  given = None;
+  serves = told.serves;
+  heard = λ q old. record {
+    asked = sym (ap (λ n. is_some (asked_by n)) (told.need_is q old) ∙ ap is_some none);
+    opened = sym (ap (λ n. or_zero (asked_by n)) (told.need_is q old) ∙ ap or_zero none);
+    kept = sym (ap kept_by (told.need_is q old));
+    claim = refl;
   };
 }
 

@@ -1,11 +1,12 @@
 -- One turn of the reader, put together from its calls.
-use Rattle.std.proofs.Common.{◌≡◌, ◌≢◌, ℕ, Bool, true, false, List, [], ◌++◌, Option, Some, None, Result, Ok, Err, refl, ap, sym, ◌∙◌, subst}
-use Rattle.std.specs.Prelude.{is_some}
+use Rattle.std.proofs.Common.{◌≡◌, ◌≢◌, ℕ, Bool, true, false, List, [], ◌++◌, Option, Some, None, Result, Ok, Err, refl, ap, sym, ◌∙◌, subst, inl, inr}
+use Rattle.std.specs.Prelude.{is_some, IfOk, OnErr}
 use Rattle.std.proofs.lemmas.List.{append-nil}
 use Rattle.client_machine.specs.Machine.{Client}
 use Rattle.acquisition_machine.specs.declared.config.AcqConfig.{AcqConfig}
 use Rattle.acquisition_machine.specs.Machine.{Input}
 use Rattle.gev_links.specs.declared.failed.Failed.{Failed}
+use Rattle.gev_links.specs.Faults.{Rose}
 use Rattle.gev_links.specs.Links.{Address, Answer, failed, answer_of}
 use Rattle.gev_links.specs.Moments.{Tells, TellsEach}
 use Rattle.buffer_words.specs.Passes.{Token}
@@ -13,12 +14,12 @@ use Rattle.gev_control.specs.declared.turn_end.TurnEnd.{TurnEnd}
 use Rattle.gev_control.specs.declared.turn_end.TurnEnd.TheVariants as ends
 use Rattle.mode_calls.specs.declared.mode.Mode.{Mode}
 use Rattle.gev_acq.specs.declared.turn.Turn.{Turn}
-use Rattle.gev_control.specs.Sends.{SendsOn}
+use Rattle.gev_control.specs.Sends.{SendsOn, Fails}
 use Rattle.gev_control.specs.Controlled.{EndsAs, listed, sent_by, control_of, ClientTurn}
-use Rattle.gev_acq.specs.Reading.{is_lost, has_come}
+use Rattle.gev_acq.specs.Reading.{is_lost, has_come, FaultsOf}
 use Rattle.gev_acq.specs.Turning.{ServesTurn}
 use Rattle.gev_acq.specs.Turns.{bytes_in, heard_of, SendsAll, TakesOne}
-use Rattle.gev_control.proofs.Fronts.{added_then}
+use Rattle.gev_control.proofs.Fronts.{added_then, fails_then}
 
 pub failed_is_lost : (r : Result (Option (ℕ × Address)) Failed) (out : List ℕ) → answer_of r out ≡ failed → is_lost r ≡ true
 failed_is_lost (Ok None) out is = let bad : ⊥ = cc in absurd bad
@@ -29,6 +30,29 @@ pub come_is_some : (r : Result (Option (ℕ × Address)) Failed) (out : List ℕ
 come_is_some (Ok None) out = refl
 come_is_some (Ok (Some datagram)) out = refl
 come_is_some (Err error) out = refl
+
+-- without a fault of the stream's the faults are those of the control link
+pub control_faults : (fault : Bool) (stream stream_after control control_after : ℕ) → stream_after ≡ stream → Fails false fault control control_after
+    → FaultsOf fault stream stream_after control control_after
+control_faults true stream stream_after control control_after same fails = inr (same, fails)
+control_faults false stream stream_after control control_after same fails = (same, fails)
+
+-- where the receive failed nothing else does
+stream_faults : (fault : Bool) (stream stream_after control control_after : ℕ) → Rose stream stream_after → Fails true fault control control_after
+    → FaultsOf fault stream stream_after control control_after
+stream_faults true stream stream_after control control_after rose fails = inl (rose, fails)
+stream_faults false stream stream_after control control_after rose fails = absurd fails
+
+-- the receive, the requests, and the client's part
+pub turn_faults : (r : Result (Option (ℕ × Address)) Failed) (lost unsent fault : Bool) (stream stream_after control control_then control_after : ℕ) → lost ≡ is_lost r
+    → IfOk r (λ came. stream_after ≡ stream) → OnErr r (Rose stream stream_after) → Fails lost unsent control control_then → Fails unsent fault control_then control_after
+    → FaultsOf fault stream stream_after control control_after
+turn_faults (Ok came) lost unsent fault stream stream_after control control_then control_after is same rose first second =
+    control_faults fault stream stream_after control control_after same
+    (subst (λ (was : Bool). Fails was fault control control_after) is (fails_then lost unsent fault control control_then control_after first second))
+turn_faults (Err error) lost unsent fault stream stream_after control control_then control_after is same rose first second =
+    stream_faults fault stream stream_after control control_after rose
+    (subst (λ (was : Bool). Fails was fault control control_after) is (fails_then lost unsent fault control control_then control_after first second))
 
 -- a turn in which a link failed before the client's receive ends by a fault
 ends_failed : (s : Client) (heard : Option Answer) (moment : ℕ) (end : TurnEnd) → heard ≡ None → EndsAs end (control_of s heard moment).end → end ≡ ends.Fault

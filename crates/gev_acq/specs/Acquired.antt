@@ -1,5 +1,5 @@
 -- What a live run's reader did.
-use Rattle.std.specs.Prelude.{◌≡◌, ◌≢◌, ⊤, ℕ, ◌<◌, ◌≤◌, List, [], ◌∷◌, ◌++◌, length}
+use Rattle.std.specs.Prelude.{◌≡◌, ◌≢◌, ⊤, ℕ, ◌<◌, ◌≤◌, List, [], ◌∷◌, ◌++◌, length, Option, Some, None}
 use Rattle.board_machine.specs.declared.events.Event.{Event}
 use Rattle.board_machine.specs.declared.events.Event.TheVariants.{LookRun}
 use Rattle.client_machine.specs.Machine.{Client}
@@ -110,6 +110,13 @@ EndsBy how.Spent turns made = (length made ≡ turns) × AllGoOn made
 EndsBy how.Fault turns made = (length made ≤ turns) × EndsIn ends.Fault made
 EndsBy (how.NoAnswer req) turns made = (length made ≤ turns) × EndsIn (ends.NoAnswer req) made
 EndsBy (how.Refused status) turns made = (length made ≤ turns) × EndsIn (ends.Refused status) made
+
+-- how the reader ends with a turn that ended so; None: the next turn comes
+abbrev pub ended_by : TurnEnd → Option AcqEnd
+ended_by ends.GoesOn = None
+ended_by ends.Fault = Some how.Fault
+ended_by (ends.NoAnswer req) = Some (how.NoAnswer req)
+ended_by (ends.Refused status) = Some (how.Refused status)
 
 -- a look that found another run word than 1
 pub record FindsStopped (s u : Token) : Type 0 where

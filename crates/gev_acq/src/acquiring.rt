@@ -7,7 +7,7 @@ ghost use Rattle.buffer_words.specs.Boards.{board_id};
 ghost use Rattle.gev_control.specs.Ends.{is_fault_end};
 ghost use Rattle.gev_acq.specs.Buffers.{Backs, HoldsAlone};
 ghost use Rattle.gev_acq.specs.Reading.{FaultsOf};
-ghost use Rattle.gev_acq.specs.Acquired.{Acquires};
+ghost use Rattle.gev_acq.specs.Acquired.{Acquires, ended_by};
 
 use crate::lent::Lent;
 use crate::moments::HostMoments;
@@ -24,6 +24,18 @@ use std::sync::Wait;
 
 // The room of a receive, in bytes.
 const RECEIVE_ROOM: usize = 9000;
+
+/// How the reader ends with a turn that ended so, or None where the next turn may come.
+fn ended(end: TurnEnd) -> Option<AcqEnd>
+    ensures { result ≡ ended_by end }
+{
+    match end {
+        TurnEnd::GoesOn => None,
+        TurnEnd::Fault => Some(AcqEnd::Fault),
+        TurnEnd::NoAnswer(req) => Some(AcqEnd::NoAnswer(req)),
+        TurnEnd::Refused(status) => Some(AcqEnd::Refused(status)),
+    }
+}
 
 /// The reader of a live run with one lane: makes at most `turns` turns, and sends what it has to send to the
 /// peer `camera`.
@@ -82,11 +94,9 @@ pub fn acquire<R: Wait, L: Link, M: Link, C: Clock, G: Gate>(
         };
         let (turn, end) = turn_once(rt, board, pass, acq, lent, gate, &mut moments, mode);
         journal.push_reserved(turn);
-        match end {
-            TurnEnd::GoesOn => {}
-            TurnEnd::Fault => return AcqEnd::Fault,
-            TurnEnd::NoAnswer(req) => return AcqEnd::NoAnswer(req),
-            TurnEnd::Refused(status) => return AcqEnd::Refused(status),
+        match ended(end) {
+            None => {}
+            Some(last) => return last,
         }
     }
     AcqEnd::Spent

@@ -74,7 +74,8 @@ fn read_turns<R: Wait, S: Link, M: Link, C: Clock, G: Gate>(
     ensures backs { Backs pass.new (buffers reader.new.acq) }
     ensures alone { HoldsAlone pass.old (buffers reader.old.acq) → HoldsAlone pass.new (buffers reader.new.acq) }
 {
-    match reader.host.set_up(rt, reader.camera, reader.own) {
+    let end = reader.host.set_up(rt, reader.camera, reader.own);
+    match end {
         AcqEnd::Stopped => acquire(
             rt,
             board,
@@ -90,10 +91,7 @@ fn read_turns<R: Wait, S: Link, M: Link, C: Clock, G: Gate>(
             reader.turns,
             reader.mode,
         ),
-        AcqEnd::Spent => AcqEnd::Spent,
-        AcqEnd::Fault => AcqEnd::Fault,
-        AcqEnd::NoAnswer(req) => AcqEnd::NoAnswer(req),
-        AcqEnd::Refused(status) => AcqEnd::Refused(status),
+        _ => end,
     }
 }
 

@@ -117,11 +117,8 @@ impl Camera {
             return acknowledge(received.head, Status::InvalidHeader, &[], out);
         };
         match command {
-            Command::ReadReg(_) => self.access(received, command, out),
-            Command::WriteReg(_) => self.access(received, command, out),
-            Command::ReadMem { .. } => self.access(received, command, out),
-            Command::WriteMem { .. } => self.access(received, command, out),
             Command::Other { .. } => self.answer_other(received.head, out),
+            _ => self.access(received, command, out),
         }
     }
 

@@ -62,3 +62,11 @@ pub returns-in-Err-Length : goal.returns-in-Err-Length
 returns-in-Err-Length c =
     let same = refuses c.args.self.now c.tick.new.self c.args.peer c.args.bytes.now c.args.moment _ _ c.tick.ensures c.in-Err-Length.field-0-is c.in-Err-Length.ensures.reading in
     record { state = ap (λ a. a.camera) same; ack = ap (λ a. a.ack) same; fits = tt }
+
+pub obey-requires-clause-request : goal.obey-requires-clause-request
+obey-requires-clause-request c =
+    let given = (c.in-Ok.ensures.given c.in-Ok.head (view c.in-Ok.command)).0 (cc) in
+    given.request
+
+pub obey-requires-in-Err-Form-clause-keeps : goal.obey-requires-in-Err-Form-clause-keeps
+obey-requires-in-Err-Form-clause-keeps c = tt
