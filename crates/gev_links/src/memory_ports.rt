@@ -1,6 +1,6 @@
-ghost use Rattle.std.specs.Prelude.{◌≡◌, ◌≤◌, [], Some, None, vec_capacity, if◌then◌else◌, IfOk, IfSome};
+ghost use Rattle.std.specs.Prelude.{◌≡◌, ◌≤◌, [], ◌∷◌, Some, None, vec_capacity, if◌then◌else◌, IfOk, IfSome};
 ghost use Rattle.gev_links.specs.Given.{ToldOfThree};
-ghost use Rattle.gev_links.specs.PortsState.{IsNew};
+ghost use Rattle.gev_links.specs.PortsState.{IsNew, AreUntold};
 
 use crate::failed::Failed;
 use crate::fault_count::CountsFaults;
@@ -61,6 +61,37 @@ fn keep_address(bound: &mut Vec<Peer>, lost: &mut bool, peer: Peer)
     }
 }
 
+/// These links, the first of them last, as it's given first.
+fn three_links<L: CountsFaults + Send + Drop>(
+    alloc: Global,
+    first: L,
+    second: L,
+    third: L,
+) -> Result<Vec<L>, NoMemory>
+    ensures { IfOk result (λ links. links.items ≡ third ∷ second ∷ first ∷ []) }
+{
+    let mut links = Vec::with_capacity(alloc, ROOM)?;
+    links.push_reserved(third);
+    links.push_reserved(second);
+    links.push_reserved(first);
+    Ok(links)
+}
+
+/// Clocks with these lists of moments, the first of them last.
+fn three_clocks<'a>(
+    alloc: Global,
+    moments: [&'a [u64]; 3],
+) -> Result<Vec<MemoryClock<'a>>, NoMemory>
+    ensures { IfOk result (λ clocks. AreUntold clocks.items) }
+{
+    let mut clocks = Vec::with_capacity(alloc, ROOM)?;
+    let [one, two, three] = moments;
+    clocks.push_reserved(MemoryClock::new(three));
+    clocks.push_reserved(MemoryClock::new(two));
+    clocks.push_reserved(MemoryClock::new(one));
+    Ok(clocks)
+}
+
 impl<'a, L: CountsFaults + Send + Drop> MemoryPorts<'a, L> {
     /// Ports that give these three links, and clocks with these lists of moments, in this order. The binds
     /// whose numbers are among `failing` fail, and so does each beyond the third link; binds count from 1.
@@ -81,18 +112,11 @@ impl<'a, L: CountsFaults + Send + Drop> MemoryPorts<'a, L> {
         ensures clocks { IfOk result (λ ports. ports.clocks ≡ Some []) }
         ensures faults { IfOk result (λ ports. ports.faults ≡ 0) }
     {
-        let mut links = Vec::with_capacity(alloc, ROOM)?;
-        let mut clocks = Vec::with_capacity(alloc, ROOM)?;
+        let links = three_links(alloc, first, second, third)?;
+        let clocks = three_clocks(alloc, moments)?;
         let bound = Vec::with_capacity(alloc, ROOM)?;
         let links_back = Vec::with_capacity(alloc, ROOM)?;
         let clocks_back = Vec::with_capacity(alloc, ROOM)?;
-        links.push_reserved(third);
-        links.push_reserved(second);
-        links.push_reserved(first);
-        let [one, two, three] = moments;
-        clocks.push_reserved(MemoryClock::new(three));
-        clocks.push_reserved(MemoryClock::new(two));
-        clocks.push_reserved(MemoryClock::new(one));
         Ok(MemoryPorts {
             links,
             clocks,

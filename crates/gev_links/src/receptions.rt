@@ -1,4 +1,4 @@
-ghost use Rattle.std.specs.Prelude.{◌≡◌, ◌≤◌, ◌^◌, [], Some, Ok, length, IfOk, IfSome};
+ghost use Rattle.std.specs.Prelude.{◌≡◌, ◌≤◌, ◌^◌, [], Some, Ok, length, take, IfOk, IfSome};
 ghost use Rattle.std.specs.Bool.{OnTrue, OnFalse};
 ghost use Rattle.gev_links.specs.Links.{answer_of, failed};
 ghost use Rattle.gev_links.specs.Moments.{Tells};
@@ -29,6 +29,17 @@ impl<'a> Model for Receptions<'a> {
     ghost view = { λ r. heard_by r.given.items r.count };
 
     ghost invariant = { λ r. IsReceiving (length r.answers.now) (length r.given.items) (vec_capacity r.given) r.count };
+}
+
+/// Puts a datagram into the front of a slice, cut to the slice, and lends what it put there.
+fn put_front<'a>(bytes: &'a [u8], out: &mut [u8]) -> &'a [u8]
+    ensures few { length result.now ≤ length out.old }
+    ensures put { take (length result.now) out.new ≡ result.now }
+{
+    let size = bytes.len().min(out.len());
+    let (front, _) = bytes.split_at(size);
+    out[..size].copy_from_slice(front);
+    front
 }
 
 impl<'a> Receptions<'a> {
@@ -66,11 +77,9 @@ impl<'a> Receptions<'a> {
                 None
             }
             Some((bytes, peer)) => {
-                let size = bytes.len().min(out.len());
-                let (front, _) = bytes.split_at(size);
-                out[..size].copy_from_slice(front);
+                let front = put_front(bytes, out);
                 self.given.push_reserved(Reception::Came(front, peer));
-                Some((size, peer))
+                Some((front.len(), peer))
             }
         }
     }
@@ -90,12 +99,7 @@ impl<'a> Receptions<'a> {
         }
         match self.answers[place] {
             None => None,
-            Some((bytes, peer)) => {
-                let size = bytes.len().min(out.len());
-                let (front, _) = bytes.split_at(size);
-                out[..size].copy_from_slice(front);
-                Some((size, peer))
-            }
+            Some((bytes, peer)) => Some((put_front(bytes, out).len(), peer)),
         }
     }
 

@@ -1,5 +1,7 @@
-ghost use Rattle.std.specs.Prelude.{◌≡◌};
+ghost use Rattle.std.specs.Prelude.{◌≡◌, ◌++◌, codes};
+ghost use Rattle.std.specs.Fmt.{WritesOnOk, decimal};
 ghost use Rattle.gev_status.specs.ExitStatus.{exit_status};
+ghost use Rattle.gev_status.specs.StatusTexts.{script_cause, capture_cause, picture_cause};
 
 use frame_pictures::NoPicture;
 use gev_capture::CaptureKind;
@@ -126,35 +128,37 @@ impl fmt::Display for Status {
 
     fn fmt<W: fmt::Write>(&self, f: &mut fmt::Formatter<W>) -> fmt::Result {
         match self {
-            Status::Done => write!(f, "done"),
-            Status::Usage { place } => write!(f, "word {place} isn't understood"),
-            Status::BadScript { line, kind } => {
-                let cause = Cause(*kind);
-                write!(f, "line {line}: {cause}")
+            Status::Done => f.write_str("done"),
+            Status::Usage { place } => {
+                write_between(f, "word ", u64::from(*place), " isn't understood")
             }
-            Status::ReadFault => write!(f, "reading failed"),
-            Status::WriteFault => write!(f, "writing failed"),
-            Status::LinkFault => write!(f, "the network failed"),
-            Status::NoMemory => write!(f, "out of memory"),
+            Status::BadScript { line, kind } => {
+                write_between(f, "line ", *line, script_cause(*kind))
+            }
+            Status::ReadFault => f.write_str("reading failed"),
+            Status::WriteFault => f.write_str("writing failed"),
+            Status::LinkFault => f.write_str("the network failed"),
+            Status::NoMemory => f.write_str("out of memory"),
             Status::NoAnswer { req } => write!(f, "no answer to request {req}"),
             Status::Refused { status } => write!(f, "refused with status 0x{status:04x}"),
             Status::TurnsSpent { turns, frames } => {
                 write!(f, "{turns} turns spent, {frames} frames")
             }
             Status::BadCapture { record, kind } => {
-                let cause = CaptureCause(*kind);
-                write!(f, "record {record}: {cause}")
+                write_between(f, "record ", *record, capture_cause(*kind))
             }
-            Status::NoPicture { why } => {
-                let cause = PictureCause(*why);
-                write!(f, "no picture: {cause}")
+            Status::NoPicture { why } => write_no_picture(f, *why),
+            Status::Silent { frames } => {
+                write_between(f, "the camera is silent, ", u64::from(*frames), " frames")
             }
-            Status::Silent { frames } => write!(f, "the camera is silent, {frames} frames"),
-            Status::Controlled => write!(f, "another application controls the camera"),
-            Status::NoDescription => write!(f, "the description isn't in the camera"),
-            Status::ControlLost { frames } => {
-                write!(f, "the camera gave its control away, {frames} frames")
-            }
+            Status::Controlled => f.write_str("another application controls the camera"),
+            Status::NoDescription => f.write_str("the description isn't in the camera"),
+            Status::ControlLost { frames } => write_between(
+                f,
+                "the camera gave its control away, ",
+                u64::from(*frames),
+                " frames",
+            ),
             Status::NoDatagram { port } => write!(f, "no datagram to port {port}"),
             Status::RefusedAt { register, status } => {
                 write!(
@@ -166,68 +170,63 @@ impl fmt::Display for Status {
     }
 }
 
-/// Why a line is refused, as a text.
-#[derive(Drop)]
-struct Cause(ScriptKind);
+/// Writes a number between two texts.
+fn write_between<W: fmt::Write>(
+    f: &mut fmt::Formatter<W>,
+    before: &str,
+    number: u64,
+    after: &str,
+) -> fmt::Result
+    ensures { WritesOnOk W.write_str_gives f.old result (before.now ++ (decimal number ++ after.now)) f.new }
+{
+    write!(f, "{before}{number}{after}")
+}
 
-impl fmt::Display for Cause {
-    ghost use Rattle.std.specs.Prelude.{Some};
-    ghost use Rattle.gev_status.specs.StatusTexts.{script_cause};
-
-    ghost output = { λ cause. Some (script_cause cause.0) };
-
-    fn fmt<W: fmt::Write>(&self, f: &mut fmt::Formatter<W>) -> fmt::Result {
-        match self.0 {
-            ScriptKind::Header => write!(f, "header"),
-            ScriptKind::Word => write!(f, "word"),
-            ScriptKind::Number => write!(f, "number"),
-            ScriptKind::Hex => write!(f, "hex"),
-            ScriptKind::Long => write!(f, "too long"),
-            ScriptKind::NoEnd => write!(f, "no end"),
-            ScriptKind::Many => write!(f, "too many lines"),
-        }
+/// Why a line is refused, as a text behind the line's number.
+fn script_cause(kind: ScriptKind) -> &'static str
+    ensures { result.now ≡ codes ": " ++ script_cause kind }
+{
+    match kind {
+        ScriptKind::Header => ": header",
+        ScriptKind::Word => ": word",
+        ScriptKind::Number => ": number",
+        ScriptKind::Hex => ": hex",
+        ScriptKind::Long => ": too long",
+        ScriptKind::NoEnd => ": no end",
+        ScriptKind::Many => ": too many lines",
     }
 }
 
-/// Why a record of a capture is refused, as a text.
-#[derive(Drop)]
-struct CaptureCause(CaptureKind);
-
-impl fmt::Display for CaptureCause {
-    ghost use Rattle.std.specs.Prelude.{Some};
-    ghost use Rattle.gev_status.specs.StatusTexts.{capture_cause};
-
-    ghost output = { λ cause. Some (capture_cause cause.0) };
-
-    fn fmt<W: fmt::Write>(&self, f: &mut fmt::Formatter<W>) -> fmt::Result {
-        match self.0 {
-            CaptureKind::Magic => write!(f, "magic"),
-            CaptureKind::Cut => write!(f, "cut off"),
-            CaptureKind::Version => write!(f, "version"),
-            CaptureKind::Length => write!(f, "length"),
-            CaptureKind::Interface => write!(f, "interface"),
-        }
+/// Why a record of a capture is refused, as a text behind the record's number.
+fn capture_cause(kind: CaptureKind) -> &'static str
+    ensures { result.now ≡ codes ": " ++ capture_cause kind }
+{
+    match kind {
+        CaptureKind::Magic => ": magic",
+        CaptureKind::Cut => ": cut off",
+        CaptureKind::Version => ": version",
+        CaptureKind::Length => ": length",
+        CaptureKind::Interface => ": interface",
     }
 }
 
-/// Why a buffer has no picture, as a text.
-#[derive(Drop)]
-struct PictureCause(NoPicture);
-
-impl fmt::Display for PictureCause {
-    ghost use Rattle.std.specs.Prelude.{Some};
-    ghost use Rattle.gev_status.specs.StatusTexts.{picture_cause};
-
-    ghost output = { λ cause. Some (picture_cause cause.0) };
-
-    fn fmt<W: fmt::Write>(&self, f: &mut fmt::Formatter<W>) -> fmt::Result {
-        match self.0 {
-            NoPicture::Taken(count) => write!(f, "{count} buffers were taken"),
-            NoPicture::NoneOf(count) => write!(f, "none of {count} buffers has one"),
-            NoPicture::NoLeader => write!(f, "no leader"),
-            NoPicture::PixelFormat(code) => write!(f, "pixel format 0x{code:08x}"),
-            NoPicture::NoPixels => write!(f, "no pixels"),
-            NoPicture::PartBytes => write!(f, "rows of part bytes"),
+/// Writes that there's no picture, and why.
+fn write_no_picture<W: fmt::Write>(f: &mut fmt::Formatter<W>, why: NoPicture) -> fmt::Result
+    ensures { WritesOnOk W.write_str_gives f.old result (codes "no picture: " ++ picture_cause why) f.new }
+{
+    match why {
+        NoPicture::Taken(count) => {
+            write_between(f, "no picture: ", u64::from(count), " buffers were taken")
         }
+        NoPicture::NoneOf(count) => write_between(
+            f,
+            "no picture: none of ",
+            u64::from(count),
+            " buffers has one",
+        ),
+        NoPicture::NoLeader => f.write_str("no picture: no leader"),
+        NoPicture::PixelFormat(code) => write!(f, "no picture: pixel format 0x{code:08x}"),
+        NoPicture::NoPixels => f.write_str("no picture: no pixels"),
+        NoPicture::PartBytes => f.write_str("no picture: rows of part bytes"),
     }
 }
