@@ -10,3 +10,4 @@ pub mod Completing
 pub mod Faced
 pub mod Simulated
 pub mod Received
+pub mod Done

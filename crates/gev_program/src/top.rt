@@ -24,6 +24,7 @@ ghost use Rattle.camera_words.specs.declared.settings.Settings.{Settings};
 ghost use Rattle.camera_words.specs.declared.simulate_words.SimulateWords.{SimulateWords};
 ghost use Rattle.gev_program.specs.Replayed.{ReplaysByHeadline};
 ghost use Rattle.gev_program.specs.Explained.{ExplainsByHeadline};
+ghost use Rattle.gev_program.specs.Doings.{Does};
 
 use crate::meeting::{run_description, run_discover};
 use crate::reception::run_receive;
@@ -184,75 +185,33 @@ where
     requires within { IsErrand errand }
     requires unkept { kept.old ≡ None }
     ensures understood { (place : ℕ) → result ≢ Status.Usage place }
-    // A command is answered as `plain_top` answers it, and makes no use of the ports.
-    ensures cause { (command : Command) → errand ≡ (errands.Plain command)
-        → Answers command result (S.left source.old) (S.left source.new) (S.faults source.old) (S.faults source.new)
-        (K.written sink.old) (K.written sink.new) (K.faults sink.old) (K.faults sink.new) }
-    ensures exact { (command : Command) → errand ≡ (errands.Plain command)
-        → IfTold (S.left source.old) (λ content. IsDecided command result content) }
-    // Behind each line the trace of a replay keeps the headline, and so does that of an explanation.
-    ensures headline { errand ≡ (errands.Plain commands.Replay)
-        → ReplaysByHeadline result (S.left source.old) (S.left source.new) (S.faults source.old) (S.faults source.new)
-        (K.written sink.old) (K.written sink.new) (K.faults sink.old) (K.faults sink.new) }
-    ensures explained { errand ≡ (errands.Plain commands.Explain)
-        → ExplainsByHeadline result (S.left source.old) (S.left source.new) (S.faults source.old) (S.faults source.new)
-        (K.written sink.old) (K.written sink.new) (K.faults sink.old) (K.faults sink.new) }
-    ensures plain_ports { (command : Command) → errand ≡ (errands.Plain command)
-        → (P.binds ports.new ≡ P.binds ports.old) × (P.bound ports.new ≡ P.bound ports.old) × (P.links ports.new ≡ P.links ports.old) × (P.clocks ports.new ≡ P.clocks ports.old)
-        × (P.faults ports.new ≡ P.faults ports.old) × (kept.new ≡ None) }
-
-    // A live run reads nothing. Where a board was made its pass is kept, which is alone and has seen the run's whole
-    // history: what the run promises is said of it, the headline first, of the addresses of the links that were bound,
-    // and of the links and clocks that came back.
-    // Else a bind failed or memory was wanting: the links that were got came back unused, where memory was wanting with
-    // three clocks, and nothing was written.
-    ensures unread { (asked : Errand) → errand ≡ asked
-        → IfPorts asked (λ n. (S.left source.new ≡ S.left source.old) × (S.faults source.new ≡ S.faults source.old)) }
-    ensures live { (n : LiveNumbers) → errand ≡ (errands.Live n)
-        → IfSome kept.new (λ k. IsBound (P.bound ports.old) (P.bound ports.new) (λ camera stream. RunsOver P.L.received P.L.sent P.L.faults P.C.told n camera stream result
-        (P.links ports.old) (P.links ports.new) (P.clocks ports.old) (P.clocks ports.new) (K.written sink.old) (K.written sink.new) (K.faults sink.old) (K.faults sink.new) k.1.seen)) }
-    // So it is of a recorded run, whose script was written in place of its lines.
-    ensures recorded { (n : LiveNumbers) → errand ≡ (errands.Record n)
-        → IfSome kept.new (λ k. IsBound (P.bound ports.old) (P.bound ports.new) (λ camera stream. RecordsOver P.L.received P.L.sent P.L.faults P.C.told n camera stream result
-        (P.links ports.old) (P.links ports.new) (P.clocks ports.old) (P.clocks ports.new) (K.written sink.old) (K.written sink.new) (K.faults sink.old) (K.faults sink.new) k.1.seen)) }
+    ensures does { Does (record { heard = P.L.received; sent = P.L.sent; faults = P.L.faults; told = P.C.told }) P.stands_at
+        (record {
+          left = S.left source.old;
+          reads = S.faults source.old;
+          written = K.written sink.old;
+          writes = K.faults sink.old;
+          binds = P.binds ports.old;
+          bound = P.bound ports.old;
+          links = P.links ports.old;
+          clocks = P.clocks ports.old;
+          failed = P.faults ports.old;
+        })
+        (record {
+          left = S.left source.new;
+          reads = S.faults source.new;
+          written = K.written sink.new;
+          writes = K.faults sink.new;
+          binds = P.binds ports.new;
+          bound = P.bound ports.new;
+          links = P.links ports.new;
+          clocks = P.clocks ports.new;
+          failed = P.faults ports.new;
+        })
+        (λ k. k.1.seen) kept.new result errand }
     ensures alone { IfSome kept.new (λ k. IsAlone (After k.1.seen) 0) }
     ensures own { IfSome kept.new (λ k. k.1.table ≡ board_id k.0) }
-    ensures none { (asked : Errand) → errand ≡ asked → kept.new ≡ None
-        → IfPorts asked (λ n. RunsNothing P.L.received P.L.sent P.L.faults P.C.told result (P.binds ports.old) (P.binds ports.new) (P.links ports.old) (P.links ports.new)
-        (P.clocks ports.old) (P.clocks ports.new) (K.written sink.old) (K.written sink.new) (K.faults sink.old) (K.faults sink.new)) }
     ensures few_binds { P.binds ports.new ≤ P.binds ports.old + 3 }
-
-    // A search for cameras, and a description.
-    ensures discovers { (address : ℕ) → errand ≡ (errands.Discover address)
-        → DiscoversOver P.L.received P.L.sent P.C.told address result (P.links ports.old) (P.links ports.new)
-        (P.clocks ports.old) (P.clocks ports.new) (K.written sink.old) (K.written sink.new) }
-    ensures describes { (camera : ℕ) → errand ≡ (errands.Description camera)
-        → DescribesOver P.L.received P.L.sent P.C.told camera result (P.links ports.old) (P.links ports.new)
-        (P.clocks ports.old) (P.clocks ports.new) (K.written sink.old) (K.written sink.new) }
-    ensures cameras { (asked : Errand) → errand ≡ asked
-        → IfCameras asked ((S.left source.new ≡ S.left source.old) × (S.faults source.new ≡ S.faults source.old) × (kept.new ≡ None)) }
-    ensures simulates { (asked : SimulateWords) → errand ≡ (errands.Simulate asked)
-        → SimulatesSo P.L.received P.L.sent P.L.faults P.C.told P.stands_at asked result (P.bound ports.old) (P.bound ports.new)
-        (P.links ports.old) (P.links ports.new) (P.clocks ports.old) (P.clocks ports.new) (S.left source.old) (S.left source.new)
-        (S.faults source.old) (S.faults source.new) (K.written sink.old) (K.written sink.new) × (kept.new ≡ None) }
-
-    // The frames of a camera.
-    ensures receives { (asked : Settings) → errand ≡ (errands.Receive asked)
-        → ReceivesSo P.L.received P.L.sent P.L.faults P.C.told asked result (P.bound ports.old) (P.bound ports.new)
-        (P.links ports.old) (P.links ports.new) (P.clocks ports.old) (P.clocks ports.new) (S.left source.new)
-        (K.written sink.old) (K.written sink.new) (K.faults sink.old) (K.faults sink.new) (option_map (λ k. k.1.seen) kept.new) }
-
-    // Where no count of faults rose, each command comes to one of its own ends, or memory was wanting.
-    ensures complete { (asked : Errand) → errand ≡ asked
-        → NoneRose (S.faults source.old) (S.faults source.new) → NoneRose (K.faults sink.old) (K.faults sink.new)
-        → NoneRose (P.faults ports.old) (P.faults ports.new) → CompletesErrand asked (S.left source.old) result }
-
-    // A count of faults changes only with the answer that tells of it; of a capture, that of the source may also
-    // have changed where writing failed or memory ran out behind a read that failed, and of a camera's frames that
-    // of the sink where a link failed.
-    ensures reads_steady { (command : Command) → errand ≡ (errands.Plain command)
-        → ReadsSteady command result (S.faults source.old) (S.faults source.new) }
-    ensures writes_steady { (asked : Errand) → errand ≡ asked → WritesSteady asked result (K.faults sink.old) (K.faults sink.new) }
     ensures links_steady { result ≢ Status.LinkFault → P.faults ports.new ≡ P.faults ports.old }
     ensures link_fault { result ≡ Status.LinkFault → Rose (P.faults ports.old) (P.faults ports.new) }
 {
