@@ -1,7 +1,7 @@
 -- What waits, its first and the rest.
 use Rattle.std.proofs.Common.{◌≡◌, ℕ, ◌<◌, List, [], ◌∷◌, length, get_or, map, refl, sym, ap, subst, ◌∙◌, arith}
 use Rattle.std.specs.Prelude.{◌==◌, position, remove, Option, Some, None, IfSome}
-use Rattle.gvcp_aux.specs.declared.resend.Resend.{Resend}
+use Rattle.gvcp_wire.specs.declared.resend.Resend.{Resend}
 use Rattle.acquisition_machine.specs.Machine.{Input, State, open_at}
 use Rattle.acquisition_machine.specs.Runs.{After}
 use Rattle.acquisition_machine.specs.Sound.{IsSound}

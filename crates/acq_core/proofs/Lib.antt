@@ -13,3 +13,4 @@ pub mod Rounding
 pub mod Ticking
 pub mod Receiving
 pub mod FirstOnes
+pub mod RangeLemmas

@@ -3,11 +3,11 @@ use Rattle.std.proofs.Common.{◌≡◌, ℕ, ◌+◌, ◌<◌, List, take, Bool
 use Rattle.std.specs.Prelude.{◌||◌, Some}
 use Rattle.stream_packets.specs.Packets.{StreamPacket}
 use Rattle.block_image.specs.Kept.{kept, has_id}
-use Rattle.id_ranges.specs.Ranges.{holes}
-use Rattle.id_ranges.proofs.HoleLemmas.{holes_ask_within}
+use Rattle.missing_ranges.specs.Ranges.{holes}
+use Rattle.missing_ranges.proofs.HoleLemmas.{holes_ask_within}
 use Rattle.missing_ranges.specs.Missing.{has_gone, is_settled, top_of, missing_to, missing}
 use Rattle.packet_bitmap.specs.Bits.{has}
-use Rattle.gap_requests.specs.Either.{in_either}
+use Rattle.acq_core.specs.Either.{in_either}
 use Rattle.block_assembly.specs.PacketIds.{packet_ids}
 
 both_same : (a b c d : Bool) → a ≡ c → b ≡ d → (a || b) ≡ (c || d)

@@ -7,3 +7,4 @@ pub mod Waiting
 pub mod Giving
 pub mod Rounds
 pub mod Receiver
+pub mod Either

@@ -2,9 +2,9 @@
 use Rattle.std.specs.Prelude.{ℕ, ◌≤◌, List, map}
 use Rattle.std.specs.List.{AllByRecursion}
 use Rattle.gvcp_wire.specs.Control.{plain}
-use Rattle.gvcp_aux.specs.Bodies.{resend_head, resend_command}
+use Rattle.gvcp_wire.specs.Bodies.{resend_head, resend_command}
 use Rattle.acquisition_machine.specs.declared.retired.Retired.{Retired}
-use Rattle.gvcp_aux.specs.declared.resend.Resend.{Resend}
+use Rattle.gvcp_wire.specs.declared.resend.Resend.{Resend}
 use Rattle.acq_core.specs.declared.asked.Asked.{Asked}
 use Rattle.acq_core.specs.declared.ended.Ended.{Ended}
 use Rattle.acq_core.specs.declared.window.Window.{Window}

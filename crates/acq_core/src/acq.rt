@@ -9,7 +9,7 @@ use crate::waiting::{first_request, next_ended, next_fill, next_request};
 use crate::window::Window;
 use acquisition_machine::{AcqConfig, Counts, Need, Retired};
 use gev_types::{Buf, NoMemory};
-use gvcp_aux::Resend;
+use gvcp_wire::Resend;
 use std::alloc::Global;
 use std::marker::Model;
 
@@ -39,7 +39,7 @@ impl Acq {
     ghost use Rattle.acquisition_machine.specs.Machine.{open_at};
     ghost use Rattle.acquisition_machine.specs.Runs.{After, turn};
     ghost use Rattle.acquisition_machine.specs.TurnLaws.{asked_by, TakesGiven};
-    ghost use Rattle.gvcp_aux.specs.declared.resend.Resend.{Resend as ResendOf};
+    ghost use Rattle.gvcp_wire.specs.declared.resend.Resend.{Resend as ResendOf};
     ghost use Rattle.acq_core.specs.Standing.{IsConfig, capped};
     ghost use Rattle.acq_core.specs.Waiting.{waiting_fills, waiting_requests, waiting_resends, waiting_ends};
     ghost use Rattle.acq_core.specs.Giving.{given_as};

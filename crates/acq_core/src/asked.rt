@@ -1,4 +1,4 @@
-use gvcp_aux::Resend;
+use gvcp_wire::Resend;
 
 /// A request that waits to be sent.
 #[derive(Clone, Copy, PartialEq, Eq)]

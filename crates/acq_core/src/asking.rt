@@ -7,11 +7,11 @@ ghost use Rattle.block_assembly.specs.Assembly.{AssemblyStands};
 ghost use Rattle.acquisition_machine.specs.Blocks.{Open, ranges_asked};
 ghost use Rattle.acq_core.specs.Standing.{SlotStands, IsSlot};
 
+use crate::requests;
 use crate::slot::{Hold, Slot};
 use acquisition_machine::AcqConfig;
 use arrayvec::ArrayVec;
 use block_assembly::Assembly;
-use gap_requests::requests;
 
 /// Ranges of packet ids, each by its first and its last.
 pub(crate) type Ranges = ArrayVec<(u32, u32), 8>;

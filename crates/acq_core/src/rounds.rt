@@ -16,7 +16,7 @@ use crate::slot::Slot;
 use crate::window::Window;
 use acquisition_machine::AcqConfig;
 use arrayvec::ArrayVec;
-use gvcp_aux::Resend;
+use gvcp_wire::Resend;
 
 /// Adds a request for each of these ranges of the block, with the numbers from this one on, and gives
 /// the number after them.

@@ -2,7 +2,7 @@
 
 ghost use Rattle.std.specs.Prelude.{◌≡◌, ℕ, ◌≤◌, ◌==◌, [], ◌∷◌, List, position, IfSome, MatchOption};
 ghost use Rattle.std.specs.Vec.{vec_len, vec_capacity};
-ghost use Rattle.gvcp_aux.specs.declared.resend.Resend.{Resend as ResendOf};
+ghost use Rattle.gvcp_wire.specs.declared.resend.Resend.{Resend as ResendOf};
 ghost use Rattle.acquisition_machine.specs.Machine.{State, open_at};
 ghost use Rattle.acquisition_machine.specs.Sound.{IsSound};
 ghost use Rattle.acq_core.specs.Standing.{Acts};
@@ -13,7 +13,7 @@ use crate::ended::Ended;
 use crate::hearing::find;
 use crate::window::Window;
 use acquisition_machine::Retired;
-use gvcp_aux::{Resend, write_resend};
+use gvcp_wire::{Resend, write_resend};
 
 /// The first fill that waits, if one does.
 pub(crate) fn next_fill(window: &mut Window) -> Option<Retired>

@@ -6,9 +6,9 @@ use Rattle.std.proofs.lemmas.Bool.{cases_eq, and_parts, or_cases, eqb-true, ltb-
 use Rattle.std.proofs.lemmas.List.{length-take}
 use Rattle.std.proofs.lemmas.List.Elements.{recursion_from_All, All-contains_itself, Contains-append_right}
 use Rattle.stream_packets.specs.Packets.{StreamPacket}
-use Rattle.id_ranges.specs.Ranges.{holes}
-use Rattle.id_ranges.specs.Laws.{IsHole, AreHoles}
-use Rattle.id_ranges.proofs.HoleLemmas.{holes_are_maximal}
+use Rattle.missing_ranges.specs.Ranges.{holes}
+use Rattle.missing_ranges.specs.RangeLaws.{IsHole, AreHoles}
+use Rattle.missing_ranges.proofs.HoleLemmas.{holes_are_maximal}
 use Rattle.missing_ranges.specs.Missing.{top_of, is_settled, missing_to, missing}
 use Rattle.acquisition_machine.specs.declared.config.AcqConfig.{AcqConfig}
 use Rattle.acquisition_machine.specs.Blocks.{Open, Retirement, kept_in, is_ready, ranges_asked, after_asking, after_round}

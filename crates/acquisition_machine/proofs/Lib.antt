@@ -13,3 +13,8 @@ pub mod Buffers
 pub mod Once
 pub mod Asking
 pub mod Causes
+pub mod Bare
+pub mod BareTurns
+pub mod Uncounted
+pub mod Lists
+pub mod Agreeing

@@ -9,3 +9,6 @@ pub mod Laws
 pub mod TurnLaws
 pub mod RequestLaws
 pub mod FrameLaws
+pub mod Erased
+pub mod Turns
+pub mod ErasedLaws

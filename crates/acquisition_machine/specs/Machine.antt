@@ -5,8 +5,8 @@ use Rattle.stream_packets.specs.Packets.{StreamPacket, head_of, is_notice}
 use Rattle.gvsp_wire.specs.declared.wire_error.WireError.{WireError}
 use Rattle.gvsp_wire.specs.Reading.{reading}
 use Rattle.gvcp_wire.specs.Control.{plain}
-use Rattle.gvcp_aux.specs.declared.resend.Resend.{Resend}
-use Rattle.gvcp_aux.specs.Bodies.{resend_head, resend_command}
+use Rattle.gvcp_wire.specs.declared.resend.Resend.{Resend}
+use Rattle.gvcp_wire.specs.Bodies.{resend_head, resend_command}
 use Rattle.block_image.specs.Kept.{fits}
 use Rattle.acquisition_machine.specs.declared.config.AcqConfig.{AcqConfig}
 use Rattle.acquisition_machine.specs.declared.counts.Counts.{Counts}

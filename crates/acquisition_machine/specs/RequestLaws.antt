@@ -1,7 +1,7 @@
 -- Laws of what is asked for again.
 use Rattle.std.specs.Prelude.{◌≡◌, ◌⊎◌, ℕ, ◌+◌, ◌-◌, ◌<◌, ◌≤◌, ◌==◌, true, List, [], ◌∷◌, Some, is_some, if◌then◌else◌}
 use Rattle.std.specs.List.{AllByRecursion, Contains}
-use Rattle.id_ranges.specs.Laws.{IsHole}
+use Rattle.missing_ranges.specs.RangeLaws.{IsHole}
 use Rattle.missing_ranges.specs.Missing.{top_of, is_settled}
 use Rattle.acquisition_machine.specs.declared.config.AcqConfig.{AcqConfig}
 use Rattle.acquisition_machine.specs.Blocks.{Open, kept_in}

@@ -6,12 +6,12 @@ use Rattle.std.proofs.Math.Seq.{take-nil}
 use Rattle.stream_packets.specs.Packets.{StreamPacket}
 use Rattle.block_image.specs.Kept.{has_id}
 use Rattle.missing_ranges.specs.Missing.{top_of}
-use Rattle.id_ranges.specs.Ranges.{holes}
-use Rattle.id_ranges.specs.Laws.{IsFirstHole}
-use Rattle.id_ranges.proofs.FirstLemmas.{holes_begin_with_first}
-use Rattle.id_ranges.proofs.HoleLemmas.{holes_ask_within}
+use Rattle.missing_ranges.specs.Ranges.{holes}
+use Rattle.missing_ranges.specs.RangeLaws.{IsFirstHole}
+use Rattle.missing_ranges.proofs.FirstLemmas.{holes_begin_with_first}
+use Rattle.missing_ranges.proofs.HoleLemmas.{holes_ask_within}
 use Rattle.packet_bitmap.specs.Bits.{has}
-use Rattle.block_reasons.specs.Lost.{ids_in, lost, lost_to}
+use Rattle.missing_ranges.specs.Lost.{ids_in, lost, lost_to}
 use Rattle.block_assembly.specs.declared.lost.Lost.{Lost}
 use Rattle.block_assembly.specs.Losing.{lost_of, none_lost, with_range, with_ranges}
 

@@ -10,8 +10,8 @@ use Rattle.block_image.specs.KeptFacts.{HasDistinctIds, IsKept, ArePayloadsNumbe
 use Rattle.block_image.specs.Image.{is_long_enough, has_trailer_at}
 use Rattle.block_image.proofs.IsKept.{may_keep_parts, may_keep-payload}
 use Rattle.packet_bitmap.specs.Bits.{has}
-use Rattle.block_reasons.specs.Reasons.{has_payload_at, has_payloads_to, place_of, is_short_at, has_short_to}
-use Rattle.block_reasons.proofs.Payloads.{long_is, payload_at-none, short_at-none}
+use Rattle.missing_ranges.specs.Reasons.{has_payload_at, has_payloads_to, place_of, is_short_at, has_short_to}
+use Rattle.missing_ranges.proofs.Payloads.{long_is, payload_at-none, short_at-none}
 use Rattle.block_assembly.specs.declared.progress.Progress.{Progress}
 use Rattle.block_assembly.specs.declared.progress.Ending.{Ending}
 use Rattle.block_assembly.specs.declared.progress.Short.{Short}

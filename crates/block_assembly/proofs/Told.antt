@@ -2,9 +2,9 @@
 use Rattle.std.proofs.Common.{◌≡◌, ℕ, List, length, Bool, Option}
 use Rattle.stream_packets.specs.Packets.{StreamPacket}
 use Rattle.block_image.specs.Image.{is_complete, extent_in}
-use Rattle.block_reasons.specs.declared.reasons.Reasons.{Reasons}
-use Rattle.block_reasons.specs.Reasons.{reasons}
-use Rattle.block_reasons.specs.Lost.{lost}
+use Rattle.missing_ranges.specs.declared.reasons.Reasons.{Reasons}
+use Rattle.missing_ranges.specs.Reasons.{reasons}
+use Rattle.missing_ranges.specs.Lost.{lost}
 use Rattle.block_assembly.specs.declared.progress.Progress.{Progress}
 use Rattle.block_assembly.specs.declared.lost.Lost.{Lost}
 use Rattle.block_assembly.specs.declared.account.Account.{Account}

@@ -2,8 +2,8 @@
 use Rattle.std.specs.Prelude.{ℕ, List, length}
 use Rattle.stream_packets.specs.Packets.{StreamPacket}
 use Rattle.block_image.specs.Image.{is_complete, extent_in, leader_in, lines_in}
-use Rattle.block_reasons.specs.Reasons.{reasons}
-use Rattle.block_reasons.specs.Lost.{lost}
+use Rattle.missing_ranges.specs.Reasons.{reasons}
+use Rattle.missing_ranges.specs.Lost.{lost}
 use Rattle.block_assembly.specs.declared.account.Account.{Account}
 use Rattle.block_assembly.specs.Losing.{lost_of}
 

@@ -1,6 +1,6 @@
 -- What is told of the packets that a block lost.
 use Rattle.std.specs.Prelude.{ℕ, ◌+◌, ◌-◌, List, [], ◌∷◌, ◌++◌, take, length}
-use Rattle.block_reasons.specs.Lost.{ids_in}
+use Rattle.missing_ranges.specs.Lost.{ids_in}
 use Rattle.block_assembly.specs.declared.lost.Lost.{Lost}
 
 -- how many ids these ranges have, how many ranges there are, and the first eight

@@ -5,8 +5,8 @@ ghost use Rattle.gev_types.specs.Limits.{max_packet_id, max_buffer_size};
 ghost use Rattle.stream_packets.specs.Packets.{StreamPacket};
 ghost use Rattle.stream_packets.specs.FramePackets.{payload_count};
 ghost use Rattle.packet_bitmap.specs.Bits.{has};
-ghost use Rattle.block_reasons.specs.Reasons.{has_payloads_to, has_short_to, reasons_with, reasons};
-ghost use Rattle.block_reasons.specs.Lost.{lost};
+ghost use Rattle.missing_ranges.specs.Reasons.{has_payloads_to, has_short_to, reasons_with, reasons};
+ghost use Rattle.missing_ranges.specs.Lost.{lost};
 ghost use Rattle.block_assembly.specs.PacketIds.{packet_ids};
 ghost use Rattle.block_assembly.specs.Assembly.{IsAssembly, IsSound, is_trailer_within, HasClearFrom};
 ghost use Rattle.block_assembly.specs.Losing.{lost_of};
@@ -16,8 +16,8 @@ use crate::completing::{are_long, completes, extent, is_trailer_id, last_payload
 use crate::lost::{Lost, lost_to, none_lost};
 use crate::progress::{Ending, Progress};
 use block_image::start_of_payload;
-use block_reasons::Reasons;
 use gvsp_wire::LeaderInfo;
+use missing_ranges::Reasons;
 use packet_bitmap::Bitmap;
 
 /// What is told of a block that retires with a buffer.

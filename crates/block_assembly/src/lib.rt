@@ -19,8 +19,8 @@ mod verdict; // the answer to a packet
 
 pub use account::Account;
 pub use assembly::Assembly;
-pub use block_reasons::Reasons;
 pub use laws::{accounts_agree, packet_ids_are_those, verdicts_tell};
 pub use lost::{FirstRanges, Lost};
+pub use missing_ranges::Reasons;
 pub use progress::PACKET_IDS;
 pub use verdict::Verdict;

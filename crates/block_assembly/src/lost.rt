@@ -2,7 +2,7 @@
 
 ghost use Rattle.std.specs.Prelude.{◌≡◌, ◌+◌, ◌-◌, ◌≤◌, ◌<◌, [], ◌∷◌, ◌++◌, take, length};
 ghost use Rattle.gev_types.specs.Limits.{max_packet_id};
-ghost use Rattle.id_ranges.specs.Ranges.{holes};
+ghost use Rattle.missing_ranges.specs.Ranges.{holes};
 ghost use Rattle.packet_bitmap.specs.Bits.{has};
 ghost use Rattle.block_assembly.specs.PacketIds.{packet_ids};
 ghost use Rattle.block_assembly.specs.Losing.{none_lost, with_range, lost_of};

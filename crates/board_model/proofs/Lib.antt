@@ -7,3 +7,4 @@ pub mod CallsKinds
 pub mod CallsAnnounce
 pub mod CallsFill
 pub mod CallsInfo
+pub mod Parts

@@ -7,7 +7,7 @@ use crate::shown::{shown, told};
 use camera_stream::{CameraStream, PACKET_ROOM};
 use gev_frames::frame_of;
 use gev_types::{MAX_PAYLOAD_SIZE, MIN_PAYLOAD_SIZE};
-use gvcp_aux::Resend;
+use gvcp_wire::Resend;
 use resend_store::SentFrame;
 use std::alloc::Global;
 

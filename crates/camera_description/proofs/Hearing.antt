@@ -12,8 +12,8 @@ use Rattle.gev_control.specs.declared.acq_end.AcqEnd.TheVariants as how
 use Rattle.gev_control.specs.Controlled.{listed}
 use Rattle.gev_control.specs.OrderTurns.{Progress, progress, OrderTurned, order_turn}
 use Rattle.gev_control.specs.CarriesOut.{ControlSide, orders_after, order_heards, CarriesOut}
-use Rattle.read_filters.specs.Reads.{has_memory, lacks_memory, with_memory, heard_since}
-use Rattle.read_filters.proofs.Since.{length_since}
+use Rattle.link_filters.specs.Reads.{has_memory, lacks_memory, with_memory, heard_since}
+use Rattle.link_filters.proofs.Since.{length_since}
 use Rattle.camera_description.specs.Memory.{heard_of, Reads, IsToldMemory, HasRead}
 use Rattle.camera_description.proofs.Alone.{acknowledged}
 

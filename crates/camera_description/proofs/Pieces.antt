@@ -16,7 +16,7 @@ use Rattle.gev_control.specs.Sends.{Fails}
 use Rattle.gev_control.specs.OrderTurns.{progress}
 use Rattle.gev_control.specs.CarriesOut.{ControlSide, orders_after, CarriesTo}
 use Rattle.gev_control.proofs.OrderEnds.{ends_as_told}
-use Rattle.read_filters.specs.Reads.{with_memory, heard_since, HasTold, told_count}
+use Rattle.link_filters.specs.Reads.{with_memory, heard_since, HasTold, told_count}
 use Rattle.camera_description.specs.declared.describe_end.DescribeEnd.{DescribeEnd}
 use Rattle.camera_description.specs.declared.describe_end.DescribeEnd.TheVariants.{Done, LinkFault, WriteFault, NoAnswer, Refused}
 use Rattle.camera_description.specs.declared.location.Location.{Location}

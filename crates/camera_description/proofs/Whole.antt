@@ -7,7 +7,7 @@ use Rattle.wire_fields.specs.Fields.{number_at}
 use Rattle.gev_links.specs.Links.{Address, Answer}
 use Rattle.gev_links.specs.Moments.{TellsEach}
 use Rattle.gev_control.specs.CarriesOut.{ControlSide}
-use Rattle.read_filters.specs.Reads.{has_memory}
+use Rattle.link_filters.specs.Reads.{has_memory}
 use Rattle.camera_description.specs.declared.location.Location.{Location}
 use Rattle.camera_description.specs.Memory.{PIECE_SIZE, asked_count, memory_in, heard_of, TellsMemory, IsToldMemory}
 use Rattle.camera_description.specs.Describing.{HasCopied, nothing_yet, one_more}

@@ -11,7 +11,7 @@ use Rattle.gev_control.specs.declared.acq_end.AcqEnd.{AcqEnd}
 use Rattle.gev_control.specs.declared.acq_end.AcqEnd.TheVariants as how
 use Rattle.gev_control.specs.declared.carried.Carried.{Carried}
 use Rattle.gev_control.specs.CarriesOut.{ControlSide, CarriesTo}
-use Rattle.read_filters.specs.Reads.{has_memory, with_memory, heard_since, told_count}
+use Rattle.link_filters.specs.Reads.{has_memory, with_memory, heard_since, told_count}
 
 -- the most bytes of one READMEM
 abbrev pub PIECE_SIZE : ℕ

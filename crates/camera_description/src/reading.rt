@@ -3,7 +3,7 @@
 ghost use Rattle.std.specs.Prelude.{◌≡◌, false, drop};
 ghost use Rattle.gev_control.specs.Ends.{is_fault_end};
 ghost use Rattle.gev_control.specs.Sends.{Fails};
-ghost use Rattle.read_filters.specs.Reads.{told_count};
+ghost use Rattle.link_filters.specs.Reads.{told_count};
 ghost use Rattle.camera_description.specs.Memory.{memory_in, Reads};
 ghost use Rattle.camera_description.specs.Describing.{end_by};
 
@@ -12,7 +12,7 @@ use control_client::Client;
 use gev_control::{AcqEnd, Order, carry_out};
 use gev_links::{Clock, Link};
 use gev_types::Peer;
-use read_filters::{AskedFor, MemoryReads};
+use link_filters::{AskedFor, MemoryReads};
 use std::sync::Wait;
 
 /// Reads so many bytes of the camera's memory over a link, which is given back, by one READMEM.

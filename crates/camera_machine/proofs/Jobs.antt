@@ -3,7 +3,7 @@ use Rattle.std.proofs.Common.{◌≡◌, ℕ, zero, suc, ◌+◌, ◌≤◌, Boo
 use Rattle.std.specs.Prelude.{◌==◌, ◌&&◌, nat_lt, if◌then◌else◌, ◌-◌, nat_le}
 use Rattle.std.proofs.lemmas.Bool.{leb-true}
 use Rattle.gvcp_wire.specs.declared.status.Status.TheVariants.{PacketUnavailable, PacketNotYetAvailable, PacketRemovedFromMemory}
-use Rattle.gvcp_aux.specs.declared.resend.Resend.{Resend}
+use Rattle.gvcp_wire.specs.declared.resend.Resend.{Resend}
 use Rattle.resend_store.specs.Shelf.{Shelf, held_in}
 use Rattle.camera_machine.specs.Camera.{Job}
 use Rattle.camera_machine.specs.Stream.{replies_to, sent_packets, again, range_of, reply_packets, has_packets, rest_of, without_first}

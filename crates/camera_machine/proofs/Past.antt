@@ -7,7 +7,7 @@ use Rattle.gev_types.specs.declared.peer.Peer.{Peer}
 use Rattle.gvcp_wire.specs.declared.message.CommandHead.{CommandHead}
 use Rattle.gvcp_wire.specs.declared.status.Status.TheVariants.{InvalidParameter}
 use Rattle.gvcp_wire.specs.Reading.{command_reading}
-use Rattle.gvcp_aux.specs.declared.resend.Resend.{Resend}
+use Rattle.gvcp_wire.specs.declared.resend.Resend.{Resend}
 use Rattle.bootstrap_regs.specs.Addresses.{CCP, SCP0}
 use Rattle.bootstrap_regs.specs.Registers.{address_refusal, initial_at, value_refusal, register_at}
 use Rattle.bootstrap_regs.specs.Words.{word_at, with_word}

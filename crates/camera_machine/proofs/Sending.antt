@@ -15,7 +15,7 @@ use Rattle.resend_store.specs.Pushes.{reply_of}
 use Rattle.resend_store.proofs.Standing.{store_answers}
 use Rattle.camera_machine.specs.Camera.{Camera, new_camera, is_open}
 use Rattle.camera_machine.specs.Stream.{stream_of, next_frame, with_frame}
-use Rattle.gvcp_aux.specs.declared.resend.Resend.{Resend}
+use Rattle.gvcp_wire.specs.declared.resend.Resend.{Resend}
 use Rattle.camera_machine.specs.Events.{Event, command, tick, make_frame, next_packet, set_short, step, Deed, changed, executed, made, with_look, past_with, after, past, last_short, frames_made, frames_since_opening}
 use Rattle.camera_machine.specs.Sending.{HaveRows, FramesAreGenerated, IsNeverSet, IsSetFirst, FramesAreShort, HaveSize, AskFromOne, PacketsAreSent, RepliesSayThePast}
 use Rattle.camera_machine.specs.Laws.{IsLeftBy}

@@ -11,7 +11,7 @@ use Rattle.resend_store.specs.declared.reply.Reply.{Reply}
 use Rattle.resend_store.specs.declared.reply.Reply.TheVariants.{Packets, Notice}
 use Rattle.resend_store.specs.Pushes.{is_held}
 use Rattle.resend_store.specs.Shelf.{Shelf, held_in, staying, reply_in}
-use Rattle.gvcp_aux.specs.declared.resend.Resend.{Resend}
+use Rattle.gvcp_wire.specs.declared.resend.Resend.{Resend}
 use Rattle.camera_machine.specs.Camera.{Camera, Job}
 use Rattle.camera_machine.specs.Stream.{sent_packets, again, range_of, reply_packets, replies_to, with_reply, reply_count, MAX_REPLIES, all_waiting, first_of, first_waiting, rest_of, without_first}
 

@@ -16,7 +16,7 @@ use Rattle.gvcp_wire.specs.Status.{status_code}
 use Rattle.gvcp_wire.specs.Messages.{PlainCommand, read_reg, write_reg, read_mem, write_mem, other}
 use Rattle.gvcp_wire.specs.Reading.{command_reading}
 use Rattle.gvcp_wire.proofs.Commands.{reads_command}
-use Rattle.gvcp_aux.specs.declared.resend.Resend.{Resend}
+use Rattle.gvcp_wire.specs.declared.resend.Resend.{Resend}
 use Rattle.bootstrap_regs.specs.Addresses.{CCP, SCP0, DISCOVERY_WORDS}
 use Rattle.bootstrap_regs.specs.Registers.{address_refusal, value_refusal}
 use Rattle.bootstrap_regs.specs.Words.{with_word, released_words}

@@ -14,8 +14,8 @@ use Rattle.gvcp_wire.specs.Flags.{has_flag}
 use Rattle.gvcp_wire.specs.Messages.{PlainCommand, read_reg, write_reg, read_mem, write_mem, other}
 use Rattle.gvcp_wire.specs.Reading.{command_reading}
 use Rattle.gvcp_wire.specs.Answer.{plain_ack}
-use Rattle.gvcp_aux.specs.declared.resend.Resend.{Resend}
-use Rattle.gvcp_aux.specs.Reading.{resend_reading}
+use Rattle.gvcp_wire.specs.declared.resend.Resend.{Resend}
+use Rattle.gvcp_wire.specs.BodyReading.{resend_reading}
 use Rattle.bootstrap_regs.specs.Addresses.{DISCOVERY_WORDS}
 use Rattle.bootstrap_regs.specs.Changes.{Change}
 use Rattle.control_privilege.specs.Control.{is_primary, renewed_by}

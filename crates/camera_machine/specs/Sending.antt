@@ -9,7 +9,7 @@ use Rattle.gvcp_wire.specs.declared.message.CommandHead.{CommandHead}
 use Rattle.gvcp_wire.specs.declared.message.ControlError.{ControlError}
 use Rattle.gvcp_wire.specs.Messages.{PlainCommand}
 use Rattle.gvcp_wire.specs.Reading.{command_reading}
-use Rattle.gvcp_aux.specs.declared.resend.Resend.{Resend}
+use Rattle.gvcp_wire.specs.declared.resend.Resend.{Resend}
 use Rattle.resend_store.specs.Pushes.{reply_of}
 use Rattle.resend_store.specs.Shelf.{reply_in}
 use Rattle.camera_machine.specs.Camera.{Camera, new_camera}

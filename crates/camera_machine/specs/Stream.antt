@@ -7,7 +7,7 @@ use Rattle.stream_packets.specs.Packets.{StreamPacket, leader, payload, trailer,
 use Rattle.stream_packets.specs.FramePackets.{packets_of}
 use Rattle.gvcp_wire.specs.declared.status.Status.TheVariants.{PacketResend}
 use Rattle.gvcp_wire.specs.Status.{status_code}
-use Rattle.gvcp_aux.specs.declared.resend.Resend.{Resend}
+use Rattle.gvcp_wire.specs.declared.resend.Resend.{Resend}
 use Rattle.bootstrap_regs.specs.Addresses.{SCPS0}
 use Rattle.bootstrap_regs.specs.Words.{word_at}
 use Rattle.resend_store.specs.declared.sent.SentFrame.{SentFrame}

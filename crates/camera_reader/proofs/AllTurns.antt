@@ -12,7 +12,7 @@ use Rattle.gev_links.specs.Moments.{TellsEach}
 use Rattle.gev_links.proofs.Growing.{tells_none, tells_more, tells_then, adds_none}
 use Rattle.buffer_words.specs.Passes.{Token, Enters}
 use Rattle.buffer_words.proofs.Several.{each_none, each_one, each_first, each_then}
-use Rattle.mode_calls.specs.declared.mode.Mode.{Mode}
+use Rattle.board_calls.specs.declared.mode.Mode.{Mode}
 use Rattle.gev_control.specs.Sends.{addressed}
 use Rattle.gev_control.specs.Controlled.{listed, control_of}
 use Rattle.gev_control.proofs.Fronts.{added_then}

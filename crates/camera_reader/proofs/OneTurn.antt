@@ -14,7 +14,7 @@ use Rattle.gev_control.specs.declared.turn_end.TurnEnd.TheVariants as ends
 use Rattle.gev_control.specs.Sends.{SendsOn}
 use Rattle.gev_control.specs.Controlled.{EndsAs, listed, sent_by, control_of, ClientTurn}
 use Rattle.gev_control.proofs.Fronts.{added_then}
-use Rattle.mode_calls.specs.declared.mode.Mode.{Mode}
+use Rattle.board_calls.specs.declared.mode.Mode.{Mode}
 use Rattle.packet_requests.specs.declared.id_mode.IdMode.{IdMode}
 use Rattle.packet_requests.specs.Requests.{control_request}
 use Rattle.gev_acq.specs.declared.heard.Heard.{Heard}

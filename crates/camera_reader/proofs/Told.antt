@@ -6,7 +6,7 @@ use Rattle.acquisition_machine.specs.Machine.{Input, tick, request_bytes}
 use Rattle.acquisition_machine.specs.Runs.{turn}
 use Rattle.gev_links.specs.Links.{Address}
 use Rattle.buffer_words.specs.Passes.{Token}
-use Rattle.mode_calls.specs.declared.mode.Mode.{Mode}
+use Rattle.board_calls.specs.declared.mode.Mode.{Mode}
 use Rattle.gev_control.specs.Sends.{SendsOn}
 use Rattle.packet_requests.specs.declared.id_mode.IdMode.{IdMode}
 use Rattle.packet_requests.specs.Requests.{control_request}

@@ -12,7 +12,7 @@ use Rattle.acquisition_machine.specs.declared.config.AcqConfig.{AcqConfig}
 use Rattle.acquisition_machine.specs.Machine.{Input}
 use Rattle.buffer_words.specs.Passes.{Token, Enters}
 use Rattle.buffer_words.proofs.Several.{each_one}
-use Rattle.mode_calls.specs.declared.mode.Mode.{Mode}
+use Rattle.board_calls.specs.declared.mode.Mode.{Mode}
 use Rattle.gev_acq.specs.Turns.{Turned, Outside}
 use Rattle.gev_acq.specs.Moments.{PacedClock, begins_at, SaysPaced, SaysEach}
 use Rattle.gev_acq.specs.Reading.{FaultsOf}

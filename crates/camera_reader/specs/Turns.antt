@@ -8,7 +8,7 @@ use Rattle.gev_links.specs.Links.{Address, Adds}
 use Rattle.gev_links.specs.Moments.{Tells, TellsEach}
 use Rattle.buffer_words.specs.Passes.{Token}
 use Rattle.buffer_words.specs.Several.{EntersEach}
-use Rattle.mode_calls.specs.declared.mode.Mode.{Mode}
+use Rattle.board_calls.specs.declared.mode.Mode.{Mode}
 use Rattle.gev_control.specs.declared.turn_end.TurnEnd.{TurnEnd}
 use Rattle.gev_control.specs.Sends.{addressed}
 use Rattle.gev_control.specs.Controlled.{listed, control_of}

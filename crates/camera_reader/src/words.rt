@@ -1,5 +1,5 @@
+use board_calls::Mode;
 use gev_types::Peer;
-use mode_calls::Mode;
 use packet_requests::IdMode;
 
 /// How a camera's stream is read.

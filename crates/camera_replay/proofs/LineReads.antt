@@ -7,8 +7,8 @@ use Rattle.gev_script.specs.declared.line.Line.{Line}
 use Rattle.gev_script.specs.Lines.{view, seen}
 use Rattle.gev_script.specs.Spelling.{IsScriptLine}
 use Rattle.gev_script.specs.Grammar.{line_of, first_name}
-use Rattle.camera_trace.specs.Standing.{is_in_place, kind_of_read, later_kind}
-use Rattle.camera_trace.proofs.InPlace.{in_place}
+use Rattle.camera_replay.specs.Standing.{is_in_place, kind_of_read, later_kind}
+use Rattle.camera_replay.proofs.InPlace.{in_place}
 use Rattle.camera_replay.specs.Lines.{Reads}
 
 abbrev word : Option ScriptKind

@@ -2,3 +2,9 @@ pub mod Running
 pub mod Lines
 pub mod Packets
 pub mod Simulation
+pub mod Serving
+pub mod Standing
+pub mod Printing
+pub mod Laws
+pub mod Worked
+pub mod Judging

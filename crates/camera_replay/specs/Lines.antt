@@ -6,8 +6,8 @@ use Rattle.gev_script.specs.Lines as line
 use Rattle.gev_script.specs.Lines.{ScriptLine}
 use Rattle.gev_script.specs.Grammar.{line_of}
 use Rattle.gev_script.specs.Spelling.{IsScriptLine}
-use Rattle.camera_trace.specs.Serving.{opening}
-use Rattle.camera_trace.specs.Standing.{later_kind, IsCameraLine}
+use Rattle.camera_replay.specs.Serving.{opening}
+use Rattle.camera_replay.specs.Standing.{later_kind, IsCameraLine}
 use Rattle.camera_replay.specs.declared.running.Running.{Running}
 use Rattle.camera_replay.specs.Running.{serving_of}
 

@@ -5,7 +5,7 @@ use Rattle.gvsp_wire.specs.Plain.{plain}
 use Rattle.gev_report.specs.CameraLines.{stream_line}
 use Rattle.camera_machine.specs.Camera.{Camera, stream_peer}
 use Rattle.camera_machine.specs.Stream.{first_waiting, given, all_waiting, emptied}
-use Rattle.camera_trace.specs.Serving.{packets_text}
+use Rattle.camera_replay.specs.Serving.{packets_text}
 
 -- A packet was given, and its line added.
 pub record GaveOne (old : Camera) (text text_after : List ℕ) (new : Camera) : Type 0 where

@@ -8,8 +8,8 @@ use Rattle.script_runs.specs.declared.ran.Ran.{Ran}
 use Rattle.script_runs.specs.declared.ran.Ran.TheVariants.{GoesOn, Ended}
 use Rattle.camera_machine.specs.Camera.{Camera}
 use Rattle.camera_machine.specs.Commands.{commanded}
-use Rattle.camera_trace.specs.Serving.{Serving, local_peer, ack_text, Does}
-use Rattle.camera_trace.specs.Standing.{Standing, first, running}
+use Rattle.camera_replay.specs.Serving.{Serving, local_peer, ack_text, Does}
+use Rattle.camera_replay.specs.Standing.{Standing, first, running}
 use Rattle.camera_replay.specs.declared.running.Running.{Running}
 
 abbrev pub serving_of : Running → Serving

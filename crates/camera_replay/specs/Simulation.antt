@@ -3,7 +3,7 @@
 use Rattle.std.specs.Prelude.{◌≡◌, refl}
 use Rattle.std.proofs.Common.{subst}
 use Rattle.script_runs.specs.Simulation.{Simulates, RefusesAlike}
-use Rattle.camera_trace.specs.Standing.{Standing, CameraRuns, CameraRefuses}
+use Rattle.camera_replay.specs.Standing.{Standing, CameraRuns, CameraRefuses}
 
 abbrev pub Same : Standing → Standing → Type 0
 Same now plain = now ≡ plain

@@ -2,7 +2,7 @@
 
 ghost use Rattle.std.specs.Prelude.{◌≡◌, ◌≤◌, length, IfOk, MatchResult};
 ghost use Rattle.script_runs.specs.Runs.{IfRefused};
-ghost use Rattle.camera_trace.specs.Serving.{opening};
+ghost use Rattle.camera_replay.specs.Serving.{opening};
 ghost use Rattle.camera_replay.specs.Running.{serving_of};
 ghost use Rattle.camera_replay.specs.Lines.{Begins, IsNoHeader};
 

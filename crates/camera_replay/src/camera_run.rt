@@ -1,8 +1,8 @@
 //! The machine that runs camera scripts.
 
 ghost use Rattle.std.specs.Prelude.{◌≡◌};
-ghost use Rattle.camera_trace.specs.Standing.{Standing, first, CameraRuns, CameraRefuses, camera_verdict, IsBehind};
-ghost use Rattle.camera_trace.proofs.Judging.{lines_judged};
+ghost use Rattle.camera_replay.specs.Standing.{Standing, first, CameraRuns, CameraRefuses, camera_verdict, IsBehind};
+ghost use Rattle.camera_replay.specs.Judging.{lines_judged};
 ghost use Rattle.camera_replay.specs.Running.{standing_of, IsKept};
 ghost use Rattle.camera_replay.specs.Simulation.{Same, simulated, refused_alike};
 
@@ -18,7 +18,7 @@ use std::marker::Model;
 /// Runs a camera script, line by line.
 ///
 /// The header makes the camera; each further line is given to it. Contracts see the plain state of the crate
-/// `camera_trace`. Between two lines no packet waits.
+/// `camera_replay`. Between two lines no packet waits.
 #[derive(Drop)]
 pub struct CameraRun {
     running: Option<Running>,
@@ -26,7 +26,7 @@ pub struct CameraRun {
 }
 
 impl Model for CameraRun {
-    ghost use Rattle.camera_trace.specs.Standing.{Standing};
+    ghost use Rattle.camera_replay.specs.Standing.{Standing};
     ghost use Rattle.camera_replay.specs.Running.{standing_of, IsKept};
 
     ghost Value = { Standing };

@@ -5,7 +5,7 @@ ghost use Rattle.gev_script.specs.Lines as line;
 ghost use Rattle.gev_script.specs.Lines.{view};
 ghost use Rattle.gev_script.specs.Grammar.{first_name as name_first};
 ghost use Rattle.gev_script.specs.Spelling.{IsScriptLine};
-ghost use Rattle.camera_trace.specs.Standing.{is_in_place, later_kind, IsCameraLine};
+ghost use Rattle.camera_replay.specs.Standing.{is_in_place, later_kind, IsCameraLine};
 ghost use Rattle.camera_replay.specs.Running.{IsAtRest, RanAs};
 ghost use Rattle.camera_replay.specs.Lines.{Reads};
 

@@ -7,7 +7,7 @@ ghost use Rattle.gev_script.specs.Spelling.{IsCommand};
 ghost use Rattle.gev_report.specs.CameraLines.{frame_line};
 ghost use Rattle.camera_machine.specs.Commands.{commanded};
 ghost use Rattle.camera_machine.specs.Stream.{framed};
-ghost use Rattle.camera_trace.specs.Serving.{local_peer, ack_text, next_numbers};
+ghost use Rattle.camera_replay.specs.Serving.{local_peer, ack_text, next_numbers};
 ghost use Rattle.camera_replay.specs.Running.{IsAtRest, Answers, Goes};
 
 use crate::packets::write_waiting;

@@ -3,7 +3,7 @@
 ghost use Rattle.std.specs.Prelude.{◌≡◌, ◌++◌, OnOk, IfOk};
 ghost use Rattle.camera_machine.specs.Camera.{stream_peer};
 ghost use Rattle.camera_machine.specs.Stream.{all_waiting, emptied};
-ghost use Rattle.camera_trace.specs.Serving.{packets_text};
+ghost use Rattle.camera_replay.specs.Serving.{packets_text};
 ghost use Rattle.camera_replay.specs.Packets.{Gave};
 
 use camera_sim::{Camera, PACKET_ROOM};

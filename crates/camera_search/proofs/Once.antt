@@ -9,7 +9,7 @@ use Rattle.std.proofs.lemmas.List.Folds.{list_any-append, list_any_at}
 use Rattle.std.proofs.lemmas.List.Elements.{All-push, All-weaker, All-nil}
 use Rattle.std.proofs.lemmas.List.Quantifiers.{Any-push, all_pairs_push}
 use Rattle.gev_links.specs.Links.{Answer}
-use Rattle.gvcp_discovery.specs.declared.discovery_ack.DiscoveryAck.{DiscoveryAck}
+use Rattle.camera_search.specs.declared.discovery_ack.DiscoveryAck.{DiscoveryAck}
 use Rattle.camera_search.specs.Found.{told_in, has_mac, is_new, new_among, found_after, cameras_in}
 use Rattle.camera_search.specs.Laws.{EachOnce}
 

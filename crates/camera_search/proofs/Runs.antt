@@ -8,8 +8,8 @@ use Rattle.gev_links.specs.Links.{Address, Answer, failed, Adds}
 use Rattle.gev_links.specs.Moments.{Tells, TellsEach}
 use Rattle.gev_links.specs.Told.{Appends, WritesFront, WritesPart}
 use Rattle.gev_links.proofs.Growing.{tells_first, tells_more, tells_none, adds_none, adds_then}
-use Rattle.gvcp_discovery.specs.declared.discovery_ack.DiscoveryAck.{DiscoveryAck}
-use Rattle.gvcp_discovery.specs.CameraLine.{camera_line, count_line}
+use Rattle.camera_search.specs.declared.discovery_ack.DiscoveryAck.{DiscoveryAck}
+use Rattle.camera_search.specs.CameraLine.{camera_line, count_line}
 use Rattle.camera_search.specs.declared.search_end.SearchEnd.{SearchEnd}
 use Rattle.camera_search.specs.declared.search_end.SearchEnd.TheVariants.{Done, LinkFault, WriteFault, NoMemory}
 use Rattle.camera_search.specs.Asking.{asked, is_over, is_second, was_second, sends_of, sends_in, more_sends}

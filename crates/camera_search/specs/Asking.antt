@@ -2,7 +2,7 @@
 use Rattle.std.specs.Prelude.{ℕ, ◌-◌, Bool, nat_le, if◌then◌else◌, List, replicate}
 use Rattle.std.specs.List.{list_any}
 use Rattle.gvcp_wire.specs.Control.{plain}
-use Rattle.gvcp_aux.specs.Bodies.{discovery_head, discovery_command}
+use Rattle.gvcp_wire.specs.Bodies.{discovery_head, discovery_command}
 use Rattle.gev_types.specs.declared.peer.Peer.{Peer}
 use Rattle.gev_links.specs.Links.{Address}
 

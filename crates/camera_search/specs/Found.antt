@@ -5,9 +5,9 @@ use Rattle.std.specs.Str.{bytes_eq}
 use Rattle.gvcp_wire.specs.declared.message.ControlError.{ControlError}
 use Rattle.gvcp_wire.specs.Messages.{PlainAck}
 use Rattle.gvcp_wire.specs.Reading.{ack_reading}
-use Rattle.gvcp_discovery.specs.declared.discovery_ack.DiscoveryAck.{DiscoveryAck}
-use Rattle.gvcp_discovery.specs.Discovery.{discovery_reading}
-use Rattle.gvcp_discovery.specs.CameraLine.{camera_line, count_line}
+use Rattle.camera_search.specs.declared.discovery_ack.DiscoveryAck.{DiscoveryAck}
+use Rattle.camera_search.specs.Discovery.{discovery_reading}
+use Rattle.camera_search.specs.CameraLine.{camera_line, count_line}
 use Rattle.gev_links.specs.Links.{Answer, nothing, failed, came}
 use Rattle.camera_search.specs.Asking.{REQUEST, MOST_CAMERAS}
 

@@ -2,7 +2,7 @@
 use Rattle.std.specs.Prelude.{◌≡◌, ℕ, ◌<◌, ◌≤◌, true, false, List, length, Option, Some}
 use Rattle.std.specs.List.{All, Any, AllPairs, list_any}
 use Rattle.gev_links.specs.Links.{Answer}
-use Rattle.gvcp_discovery.specs.declared.discovery_ack.DiscoveryAck.{DiscoveryAck}
+use Rattle.camera_search.specs.declared.discovery_ack.DiscoveryAck.{DiscoveryAck}
 use Rattle.camera_search.specs.Asking.{MOST_CAMERAS}
 use Rattle.camera_search.specs.Found.{told_in, has_mac, cameras_in}
 

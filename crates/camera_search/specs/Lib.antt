@@ -3,3 +3,7 @@ pub mod Found
 pub mod Writing
 pub mod Searched
 pub mod Laws
+pub mod Discovery
+pub mod CameraLine
+pub mod Pieces
+pub mod DiscoveryLaws

@@ -5,7 +5,7 @@ use Rattle.gev_links.specs.Links.{Address, Answer, failed, Adds, IsBlank}
 use Rattle.gev_links.specs.Moments.{TellsEach}
 use Rattle.gev_links.specs.Told.{Appends, WritesFront, WritesPart}
 use Rattle.gev_links.specs.Given.{ToldOfThree}
-use Rattle.gvcp_discovery.specs.declared.discovery_ack.DiscoveryAck.{DiscoveryAck}
+use Rattle.camera_search.specs.declared.discovery_ack.DiscoveryAck.{DiscoveryAck}
 use Rattle.camera_search.specs.declared.search_end.SearchEnd.{SearchEnd}
 use Rattle.camera_search.specs.declared.search_end.SearchEnd.TheVariants.{Done, LinkFault, WriteFault, NoMemory}
 use Rattle.camera_search.specs.Asking.{asked, is_over, is_second, was_second, sends_in, control_peer}

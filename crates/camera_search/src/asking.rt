@@ -7,7 +7,7 @@ ghost use Rattle.camera_search.specs.Asking.{asked, is_over, is_second, more_sen
 
 use gev_links::{Failed, Link};
 use gev_types::Peer;
-use gvcp_aux::write_discovery;
+use gvcp_wire::write_discovery;
 
 /// The request number of each DISCOVERY.
 pub(crate) const REQUEST: u16 = 65_535;

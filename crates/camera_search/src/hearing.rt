@@ -7,8 +7,8 @@ ghost use Rattle.gev_links.specs.Moments.{Tells};
 ghost use Rattle.camera_search.specs.Found.{told_by, told_in};
 
 use crate::asking::REQUEST;
+use crate::{DiscoveryAck, read_discovery};
 use gev_links::{Failed, Link};
-use gvcp_discovery::{DiscoveryAck, read_discovery};
 use gvcp_wire::parse_ack;
 
 /// What a datagram tells, if it answers DISCOVERY.

@@ -7,10 +7,10 @@ ghost use Rattle.camera_search.specs.Asking.{MOST_CAMERAS as MOST};
 ghost use Rattle.camera_search.specs.Found.{has_mac, is_new, new_among, lines_of};
 ghost use Rattle.camera_search.specs.Writing.{WroteText};
 
+use crate::DiscoveryAck;
 use crate::search_end::SearchEnd;
 use crate::telling::tell_camera;
 use gev_links::Sink;
-use gvcp_discovery::DiscoveryAck;
 use std::alloc::Global;
 
 /// The most cameras that are told.

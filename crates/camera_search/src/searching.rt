@@ -2,7 +2,7 @@
 
 ghost use Rattle.std.specs.Prelude.{◌≡◌, ◌≢◌};
 ghost use Rattle.gev_links.specs.Faults.{Rose};
-ghost use Rattle.gvcp_discovery.specs.CameraLine.{count_line};
+ghost use Rattle.camera_search.specs.CameraLine.{count_line};
 ghost use Rattle.camera_search.specs.Writing.{WroteLast};
 ghost use Rattle.camera_search.specs.Searched.{Searches};
 

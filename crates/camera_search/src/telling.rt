@@ -2,12 +2,12 @@
 
 ghost use Rattle.std.specs.Prelude.{◌≡◌, ◌≢◌, Some};
 ghost use Rattle.gev_links.specs.Faults.{Rose};
-ghost use Rattle.gvcp_discovery.specs.CameraLine.{camera_line, count_line};
+ghost use Rattle.camera_search.specs.CameraLine.{camera_line, count_line};
 ghost use Rattle.camera_search.specs.Writing.{WroteText};
 
 use crate::search_end::SearchEnd;
+use crate::{DiscoveryAck, add_camera, add_count};
 use gev_links::{Sink, write_all};
-use gvcp_discovery::{DiscoveryAck, add_camera, add_count};
 use std::alloc::Global;
 
 /// Writes a text whole, or answers how the search ends.

@@ -3,7 +3,7 @@ use Rattle.std.proofs.Common.{◌≡◌, ℕ, ◌+◌, ◌≤◌, Bool, true, fa
 use Rattle.std.specs.Prelude.{nat_lt, if◌then◌else◌, All}
 use Rattle.std.proofs.lemmas.List.Elements.{All-nil, All-push}
 use Rattle.stream_packets.specs.Packets.{StreamPacket}
-use Rattle.gvcp_aux.specs.declared.resend.Resend.{Resend}
+use Rattle.gvcp_wire.specs.declared.resend.Resend.{Resend}
 use Rattle.resend_store.specs.declared.sent.SentFrame.{SentFrame}
 use Rattle.resend_store.specs.Sent.{trailer_id}
 use Rattle.resend_store.specs.Shelf.{Shelf, with_pushed, held_in, reply_in}

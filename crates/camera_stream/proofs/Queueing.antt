@@ -5,7 +5,7 @@ use Rattle.std.proofs.lemmas.Bool.{leb-true, le-leb, lt-ltb}
 use Rattle.std.proofs.lemmas.List.{map-append}
 use Rattle.gvcp_wire.specs.declared.status.Status.TheVariants.{PacketUnavailable, PacketNotYetAvailable, PacketRemovedFromMemory}
 use Rattle.gvcp_wire.specs.Status.{status_code}
-use Rattle.gvcp_aux.specs.declared.resend.Resend.{Resend}
+use Rattle.gvcp_wire.specs.declared.resend.Resend.{Resend}
 use Rattle.resend_store.specs.declared.sent.SentFrame.{SentFrame}
 use Rattle.resend_store.specs.declared.reply.Reply.{Reply}
 use Rattle.resend_store.specs.declared.reply.Reply.TheVariants as answers

@@ -1,6 +1,6 @@
 -- The steps of what waits, over the ranges of packet ids that stand for it.
 use Rattle.std.specs.Prelude.{ℕ, ◌+◌, ◌-◌, nat_lt, if◌then◌else◌, List, [], ◌∷◌, ◌++◌, length, Option, Some, None}
-use Rattle.gvcp_aux.specs.declared.resend.Resend.{Resend}
+use Rattle.gvcp_wire.specs.declared.resend.Resend.{Resend}
 use Rattle.resend_store.specs.declared.reply.Reply.{Reply}
 use Rattle.resend_store.specs.declared.reply.Reply.TheVariants as answers
 use Rattle.camera_machine.specs.Stream.{MAX_REPLIES}

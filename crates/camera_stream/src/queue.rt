@@ -6,7 +6,7 @@ ghost use Rattle.camera_stream.specs.Writing.{first_head};
 
 use crate::span::{QueuedReply, Span};
 use arrayvec::ArrayVec;
-use gvcp_aux::Resend;
+use gvcp_wire::Resend;
 use resend_store::Reply;
 use stream_packets::Head;
 

@@ -9,7 +9,7 @@ use crate::span::{QueuedReply, Span};
 use crate::writing::{next_reply, trailer_id, write_held};
 use arrayvec::ArrayVec;
 use gev_types::{Frame, NoMemory};
-use gvcp_aux::Resend;
+use gvcp_wire::Resend;
 use resend_store::{SentFrame, Store};
 use std::alloc::Global;
 use std::marker::Model;

@@ -5,7 +5,7 @@ use Rattle.std.proofs.lemmas.Bool.{ltb-true, ltb-false}
 use Rattle.gvcp_wire.specs.declared.message.ControlError.{ControlError}
 use Rattle.gvcp_wire.specs.Messages.{PlainCommand, PlainAck}
 use Rattle.gvcp_wire.specs.Reading.{ack_reading}
-use Rattle.gvcp_aux.specs.Reading.{pending_reading}
+use Rattle.gvcp_wire.specs.BodyReading.{pending_reading}
 use Rattle.client_machine.specs.declared.outcome.Outcome.TheVariants.{NoAnswer}
 use Rattle.client_machine.specs.Times.{SENDS}
 use Rattle.client_machine.specs.Commands.{is_match, heartbeat}

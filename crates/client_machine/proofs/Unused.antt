@@ -4,7 +4,7 @@ use Rattle.std.specs.Prelude.{◌==◌, if◌then◌else◌, nat_lt}
 use Rattle.gvcp_wire.specs.declared.message.ControlError.{ControlError}
 use Rattle.gvcp_wire.specs.Messages.{PlainCommand, PlainAck}
 use Rattle.gvcp_wire.specs.Reading.{ack_reading}
-use Rattle.gvcp_aux.specs.Reading.{pending_reading}
+use Rattle.gvcp_wire.specs.BodyReading.{pending_reading}
 use Rattle.client_machine.specs.declared.outcome.Outcome.TheVariants.{NoAnswer}
 use Rattle.client_machine.specs.Times.{SENDS}
 use Rattle.client_machine.specs.Commands.{next_req, heartbeat, is_match}

@@ -5,9 +5,8 @@ use bootstrap_regs::addresses::CCP;
 use byteorder::{BigEndian, ByteOrder};
 use client_machine::Outcome;
 use client_machine::numbers::{SEND_LIMIT, SENDS};
-use gvcp_aux::read_pending;
 use gvcp_wire::codes::{HEADER_SIZE, MAX_BODY_SIZE};
-use gvcp_wire::{Ack, Command, CommandFlags, CommandHead, parse_ack, write_command};
+use gvcp_wire::{Ack, Command, CommandFlags, CommandHead, parse_ack, read_pending, write_command};
 use std::marker::Model;
 
 const MESSAGE_SIZE: usize = HEADER_SIZE + MAX_BODY_SIZE;

@@ -27,17 +27,17 @@ use Rattle.acq_core.specs.Ending.{ends_of}
 use Rattle.acq_core.specs.Standing.{IsConfig}
 use Rattle.acq_core.specs.Receiver.{config_of, is_telling, asked_block, Stands, Takes, KeepsBlocks}
 use Rattle.acq_core.specs.Waiting.{waiting_fills, waiting_requests}
-use Rattle.mode_calls.specs.declared.mode.Mode.{Mode}
-use Rattle.mode_calls.specs.Modes.{ClaimsFor}
-use Rattle.acquisition_notes.specs.Notes.{Note, opens, drops}
-use Rattle.acquisition_notes.specs.Inputs.{drop_notes, buffer_of, need_notes, open_notes, after_claim, after_ends, retired_notes, turn_notes, notes_from}
+use Rattle.board_calls.specs.declared.mode.Mode.{Mode}
+use Rattle.board_calls.specs.Modes.{ClaimsFor}
+use Rattle.script_trace.specs.Notes.{Note, opens, drops}
+use Rattle.script_trace.specs.Inputs.{drop_notes, buffer_of, need_notes, open_notes, after_claim, after_ends, retired_notes, turn_notes, notes_from}
 use Rattle.note_tape.specs.declared.told.Told.{Told}
-use Rattle.script_tape.specs.Tells.{Tells}
+use Rattle.note_tape.specs.Tells.{Tells}
 use Rattle.script_trace.specs.Trace.{Trace, Part, acquirer}
 use Rattle.script_trace.specs.Trace.{board as board_of}
 use Rattle.script_trace.specs.Modes.{FillsInMode, place_of}
 use Rattle.script_trace.specs.StreamLines.{outcome, tells, told_twice}
-use Rattle.script_notes.specs.Drops.{drops_from}
+use Rattle.script_trace.specs.Drops.{drops_from}
 use Rattle.script_replay.specs.declared.fill_counts.FillCounts.{FillCounts}
 use Rattle.script_replay.specs.declared.got.Got.{Got}
 use Rattle.script_replay.specs.Acquiring.{AreAway, IsAtRest, IsBehindTrace, DrivesAt, Drives, Claims}

@@ -15,12 +15,12 @@ use Rattle.board_machine.proofs.Adding.{entries_of-append}
 use Rattle.board_machine.proofs.Runs.{after-push, runs_front}
 use Rattle.board_calls.specs.Rounds.{filled_or_laid}
 use Rattle.acquisition_machine.specs.declared.retired.Retired.{Retired}
-use Rattle.mode_calls.specs.declared.mode.Mode.{Mode}
-use Rattle.mode_calls.specs.declared.mode.Mode.TheVariants.{OldestFirst, OldestFirstOverwrite, NewestOnly}
-use Rattle.mode_calls.specs.Modes.{GotNothing, ClaimsOnly, ClaimsOrTakes, ClaimsFor, takes_and_pools, DropsUntilNothing, DropsAll, DropsFor}
+use Rattle.board_calls.specs.declared.mode.Mode.{Mode}
+use Rattle.board_calls.specs.declared.mode.Mode.TheVariants.{OldestFirst, OldestFirstOverwrite, NewestOnly}
+use Rattle.board_calls.specs.Modes.{GotNothing, ClaimsOnly, ClaimsOrTakes, ClaimsFor, takes_and_pools, DropsUntilNothing, DropsAll, DropsFor}
 use Rattle.script_trace.specs.Trace.{acquirer, caller}
 use Rattle.script_trace.specs.Modes.{laid_unless, FillsInMode}
-use Rattle.script_notes.specs.Drops.{Doing, drops, fills, gets, seeks, other, doing, first_item, sought, told_at, waits, is_seeking, drops_from}
+use Rattle.script_trace.specs.Drops.{Doing, drops, fills, gets, seeks, other, doing, first_item, sought, told_at, waits, is_seeking, drops_from}
 use Rattle.explain_lines.specs.Dropping.{DropsAs}
 
 -- ---- joining

@@ -21,9 +21,9 @@ use Rattle.board_model.specs.Plain.{PlainState, lying, nothing}
 use Rattle.board_model.proofs.CallsHands.{filled, laid}
 use Rattle.acquisition_machine.specs.declared.retired.Retired.{Retired}
 use Rattle.acquisition_machine.specs.TurnLaws.{given_of}
-use Rattle.buffer_modes.specs.Steps.{KeepsHeld}
-use Rattle.mode_calls.specs.declared.mode.Mode.{Mode}
-use Rattle.mode_calls.specs.Modes.{DropsFor}
+use Rattle.board_model.specs.Steps.{KeepsHeld}
+use Rattle.board_calls.specs.declared.mode.Mode.{Mode}
+use Rattle.board_calls.specs.Modes.{DropsFor}
 use Rattle.script_trace.specs.Trace.{acquirer}
 use Rattle.script_trace.specs.Modes.{FillsInMode}
 use Rattle.script_trace.specs.Contents.{contents_of, contents_from}

@@ -18,8 +18,8 @@ use Rattle.board_calls.specs.Rounds.{filled_or_laid}
 use Rattle.board_calls.specs.Calls.{Stops}
 use Rattle.board_model.specs.Plain.{PlainState}
 use Rattle.acquisition_machine.specs.declared.retired.Retired.{Retired}
-use Rattle.mode_calls.specs.declared.mode.Mode.{Mode}
-use Rattle.mode_calls.specs.Modes.{ClaimsFor, DropsFor}
+use Rattle.board_calls.specs.declared.mode.Mode.{Mode}
+use Rattle.board_calls.specs.Modes.{ClaimsFor, DropsFor}
 use Rattle.script_trace.specs.Trace.{acquirer}
 use Rattle.script_trace.proofs.Quiet.{AreQuiet, drops_quiet, claims_quiet}
 use Rattle.script_replay.specs.declared.fill_counts.FillCounts.{FillCounts}

@@ -18,9 +18,9 @@ use Rattle.acquisition_machine.specs.Runs.{turn}
 use Rattle.acquisition_machine.specs.Runs.{After as StateAfter}
 use Rattle.acq_core.specs.declared.window.Window.{Window}
 use Rattle.acq_core.specs.Receiver.{config_of, Stands}
-use Rattle.mode_calls.specs.declared.mode.Mode.{Mode}
-use Rattle.acquisition_notes.specs.Notes.{idle, unwidened}
-use Rattle.acquisition_notes.specs.Inputs.{notes_from}
+use Rattle.board_calls.specs.declared.mode.Mode.{Mode}
+use Rattle.script_trace.specs.Notes.{idle, unwidened}
+use Rattle.script_trace.specs.Inputs.{notes_from}
 use Rattle.note_tape.specs.declared.told.Told.{Told}
 use Rattle.note_tape.specs.declared.told.Told.TheVariants.{Idle, Unwidened}
 use Rattle.note_tape.specs.Telling.{AreNoted}
@@ -30,8 +30,8 @@ use Rattle.script_trace.specs.Adding.{Spells}
 use Rattle.script_trace.specs.StreamLines.{idles, requests_text, StopLine, TickLine, DatagramLine, HearsIfRunning}
 use Rattle.script_trace.specs.Wide.{Wide, is_standard_at, is_standard, Meaning, itself, wider, none, meaning_widened, standard_meaning, meaning_decoded, meaning, said_by, DoesAs, standard_form, standard_text}
 use Rattle.script_trace.proofs.Meanings.{said_plain}
-use Rattle.script_notes.specs.Drops.{drops_in}
-use Rattle.script_notes.specs.LineNotes.{length_decoded, idle_notes, part_notes, refused_with, refused_decoded, refused_notes, notes_as}
+use Rattle.script_trace.specs.Drops.{drops_in}
+use Rattle.script_trace.specs.LineNotes.{length_decoded, idle_notes, part_notes, refused_with, refused_decoded, refused_notes, notes_as}
 use Rattle.script_replay.specs.declared.fill_counts.FillCounts.{FillCounts}
 use Rattle.script_replay.specs.declared.running.Running.{Running}
 use Rattle.script_replay.specs.declared.script.Script.{Script}

@@ -1,6 +1,6 @@
 -- Requests are written and told, first in first.
 use Rattle.std.proofs.Common.{◌≡◌, ℕ, Bool, List, [], ◌∷◌, ◌++◌, map, refl, sym, ap, ◌∙◌, append-nil, append_assoc}
-use Rattle.gvcp_aux.specs.declared.resend.Resend.{Resend}
+use Rattle.gvcp_wire.specs.declared.resend.Resend.{Resend}
 use Rattle.gev_report.specs.ReplayLines.{request_line}
 use Rattle.acquisition_machine.specs.declared.config.AcqConfig.{AcqConfig}
 use Rattle.acquisition_machine.specs.Blocks.{Open}
@@ -10,10 +10,10 @@ use Rattle.acq_core.specs.declared.asked.Asked.{Asked}
 use Rattle.acq_core.specs.declared.window.Window.{Window}
 use Rattle.acq_core.specs.Receiver.{config_of, rounds_of, Stands, KeepsBlocks}
 use Rattle.acq_core.specs.Waiting.{asked_bytes, waiting_fills, waiting_requests, waiting_resends}
-use Rattle.acquisition_notes.specs.Notes.{asks}
+use Rattle.script_trace.specs.Notes.{asks}
 use Rattle.note_tape.specs.declared.told.Told.{Told}
-use Rattle.script_tape.specs.Tells.{Tells}
-use Rattle.script_tape.specs.Rounds.{asked_notes}
+use Rattle.note_tape.specs.Tells.{Tells}
+use Rattle.note_tape.specs.Rounds.{asked_notes}
 use Rattle.script_replay.proofs.Retiring.{keeps_twice, keeps_itself}
 use Rattle.explain_lines.specs.Asking.{form_of, lines_by, resend_notes}
 use Rattle.explain_lines.proofs.Tapes.{tells_none, tells_both, tells_as}

@@ -11,8 +11,8 @@ use Rattle.board_machine.proofs.Adding.{adds_none, adds_both, entries_of-append}
 use Rattle.board_machine.proofs.Runs.{after-append}
 use Rattle.board_calls.specs.Rounds.{filled_or_laid}
 use Rattle.board_model.specs.Plain.{PlainState}
-use Rattle.buffer_modes.specs.declared.gone.Gone.{Gone}
-use Rattle.buffer_modes.specs.Gone.{gone_of}
+use Rattle.board_model.specs.declared.gone.Gone.{Gone}
+use Rattle.board_model.specs.Gone.{gone_of}
 use Rattle.acquisition_machine.specs.declared.config.AcqConfig.{AcqConfig}
 use Rattle.acquisition_machine.specs.declared.retired.Retired.{Retired}
 use Rattle.acquisition_machine.specs.Blocks.{Given, Open, Cause, Retirement, fill_of, filling_in, fills}
@@ -24,11 +24,11 @@ use Rattle.acq_core.specs.declared.window.Window.{Window}
 use Rattle.acq_core.specs.Ending.{cause_of, held_of, end_of, ends_of}
 use Rattle.acq_core.specs.Receiver.{is_telling, buffers, KeepsBlocks}
 use Rattle.acq_core.specs.Waiting.{waiting_fills, waiting_requests, waiting_resends, waiting_ends}
-use Rattle.mode_calls.specs.declared.mode.Mode.{Mode}
-use Rattle.acquisition_notes.specs.Notes.{Note}
-use Rattle.acquisition_notes.specs.Inputs.{drop_notes, gap, ended_notes, after_end, after_ends, retired_notes}
+use Rattle.board_calls.specs.declared.mode.Mode.{Mode}
+use Rattle.script_trace.specs.Notes.{Note}
+use Rattle.script_trace.specs.Inputs.{drop_notes, gap, ended_notes, after_end, after_ends, retired_notes}
 use Rattle.note_tape.specs.declared.told.Told.{Told}
-use Rattle.script_tape.specs.Tells.{Tells, own_note_of, own_note, buffer_of, IsFilledOn}
+use Rattle.note_tape.specs.Tells.{Tells, own_note_of, own_note, buffer_of, IsFilledOn}
 use Rattle.script_trace.specs.Trace.{acquirer}
 use Rattle.script_trace.specs.Modes.{FillsInMode}
 use Rattle.script_replay.specs.declared.fill_counts.FillCounts.{FillCounts}

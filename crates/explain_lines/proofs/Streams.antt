@@ -20,17 +20,17 @@ use Rattle.acquisition_machine.proofs.Window.{blocks_are_in_order}
 use Rattle.acq_core.specs.declared.window.Window.{Window}
 use Rattle.acq_core.specs.Receiver.{config_of, is_telling, asked_block, buffers, Stands, Takes, KeepsBlocks}
 use Rattle.acq_core.specs.Waiting.{waiting_fills, waiting_requests, waiting_resends}
-use Rattle.mode_calls.specs.declared.mode.Mode.{Mode}
-use Rattle.acquisition_notes.specs.Inputs.{retired_notes, round_notes}
+use Rattle.board_calls.specs.declared.mode.Mode.{Mode}
+use Rattle.script_trace.specs.Inputs.{retired_notes, round_notes}
 use Rattle.note_tape.specs.declared.told.Told.{Told}
-use Rattle.script_tape.specs.Tells.{Tells}
-use Rattle.script_tape.proofs.Rounds.{rounds_are_told}
+use Rattle.note_tape.specs.Tells.{Tells}
+use Rattle.note_tape.proofs.Rounds.{rounds_are_told}
 use Rattle.script_trace.specs.Trace.{Trace, caller, acquirer}
 use Rattle.script_trace.specs.Trace.{board as board_of}
 use Rattle.script_trace.specs.Modes.{FillsInMode}
 use Rattle.script_trace.specs.StreamLines.{retired_by, requests_text, TickLine}
 use Rattle.script_trace.specs.Answers.{done_text, refused_text}
-use Rattle.script_notes.specs.Drops.{drops_from}
+use Rattle.script_trace.specs.Drops.{drops_from}
 use Rattle.script_replay.specs.declared.fill_counts.FillCounts.{FillCounts}
 use Rattle.script_replay.specs.Acquiring.{AreAway, IsAtRest, IsBehindTrace, Drives}
 use Rattle.script_replay.proofs.Quiet.{stop_quiet}

@@ -5,14 +5,14 @@ use Rattle.gentl_types.specs.declared.buffer_id.BufferId.{BufferId}
 use Rattle.gentl_types.specs.declared.word.Word.{Word}
 use Rattle.board_machine.specs.Machine.{Board, Item, vacant}
 use Rattle.board_machine.specs.Ids.{buffer_at}
-use Rattle.buffer_modes.specs.declared.gone.Gone.{Gone}
-use Rattle.buffer_modes.specs.Gone.{gone_of}
-use Rattle.acquisition_notes.specs.Notes.{Note, drops, opens}
-use Rattle.acquisition_notes.specs.Inputs.{drop_notes}
+use Rattle.board_model.specs.declared.gone.Gone.{Gone}
+use Rattle.board_model.specs.Gone.{gone_of}
+use Rattle.script_trace.specs.Notes.{Note, drops, opens}
+use Rattle.script_trace.specs.Inputs.{drop_notes}
 use Rattle.note_tape.specs.declared.told.Told.{Told}
 use Rattle.note_tape.specs.declared.told.Told.TheVariants.{Opened}
 use Rattle.note_tape.specs.Telling.{AreNoted}
-use Rattle.script_tape.specs.Tells.{Tells}
+use Rattle.note_tape.specs.Tells.{Tells}
 use Rattle.explain_lines.specs.Marks.{KeepsMarks}
 
 noted_both : (xs ys : List Told) (ns ms : List Note) → AreNoted xs ns → AreNoted ys ms → AreNoted (xs ++ ys) (ns ++ ms)

@@ -1,11 +1,11 @@
 -- Requests that are written and told.
 use Rattle.std.specs.Prelude.{ℕ, Bool, List, [], ◌∷◌, ◌++◌, if◌then◌else◌}
-use Rattle.gvcp_aux.specs.declared.resend.Resend.{Resend}
+use Rattle.gvcp_wire.specs.declared.resend.Resend.{Resend}
 use Rattle.gev_report.specs.ReplayLines.{request_line}
 use Rattle.acquisition_machine.specs.Blocks.{Open}
 use Rattle.acquisition_machine.specs.Machine.{open_at}
 use Rattle.acq_core.specs.Receiver.{rounds_of}
-use Rattle.acquisition_notes.specs.Notes.{Note, asks}
+use Rattle.script_trace.specs.Notes.{Note, asks}
 use Rattle.script_trace.specs.Wide.{standard_form}
 
 -- the command's bytes, in the standard form where that is asked for

@@ -16,17 +16,17 @@ use Rattle.acquisition_machine.specs.TurnLaws.{asked_by}
 use Rattle.acq_core.specs.declared.window.Window.{Window}
 use Rattle.acq_core.specs.Receiver.{config_of, is_telling, asked_block, buffers, Stands}
 use Rattle.acq_core.specs.Waiting.{waiting_fills, waiting_requests}
-use Rattle.mode_calls.specs.declared.mode.Mode.{Mode}
-use Rattle.acquisition_notes.specs.Notes.{Note, opens, drops}
-use Rattle.acquisition_notes.specs.Inputs.{need_notes, after_ends, retired_notes}
+use Rattle.board_calls.specs.declared.mode.Mode.{Mode}
+use Rattle.script_trace.specs.Notes.{Note, opens, drops}
+use Rattle.script_trace.specs.Inputs.{need_notes, after_ends, retired_notes}
 use Rattle.note_tape.specs.declared.told.Told.{Told}
-use Rattle.script_tape.specs.Tells.{Tells}
+use Rattle.note_tape.specs.Tells.{Tells}
 use Rattle.script_trace.specs.Trace.{Trace, Part, acquirer}
 use Rattle.script_trace.specs.Trace.{board as board_of}
 use Rattle.script_trace.specs.StreamLines.{Hears, StopLine, TickLine}
 use Rattle.script_replay.specs.declared.got.Got.{Got}
-use Rattle.script_notes.specs.Drops.{drops_in}
-use Rattle.acquisition_notes.specs.Inputs.{notes_from}
+use Rattle.script_trace.specs.Drops.{drops_in}
+use Rattle.script_trace.specs.Inputs.{notes_from}
 use Rattle.script_replay.specs.declared.fill_counts.FillCounts.{FillCounts}
 use Rattle.script_replay.specs.Boards.{IsReady}
 use Rattle.script_replay.specs.Acquiring.{AreAway, Settled, IsBehindTrace, Drives}

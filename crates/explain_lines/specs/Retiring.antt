@@ -12,10 +12,10 @@ use Rattle.acq_core.specs.declared.ended.Ended.{Ended}
 use Rattle.acq_core.specs.declared.window.Window.{Window}
 use Rattle.acq_core.specs.Ending.{cause_of, end_of, ends_of}
 use Rattle.acq_core.specs.Waiting.{waiting_fills, waiting_ends}
-use Rattle.mode_calls.specs.declared.mode.Mode.{Mode}
-use Rattle.acquisition_notes.specs.Inputs.{drop_notes, after_ends, retired_notes}
+use Rattle.board_calls.specs.declared.mode.Mode.{Mode}
+use Rattle.script_trace.specs.Inputs.{drop_notes, after_ends, retired_notes}
 use Rattle.note_tape.specs.declared.told.Told.{Told}
-use Rattle.script_tape.specs.Tells.{Tells, own_note}
+use Rattle.note_tape.specs.Tells.{Tells, own_note}
 use Rattle.script_trace.specs.Trace.{acquirer}
 use Rattle.script_replay.specs.declared.fill_counts.FillCounts.{FillCounts}
 use Rattle.script_replay.specs.Acquiring.{CountsOne, FillsAll}

@@ -7,7 +7,7 @@ use Rattle.note_tape.specs.declared.told.Told.{Told}
 use Rattle.note_tape.specs.Telling.{AreNoted}
 use Rattle.script_trace.specs.Trace.{Trace}
 use Rattle.script_trace.specs.Wide.{Wide, meaning, Does}
-use Rattle.script_notes.specs.LineNotes.{part_notes, notes_as}
+use Rattle.script_trace.specs.LineNotes.{part_notes, notes_as}
 use Rattle.script_replay.specs.declared.running.Running.{Running}
 use Rattle.script_replay.specs.declared.script.Script.{Script}
 use Rattle.script_replay.specs.Replays.{StandsAt, IsReplaying, AddsAt, KeepsWide}

@@ -6,15 +6,14 @@ ghost use Rattle.acquisition_machine.specs.Machine.{Input};
 ghost use Rattle.acquisition_machine.specs.Runs.{After};
 ghost use Rattle.acq_core.specs.Receiver.{config_of, Stands, KeepsBlocks};
 ghost use Rattle.acq_core.specs.Waiting.{waiting_fills, waiting_requests, waiting_resends};
-ghost use Rattle.script_tape.specs.Tells.{Tells};
+ghost use Rattle.note_tape.specs.Tells.{Tells};
 ghost use Rattle.explain_lines.specs.Asking.{form_of, lines_by, resend_notes};
 
 use acq_core::Acq;
 use gev_report::line_request;
 use gev_types::NoMemory;
-use note_tape::Told;
+use note_tape::{Told, tape_asked};
 use script_replay::line_standard;
-use script_tape::tape_asked;
 use std::alloc::Global;
 
 /// Adds the line of a request, in the standard form or as it is.

@@ -5,7 +5,7 @@ ghost use Rattle.board_machine.specs.Machine.{Board, Item};
 ghost use Rattle.acquisition_machine.specs.Machine.{datagram};
 ghost use Rattle.acq_core.specs.Receiver.{config_of, buffers};
 ghost use Rattle.acq_core.specs.Waiting.{waiting_fills, waiting_requests};
-ghost use Rattle.script_tape.specs.Tells.{Tells};
+ghost use Rattle.note_tape.specs.Tells.{Tells};
 ghost use Rattle.script_replay.specs.Boards.{IsReady};
 ghost use Rattle.script_replay.specs.Acquiring.{IsAtRest, AreAway, Drives};
 ghost use Rattle.explain_lines.specs.Marks.{KeepsMarks};
@@ -13,12 +13,10 @@ ghost use Rattle.explain_lines.specs.Hearing.{IsTelling, SettlesTold, TellsPart,
 
 use crate::retired::{id_at, tape_retired};
 use acq_core::{Acq, Need};
-use board_model::PlainBoard;
-use buffer_modes::Mode;
+use board_model::{Mode, PlainBoard};
 use gev_types::NoMemory;
-use note_tape::Told;
+use note_tape::{Told, tape_dropped, tape_need};
 use script_replay::{FillCounts, Got, give_claimed};
-use script_tape::{tape_dropped, tape_need};
 
 /// Tells a datagram, fills the buffers that come back, and puts what became of all on the tape. The answer is what
 /// the datagram needs.

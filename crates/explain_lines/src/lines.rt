@@ -14,8 +14,7 @@ use crate::asking::tape_requests;
 use crate::hearing::receive;
 use crate::retired::tape_retired;
 use acq_core::Acq;
-use board_model::PlainBoard;
-use buffer_modes::Mode;
+use board_model::{Mode, PlainBoard};
 use gev_types::NoMemory;
 use note_tape::Told;
 use script_replay::{

@@ -3,13 +3,13 @@
 ghost use Rattle.std.specs.Prelude.{◌≡◌, ◌++◌, ◌∷◌, [], List, map, OnOk};
 ghost use Rattle.board_machine.specs.Machine.{Board, Item, IsActor};
 ghost use Rattle.board_machine.specs.Ids.{buffer_at};
-ghost use Rattle.buffer_modes.specs.Gone.{gone_of};
+ghost use Rattle.board_model.specs.Gone.{gone_of};
 ghost use Rattle.acquisition_machine.specs.TurnLaws.{given_of};
 ghost use Rattle.acq_core.specs.Receiver.{is_telling, buffers, KeepsBlocks};
 ghost use Rattle.acq_core.specs.Waiting.{waiting_fills, waiting_requests, waiting_resends};
-ghost use Rattle.acquisition_notes.specs.Notes.{drops};
-ghost use Rattle.acquisition_notes.specs.Inputs.{drop_notes};
-ghost use Rattle.script_tape.specs.Tells.{Tells};
+ghost use Rattle.script_trace.specs.Notes.{drops};
+ghost use Rattle.script_trace.specs.Inputs.{drop_notes};
+ghost use Rattle.note_tape.specs.Tells.{Tells};
 ghost use Rattle.script_trace.specs.Trace.{acquirer};
 ghost use Rattle.script_replay.specs.Acquiring.{IsAway, AreAway};
 ghost use Rattle.explain_lines.specs.Marks.{KeepsMarks};
@@ -17,13 +17,11 @@ ghost use Rattle.explain_lines.specs.Retiring.{GivesSome, TellsFill, TellsAll};
 
 use acq_core::{Acq, Ended, Retired};
 use arrayvec::ArrayVec;
-use board_model::PlainBoard;
-use buffer_modes::{Gone, Mode};
+use board_model::{Gone, Mode, PlainBoard};
 use gentl_types::BufferId;
 use gev_types::{NoMemory, PLACES};
-use note_tape::Told;
+use note_tape::{Told, tape_done, tape_dropped, tape_gap};
 use script_replay::{FillCounts, fill_one};
-use script_tape::{tape_done, tape_dropped, tape_gap};
 
 /// The id of the buffer that a place has.
 pub(crate) fn id_at(board: &PlainBoard, place: u8) -> BufferId

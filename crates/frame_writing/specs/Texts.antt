@@ -7,7 +7,7 @@ use Rattle.camera_words.specs.declared.settings.Output.{Output}
 use Rattle.camera_words.specs.declared.settings.Output.TheVariants.{Lines, Pictures, Counts}
 use Rattle.frame_pictures.specs.declared.no_picture.NoPicture.{NoPicture}
 use Rattle.frame_pictures.specs.Pictures.{picture_of}
-use Rattle.receive_lines.specs.FrameLine.{frame_line}
+use Rattle.frame_writing.specs.FrameLine.{frame_line}
 
 -- the text of a picture; nothing, where there is none
 abbrev pub picture_text : Result (List ℕ) NoPicture → List ℕ

@@ -1,16 +1,16 @@
 ghost use Rattle.std.specs.Prelude.{◌≡◌};
 ghost use Rattle.frame_pictures.specs.Pictures.{picture_of};
-ghost use Rattle.receive_lines.specs.FrameLine.{frame_line};
+ghost use Rattle.frame_writing.specs.FrameLine.{frame_line};
 ghost use Rattle.frame_writing.specs.Texts.{picture_text, text_of};
 ghost use Rattle.frame_writing.specs.Turns.{WritesBy};
 
+use crate::add_frame;
 use crate::write_stop::WriteStop;
 use camera_words::Output;
 use gentl_types::BufferId;
 use gev_links::{Failed, Sink, write_all};
 use gev_types::Buf;
 use picture_report::{PictureStop, write_picture};
-use receive_lines::add_frame;
 use std::alloc::Global;
 
 /// Writes the line of a buffer.

@@ -11,7 +11,7 @@ use Rattle.gev_links.specs.Moments.{TellsEach}
 use Rattle.gev_links.proofs.Growing.{tells_none, tells_more, tells_then, adds_none}
 use Rattle.buffer_words.specs.Passes.{Token, Enters}
 use Rattle.buffer_words.proofs.Several.{each_none, each_one, each_first, each_then}
-use Rattle.mode_calls.specs.declared.mode.Mode.{Mode}
+use Rattle.board_calls.specs.declared.mode.Mode.{Mode}
 use Rattle.gev_acq.specs.declared.turn.Turn.{Turn}
 use Rattle.gev_control.specs.declared.turn_end.TurnEnd.{TurnEnd}
 use Rattle.gev_control.specs.declared.turn_end.TurnEnd.TheVariants as ends

@@ -12,8 +12,8 @@ use Rattle.buffer_words.specs.Passes.{Token, gone, down, Enters, Stays, SameHand
 use Rattle.buffer_words.specs.Several.{EntersOf}
 use Rattle.buffer_words.proofs.Partings.{same_then}
 use Rattle.buffer_words.proofs.Several.{each_push, each_then, each_none, stays_after, of_kind, of_as}
-use Rattle.mode_calls.specs.declared.mode.Mode.{Mode}
-use Rattle.mode_calls.specs.Modes.{FillsDropping}
+use Rattle.board_calls.specs.declared.mode.Mode.{Mode}
+use Rattle.board_calls.specs.Modes.{FillsDropping}
 use Rattle.gev_acq.specs.Buffers.{Backs, HoldsAlone}
 use Rattle.gev_acq.specs.Filling.{FillsRetiredFor}
 use Rattle.gev_acq.proofs.Backing.{first_left, first_left_alone}

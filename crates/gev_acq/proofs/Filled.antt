@@ -16,7 +16,7 @@ use Rattle.gev_links.specs.Links.{Answer, nothing, failed, came}
 use Rattle.block_fills.specs.Fills.{tried, item_of}
 use Rattle.block_fills.proofs.Tries.{tried-append, fills-append, items-append, items_from, items_from-append, entries-append}
 use Rattle.gev_control.specs.Controlled.{after_tick, after_receive, ticks_turn, control_of}
-use Rattle.mode_calls.specs.declared.mode.Mode.{Mode}
+use Rattle.board_calls.specs.declared.mode.Mode.{Mode}
 use Rattle.gev_acq.specs.Filling.{laid_unless, FillsOne, FillsRetiredFor}
 use Rattle.gev_acq.specs.Serving.{ClaimsOf, Serves}
 use Rattle.gev_acq.specs.Turns.{Turned, inputs_of}

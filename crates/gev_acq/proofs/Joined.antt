@@ -18,7 +18,7 @@ use Rattle.gev_control.specs.Sends.{addressed}
 use Rattle.gev_control.specs.SetupTurns.{set_up, SetupTurned}
 use Rattle.gev_control.specs.SetsUp.{SetupSide, SetsUp, setup_sent, setup_heards, setup_moments}
 use Rattle.gev_control.proofs.Fronts.{added_then}
-use Rattle.mode_calls.specs.declared.mode.Mode.{Mode}
+use Rattle.board_calls.specs.declared.mode.Mode.{Mode}
 use Rattle.gev_acq.specs.declared.turn.Turn.{Turn}
 use Rattle.gev_acq.specs.Buffers.{HoldsAlone}
 use Rattle.gev_acq.specs.Claims.{Claims, ServesOn}

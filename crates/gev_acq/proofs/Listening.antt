@@ -7,7 +7,7 @@ use Rattle.acquisition_machine.specs.declared.need.Need.TheVariants.{Buffer}
 use Rattle.acquisition_machine.specs.Machine.{Input, datagram, claimed}
 use Rattle.acquisition_machine.specs.TurnLaws.{asked_by}
 use Rattle.buffer_words.specs.Passes.{Token}
-use Rattle.mode_calls.specs.declared.mode.Mode.{Mode}
+use Rattle.board_calls.specs.declared.mode.Mode.{Mode}
 use Rattle.gev_acq.specs.Claiming.{ClaimsOne}
 use Rattle.gev_acq.specs.Heard.{or_zero, kept_by}
 use Rattle.gev_acq.specs.Receiving.{TellsOnce, Receives}

@@ -9,7 +9,7 @@ use Rattle.acq_core.specs.Waiting.{waiting_fills, waiting_requests}
 use Rattle.buffer_words.specs.Rule.{Slot}
 use Rattle.buffer_words.specs.Passes.{Token, slot_at, gone, IsEmptyHanded}
 use Rattle.buffer_words.specs.Several.{EntersOf}
-use Rattle.mode_calls.specs.declared.mode.Mode.{Mode}
+use Rattle.board_calls.specs.declared.mode.Mode.{Mode}
 use Rattle.gev_acq.specs.declared.heard.Heard.{Heard}
 use Rattle.gev_acq.specs.Filling.{FillsRetiredFor}
 use Rattle.gev_acq.specs.Buffers.{HoldsAlone}

@@ -12,7 +12,7 @@ use Rattle.gev_links.specs.Moments.{Tells, TellsEach}
 use Rattle.buffer_words.specs.Passes.{Token}
 use Rattle.gev_control.specs.declared.turn_end.TurnEnd.{TurnEnd}
 use Rattle.gev_control.specs.declared.turn_end.TurnEnd.TheVariants as ends
-use Rattle.mode_calls.specs.declared.mode.Mode.{Mode}
+use Rattle.board_calls.specs.declared.mode.Mode.{Mode}
 use Rattle.gev_acq.specs.declared.turn.Turn.{Turn}
 use Rattle.gev_control.specs.Sends.{SendsOn, Fails}
 use Rattle.gev_control.specs.Controlled.{EndsAs, listed, sent_by, control_of, ClientTurn}

@@ -13,7 +13,7 @@ use Rattle.acquisition_machine.specs.Machine.{Input, datagram, claimed, tick, st
 use Rattle.buffer_words.specs.Passes.{Token}
 use Rattle.buffer_words.specs.Several.{EntersEach}
 use Rattle.buffer_words.proofs.Several.{own_entry}
-use Rattle.mode_calls.specs.declared.mode.Mode.{Mode}
+use Rattle.board_calls.specs.declared.mode.Mode.{Mode}
 use Rattle.gev_acq.specs.Claims.{claims_in, Met, met, met_by, given_by, claims_of, Claims}
 
 claims_in-append : (is js : List Input) → claims_in (is ++ js) ≡ claims_in is ++ claims_in js

@@ -17,9 +17,9 @@ use Rattle.acquisition_machine.specs.TurnLaws.{TakesGiven, HasOneMore}
 use Rattle.buffer_words.specs.Passes.{Token, size_at, Stays}
 use Rattle.buffer_words.specs.Several.{EntersEach, EntersOf}
 use Rattle.buffer_words.proofs.Several.{stays_after}
-use Rattle.mode_calls.specs.declared.mode.Mode.{Mode}
-use Rattle.mode_calls.specs.declared.mode.Mode.TheVariants.{OldestFirst, OldestFirstOverwrite, NewestOnly}
-use Rattle.mode_calls.specs.Modes.{GotNothing, ClaimsFor}
+use Rattle.board_calls.specs.declared.mode.Mode.{Mode}
+use Rattle.board_calls.specs.declared.mode.Mode.TheVariants.{OldestFirst, OldestFirstOverwrite, NewestOnly}
+use Rattle.board_calls.specs.Modes.{GotNothing, ClaimsFor}
 use Rattle.gev_acq.specs.Serving.{ClaimsOf}
 use Rattle.gev_acq.specs.Claims.{Met, met, met_by, taken_next, given_later, given_by, claims_of, Claims}
 use Rattle.gev_acq.specs.Claiming.{ClaimsOne}

@@ -15,7 +15,7 @@ use Rattle.acq_core.specs.Waiting.{waiting_fills}
 use Rattle.buffer_words.specs.Passes.{Token}
 use Rattle.buffer_words.specs.Several.{EntersOf}
 use Rattle.buffer_words.proofs.Several.{each_none, each_then}
-use Rattle.mode_calls.specs.declared.mode.Mode.{Mode}
+use Rattle.board_calls.specs.declared.mode.Mode.{Mode}
 use Rattle.gev_acq.specs.Filling.{laid_unless, FillsRetiredFor}
 use Rattle.gev_acq.specs.Serving.{ClaimsOf, Serves}
 use Rattle.gev_acq.specs.Claims.{claims_in, ServesOn}

@@ -28,8 +28,8 @@ use Rattle.buffer_words.specs.Passes.{Token, own}
 use Rattle.buffer_words.specs.Several.{EntersEach}
 use Rattle.gev_control.specs.declared.acq_end.AcqEnd.{AcqEnd}
 use Rattle.gev_control.specs.declared.acq_end.AcqEnd.TheVariants as how
-use Rattle.mode_calls.specs.declared.mode.Mode.{Mode}
-use Rattle.mode_calls.specs.declared.mode.Mode.TheVariants.{OldestFirst, OldestFirstOverwrite, NewestOnly}
+use Rattle.board_calls.specs.declared.mode.Mode.{Mode}
+use Rattle.board_calls.specs.declared.mode.Mode.TheVariants.{OldestFirst, OldestFirstOverwrite, NewestOnly}
 use Rattle.gev_acq.specs.declared.turn.Turn.{Turn}
 use Rattle.gev_acq.specs.Claims.{claims_in, Met, met, met_by, given_by_take, taken_next, given_later, given_by, claims_of, claims_by, Claims}
 use Rattle.gev_acq.specs.Turns.{Turned, Outside}

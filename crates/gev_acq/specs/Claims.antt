@@ -12,8 +12,8 @@ use Rattle.acquisition_machine.specs.Machine.{Input, datagram, claimed, tick, st
 use Rattle.acquisition_machine.specs.Runs.{After as AfterInputs}
 use Rattle.buffer_words.specs.Passes.{Token}
 use Rattle.buffer_words.specs.Several.{EntersEach}
-use Rattle.mode_calls.specs.declared.mode.Mode.{Mode}
-use Rattle.mode_calls.specs.declared.mode.Mode.TheVariants.{OldestFirst, OldestFirstOverwrite, NewestOnly}
+use Rattle.board_calls.specs.declared.mode.Mode.{Mode}
+use Rattle.board_calls.specs.declared.mode.Mode.TheVariants.{OldestFirst, OldestFirstOverwrite, NewestOnly}
 use Rattle.gev_acq.specs.Serving.{Serves}
 
 -- the outcomes of claims among these inputs, in order

@@ -3,8 +3,8 @@ use Rattle.std.specs.Prelude.{◌≡◌, ℕ, Bool, true, false, List, [], ◌�
 use Rattle.board_machine.specs.declared.events.Event.{Event}
 use Rattle.board_machine.specs.declared.events.Event.TheVariants.{Lay}
 use Rattle.acquisition_machine.specs.declared.retired.Retired.{Retired}
-use Rattle.mode_calls.specs.declared.mode.Mode.{Mode}
-use Rattle.mode_calls.specs.Modes.{FillsFor}
+use Rattle.board_calls.specs.declared.mode.Mode.{Mode}
+use Rattle.board_calls.specs.Modes.{FillsFor}
 
 -- a buffer that came back is laid
 abbrev pub laid_unless : Bool → ℕ → List Event

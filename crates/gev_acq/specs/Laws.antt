@@ -10,7 +10,7 @@ use Rattle.acquisition_machine.specs.Machine.{Input, stop, State}
 use Rattle.acquisition_machine.specs.Runs.{first_state, After, retired_from}
 use Rattle.block_fills.specs.Fills.{tried, item_of, retired_items}
 use Rattle.gev_control.specs.Controlled.{control_of}
-use Rattle.mode_calls.specs.declared.mode.Mode.{Mode}
+use Rattle.board_calls.specs.declared.mode.Mode.{Mode}
 use Rattle.gev_acq.specs.Serving.{Serves}
 use Rattle.gev_acq.specs.Turns.{Turned}
 use Rattle.gev_acq.specs.Acquired.{inputs_in, ServesTurns, ControlEach}

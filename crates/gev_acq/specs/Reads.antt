@@ -17,7 +17,7 @@ use Rattle.gev_control.specs.Sends.{addressed}
 use Rattle.gev_control.specs.SetupTurns.{set_up, SetupTurned, setup_turn, IsHeard}
 use Rattle.gev_control.specs.SetsUp.{setup_after, SetupGoesOn, setup_sent, setup_heards, setup_moments}
 use Rattle.gev_acq.specs.declared.turn.Turn.{Turn}
-use Rattle.mode_calls.specs.declared.mode.Mode.{Mode}
+use Rattle.board_calls.specs.declared.mode.Mode.{Mode}
 use Rattle.gev_acq.specs.Serving.{Serves}
 use Rattle.gev_acq.specs.Claims.{Claims}
 use Rattle.gev_acq.specs.Turns.{Turned, Outside}

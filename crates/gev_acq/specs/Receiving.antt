@@ -6,7 +6,7 @@ use Rattle.acquisition_machine.specs.Blocks.{Given}
 use Rattle.acquisition_machine.specs.Machine.{Input, datagram}
 use Rattle.acquisition_machine.specs.Runs.{turn}
 use Rattle.buffer_words.specs.Passes.{Token}
-use Rattle.mode_calls.specs.declared.mode.Mode.{Mode}
+use Rattle.board_calls.specs.declared.mode.Mode.{Mode}
 use Rattle.gev_acq.specs.declared.heard.Heard.{Heard}
 use Rattle.gev_acq.specs.Claims.{ServesOn}
 use Rattle.gev_acq.specs.Heard.{inputs_heard, IsHeard}

@@ -5,8 +5,8 @@ use Rattle.board_machine.specs.declared.events.Event.{Event}
 use Rattle.acquisition_machine.specs.declared.config.AcqConfig.{AcqConfig}
 use Rattle.acquisition_machine.specs.Blocks.{fills}
 use Rattle.acquisition_machine.specs.Machine.{Input, datagram, claimed, tick, stop, restart, State, step}
-use Rattle.mode_calls.specs.declared.mode.Mode.{Mode}
-use Rattle.mode_calls.specs.Modes.{ClaimsFor}
+use Rattle.board_calls.specs.declared.mode.Mode.{Mode}
+use Rattle.board_calls.specs.Modes.{ClaimsFor}
 use Rattle.gev_acq.specs.Filling.{FillsRetiredFor}
 
 -- These events are the claim of which an input tells: it got the place that is told of, whether that was in the

@@ -14,12 +14,12 @@ use crate::moments::HostMoments;
 use crate::reader_turn::turn_once;
 use crate::turn::Turn;
 use acq_core::Acq;
+use board_calls::Mode;
 use buffer_words::{Board, Pass};
 use control_client::Client;
 use gev_control::{AcqEnd, TurnEnd};
 use gev_links::{Clock, Gate, Link};
 use gev_types::Peer;
-use mode_calls::Mode;
 use std::sync::Wait;
 
 // The room of a receive, in bytes.

@@ -6,8 +6,8 @@ ghost use Rattle.gev_acq.specs.Buffers.{Backs, HoldsAlone};
 ghost use Rattle.gev_acq.specs.Claiming.{ClaimsOne};
 
 use acq_core::Acq;
+use board_calls::Mode;
 use buffer_words::{Board, Pass};
-use mode_calls::Mode;
 use shared_modes::claim_for;
 use std::sync::Wait;
 

@@ -9,9 +9,9 @@ ghost use Rattle.gev_acq.specs.Claims.{ServesOn};
 
 use crate::filling::fill_all;
 use acq_core::Acq;
+use board_calls::Mode;
 use buffer_words::{Board, Pass};
 use gev_links::{Gate, OpenGate};
-use mode_calls::Mode;
 use std::sync::Wait;
 
 /// Stops the receiver: all of its open blocks retire, and are filled by the mode.

@@ -10,10 +10,9 @@ ghost use Rattle.gev_acq.specs.Filling.{FillsRetiredFor};
 
 use acq_core::Acq;
 use acquisition_machine::Retired;
-use board_calls::FillEnd;
+use board_calls::{FillEnd, Mode};
 use buffer_words::{Board, Pass};
 use gev_links::Gate;
-use mode_calls::Mode;
 use shared_modes::fill_for;
 use std::sync::Wait;
 

@@ -16,11 +16,11 @@ use crate::sending::send_requests;
 use crate::turn::Turn;
 use crate::turning::serve_turn;
 use acq_core::Acq;
+use board_calls::Mode;
 use buffer_words::{Board, Pass};
 use gev_control::{TurnEnd, client_turn};
 use gev_links::{Clock, Failed, Gate, Link};
 use gev_types::Peer;
-use mode_calls::Mode;
 use std::sync::Wait;
 
 /// Whether the receive failed.

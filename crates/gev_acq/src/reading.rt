@@ -21,12 +21,12 @@ use crate::draining::drain;
 use crate::host::Host;
 use crate::turn::Turn;
 use acq_core::Acq;
+use board_calls::Mode;
 use buffer_words::{Board, Pass};
 use gev_control::AcqEnd;
 use gev_links::{Clock, Gate, Link};
 use gev_types::Peer;
 use live_crew::Worked;
-use mode_calls::Mode;
 use std::sync::Wait;
 
 /// The reader of a run, by what it works with.

@@ -11,9 +11,9 @@ use crate::claiming::claim_one;
 use crate::filling::fill_all;
 use crate::heard::Heard;
 use acq_core::{Acq, Need};
+use board_calls::Mode;
 use buffer_words::{Board, Pass};
 use gev_links::Gate;
-use mode_calls::Mode;
 use std::sync::Wait;
 
 /// Tells the receiver a datagram. What retires is filled. Where the receiver asks for a buffer, one is

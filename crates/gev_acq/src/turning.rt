@@ -9,9 +9,9 @@ use crate::filling::fill_all;
 use crate::heard::Heard;
 use crate::receiving::receive;
 use acq_core::Acq;
+use board_calls::Mode;
 use buffer_words::{Board, Pass};
 use gev_links::Gate;
-use mode_calls::Mode;
 use std::sync::Wait;
 
 /// What a turn does to the receiver: it's given the datagram that came, if one did, and then the moment, in

@@ -6,7 +6,7 @@ use Rattle.std.specs.Prelude.{◌↔◌, ◌≢◌, ◌==◌, if◌then◌else�
 use Rattle.gvcp_wire.specs.declared.message.ControlError.{ControlError}
 use Rattle.gvcp_wire.specs.Messages.{PlainCommand, PlainAck}
 use Rattle.gvcp_wire.specs.Reading.{ack_reading}
-use Rattle.gvcp_aux.specs.Reading.{pending_reading}
+use Rattle.gvcp_wire.specs.BodyReading.{pending_reading}
 use Rattle.client_machine.specs.declared.outcome.Outcome.{Outcome}
 use Rattle.client_machine.specs.declared.outcome.Outcome.TheVariants.{Waiting, Acked, Refused, NoAnswer}
 use Rattle.client_machine.specs.Times.{SENDS}

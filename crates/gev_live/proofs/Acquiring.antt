@@ -14,9 +14,9 @@ use Rattle.board_machine.specs.Adding.{entries_of}
 use Rattle.board_machine.proofs.Quiet.{handed_own, none_rest}
 use Rattle.board_machine.proofs.Runs.{own_of-append}
 use Rattle.buffer_words.specs.Workers.{AreEvents, OnlyBy}
-use Rattle.mode_calls.specs.declared.mode.Mode.{Mode}
-use Rattle.mode_calls.specs.declared.mode.Mode.TheVariants.{OldestFirst, OldestFirstOverwrite, NewestOnly}
-use Rattle.mode_calls.specs.Dropped.{handed_out_items, others}
+use Rattle.board_calls.specs.declared.mode.Mode.{Mode}
+use Rattle.board_calls.specs.declared.mode.Mode.TheVariants.{OldestFirst, OldestFirstOverwrite, NewestOnly}
+use Rattle.board_calls.specs.Dropped.{handed_out_items, others}
 use Rattle.live_crew.specs.Prepared.{Prepares}
 use Rattle.gev_live.specs.Kinds.{is_filling, is_taking}
 use Rattle.gev_live.specs.Acquirers.{is_claim, acquires, handed_out, takers, DropsNothing}

@@ -4,8 +4,8 @@ use Rattle.board_machine.specs.declared.events.Entry.{Entry}
 use Rattle.board_machine.specs.declared.events.Event.{Event}
 use Rattle.board_machine.specs.declared.events.Event.TheVariants.{LookOut, LookRun, Grab, Lay, Pool, Claim, Fill, Take, Unpost, Stop, Split, Join}
 use Rattle.buffer_words.specs.Workers.{AreApart, AreOf, OnlyBy, IsChildless}
-use Rattle.mode_calls.specs.declared.mode.Mode.{Mode}
-use Rattle.mode_calls.specs.declared.mode.Mode.TheVariants.{OldestFirst}
+use Rattle.board_calls.specs.declared.mode.Mode.{Mode}
+use Rattle.board_calls.specs.declared.mode.Mode.TheVariants.{OldestFirst}
 use Rattle.gev_serve.specs.Kinds.{is_cameras}
 use Rattle.gev_apply.specs.Kinds.{is_applications}
 use Rattle.live_crew.specs.Kinds.{is_hosts}

@@ -5,7 +5,7 @@ use Rattle.board_machine.specs.declared.events.Entry.{Entry}
 use Rattle.board_machine.specs.Places.{IsPrefix}
 use Rattle.board_machine.specs.Histories.{Run, own_of}
 use Rattle.board_machine.specs.Handout.{taken_items}
-use Rattle.mode_calls.specs.declared.mode.Mode.{Mode}
+use Rattle.board_calls.specs.declared.mode.Mode.{Mode}
 use Rattle.buffer_words.specs.Passes.{Token, own}
 use Rattle.gev_apply.specs.History.{StopsAfter}
 use Rattle.gev_apply.proofs.Whole.{part_stays}

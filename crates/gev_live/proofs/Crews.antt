@@ -12,7 +12,7 @@ use Rattle.acquisition_machine.specs.Runs.{first_state}
 use Rattle.buffer_words.specs.Passes.{Token}
 use Rattle.buffer_words.specs.Workers.{AreApart, IsChildless, Worker, numbers, IsHome, Hosts, AreChildless, OthersAreApart}
 use Rattle.buffer_words.proofs.Working.{are_of_entries}
-use Rattle.mode_calls.specs.declared.mode.Mode.{Mode}
+use Rattle.board_calls.specs.declared.mode.Mode.{Mode}
 use Rattle.gev_lanes.specs.declared.parts.ReaderLane.{ReaderLane}
 use Rattle.lane_reader.specs.LanesTurns.{ReaderTurn}
 use Rattle.gev_live.proofs.Quiet.{own_none}

@@ -18,7 +18,7 @@ use Rattle.buffer_words.proofs.Working.{are_of_entries}
 use Rattle.acquisition_machine.specs.declared.config.AcqConfig.{AcqConfig}
 use Rattle.acquisition_machine.specs.Machine.{stop}
 use Rattle.acquisition_machine.specs.Runs.{first_state, After as AfterInputs}
-use Rattle.mode_calls.specs.declared.mode.Mode.{Mode}
+use Rattle.board_calls.specs.declared.mode.Mode.{Mode}
 use Rattle.gev_control.specs.declared.acq_end.AcqEnd.{AcqEnd}
 use Rattle.gev_acq.specs.Turns.{Turned}
 use Rattle.gev_acq.specs.Acquired.{inputs_in}

@@ -19,7 +19,7 @@ use Rattle.gev_serve.specs.declared.ends.ServeEnd.TheVariants as serves
 use Rattle.gev_serve.specs.Wires.{Wire}
 use Rattle.gev_serve.specs.Turns.{Served, looks_in}
 use Rattle.gev_serve.specs.Serving.{ServesOn, ServesTo}
-use Rattle.mode_calls.specs.declared.mode.Mode.{Mode}
+use Rattle.board_calls.specs.declared.mode.Mode.{Mode}
 use Rattle.gev_control.specs.declared.acq_end.AcqEnd.{AcqEnd}
 use Rattle.gev_control.specs.declared.acq_end.AcqEnd.TheVariants as reads
 use Rattle.gev_acq.specs.Turns.{Turned}
@@ -30,7 +30,7 @@ use Rattle.live_crew.specs.Kinds.{is_hosts}
 use Rattle.live_crew.specs.Stops.{StopsIf}
 use Rattle.gev_serve.specs.Work.{has_failed, most_turns, ServesAndStops}
 use Rattle.gev_live.specs.History.{Crew, LiveHistory}
-use Rattle.live_answers.specs.Endings.{taken_of, camera_status, status_by, is_told, FailsLast}
+use Rattle.gev_live.specs.Endings.{taken_of, camera_status, status_by, is_told, FailsLast}
 use Rattle.gev_live.specs.Parts.{LiveApplication}
 use Rattle.gev_live.proofs.Quiet.{is_beginning, beginning_are, none_both, own_none}
 use Rattle.gev_live.proofs.Emptied.{emptied}

@@ -21,8 +21,8 @@ use Rattle.live_crew.specs.Prepared.{Prepares, SawOnly}
 use Rattle.gev_serve.specs.Kinds.{is_cameras}
 use Rattle.gev_apply.specs.Kinds.{is_applications}
 use Rattle.live_crew.specs.Kinds.{is_hosts}
-use Rattle.mode_calls.specs.declared.mode.Mode.{Mode}
-use Rattle.mode_calls.specs.declared.mode.Mode.TheVariants.{OldestFirst, OldestFirstOverwrite, NewestOnly}
+use Rattle.board_calls.specs.declared.mode.Mode.{Mode}
+use Rattle.board_calls.specs.declared.mode.Mode.TheVariants.{OldestFirst, OldestFirstOverwrite, NewestOnly}
 use Rattle.gev_lanes.specs.declared.parts.ReaderLane.{ReaderLane}
 use Rattle.lane_reader.specs.LanesTurns.{ReaderTurn}
 use Rattle.gev_live.specs.Kinds.{is_filling, is_taking, is_handing}

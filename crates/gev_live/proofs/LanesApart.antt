@@ -5,8 +5,8 @@ use Rattle.board_machine.specs.declared.events.Event.{Event}
 use Rattle.board_machine.specs.declared.events.Event.TheVariants.{LookRun, Lay, Claim, Take, Pool, Fill, Stop, Join}
 use Rattle.board_machine.specs.Kinds.{HasNone, is_stop}
 use Rattle.buffer_words.specs.Workers.{AreOf, AreApart, IsChildless}
-use Rattle.mode_calls.specs.declared.mode.Mode.{Mode}
-use Rattle.mode_calls.specs.declared.mode.Mode.TheVariants.{OldestFirst}
+use Rattle.board_calls.specs.declared.mode.Mode.{Mode}
+use Rattle.board_calls.specs.declared.mode.Mode.TheVariants.{OldestFirst}
 use Rattle.gev_live.specs.Kinds.{is_filling, is_taking, is_handing}
 use Rattle.gev_live.proofs.Apart.{is_other}
 use Rattle.lane_crew.specs.Kinds.{is_lanes, is_lane_readers}

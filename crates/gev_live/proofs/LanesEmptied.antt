@@ -15,7 +15,7 @@ use Rattle.board_machine.proofs.Places.{times-append}
 use Rattle.board_machine.proofs.Quiet.{none_front, none_rest, run_stays, output_stays}
 use Rattle.board_machine.proofs.Runs.{own_of-append, after-append, runs_rest}
 use Rattle.buffer_words.specs.Workers.{AreOf}
-use Rattle.mode_calls.specs.declared.mode.Mode.{Mode}
+use Rattle.board_calls.specs.declared.mode.Mode.{Mode}
 use Rattle.buffer_words.proofs.Working.{are_of_entries}
 use Rattle.gev_apply.specs.Looks.{Looked}
 use Rattle.gev_apply.specs.Applied.{EndsStopped}

@@ -9,7 +9,7 @@ use Rattle.board_machine.specs.Adding.{entries_of}
 use Rattle.board_machine.specs.Histories.{own_of, After}
 use Rattle.board_machine.specs.Kinds.{HasNone, is_stop}
 use Rattle.board_machine.proofs.Adding.{entries_of-append}
-use Rattle.mode_calls.specs.declared.mode.Mode.{Mode}
+use Rattle.board_calls.specs.declared.mode.Mode.{Mode}
 use Rattle.gev_status.specs.declared.status.Status.{Status}
 use Rattle.gev_links.specs.Links.{Address}
 use Rattle.gev_serve.specs.declared.ends.ServeEnd.{ServeEnd}
@@ -21,7 +21,7 @@ use Rattle.lane_reader.specs.Reads.{looks_in}
 use Rattle.lane_crew.specs.Reader.{EndsAfter}
 use Rattle.gev_apply.specs.Applied.{IsEnough}
 use Rattle.gev_serve.specs.Work.{has_failed}
-use Rattle.live_answers.specs.Endings.{taken_of, camera_status, status_by, is_told, FailsLast}
+use Rattle.gev_live.specs.Endings.{taken_of, camera_status, status_by, is_told, FailsLast}
 use Rattle.gev_live.specs.Parts.{LiveApplication}
 use Rattle.gev_live.specs.Told.{Told}
 use Rattle.gev_live.proofs.Unstopped.{Unstopped, both_unstopped, entries_unstopped, last_unstopped}

@@ -2,7 +2,7 @@
 use Rattle.std.proofs.Common.{◌≡◌, ℕ, List, Option, subst}
 use Rattle.buffer_words.specs.Passes.{Token}
 use Rattle.client_machine.specs.Machine.{Client}
-use Rattle.mode_calls.specs.declared.mode.Mode.{Mode}
+use Rattle.board_calls.specs.declared.mode.Mode.{Mode}
 use Rattle.gev_links.specs.Links.{Address, Answer}
 use Rattle.gev_acq.specs.Turns.{Outside}
 use Rattle.gev_control.specs.declared.acq_end.AcqEnd.{AcqEnd}

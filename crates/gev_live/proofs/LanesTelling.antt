@@ -31,7 +31,7 @@ use Rattle.lane_crew.specs.Reader.{BringsAll}
 use Rattle.lane_crew.proofs.Staying.{lanes_stay}
 use Rattle.gev_live.specs.Told.{Told, live_config, live_camera}
 use Rattle.gev_live.specs.History.{live_size}
-use Rattle.live_answers.specs.Endings.{taken_of, status_by, EndsSo}
+use Rattle.gev_live.specs.Endings.{taken_of, status_by, EndsSo}
 use Rattle.gev_live.specs.declared.numbers.Numbers.{Numbers}
 use Rattle.gev_live.specs.Parts.{LiveCamera, LiveServes, LiveApplication}
 use Rattle.gev_live.proofs.Quiet.{one_size}

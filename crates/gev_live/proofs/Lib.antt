@@ -29,3 +29,4 @@ pub mod LanesTelling
 pub mod LanesSteady
 pub mod Lasts
 pub mod LanesTaking
+pub mod Statuses

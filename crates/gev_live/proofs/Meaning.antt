@@ -22,7 +22,7 @@ use Rattle.gev_acq.specs.Reads.{EndsAfter, IsSetUp}
 use Rattle.gev_apply.specs.Looks.{Looked}
 use Rattle.camera_machine.specs.Camera.{Camera}
 use Rattle.gev_live.specs.Told.{Told}
-use Rattle.live_answers.specs.Endings.{taken_of, read_status, application_status, camera_status, status_by, is_told, FailsLast}
+use Rattle.gev_live.specs.Endings.{taken_of, read_status, application_status, camera_status, status_by, is_told, FailsLast}
 use Rattle.gev_live.specs.Parts.{TellsTaken, LiveCamera}
 use Rattle.gev_live.specs.LiveRun.{LinksStay, LinkFailed, Means}
 

@@ -9,7 +9,7 @@ use Rattle.acquisition_machine.specs.Machine.{stop}
 use Rattle.acquisition_machine.specs.Runs.{first_state}
 use Rattle.acq_core.specs.Receiver.{config_of}
 use Rattle.block_fills.specs.Fills.{tried}
-use Rattle.mode_calls.specs.declared.mode.Mode.{Mode}
+use Rattle.board_calls.specs.declared.mode.Mode.{Mode}
 use Rattle.gev_acq.specs.Claims.{met_by}
 use Rattle.gev_acq.proofs.Filled.{served_fills}
 use Rattle.gev_acq.specs.History.{AreSized}

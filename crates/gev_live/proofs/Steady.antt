@@ -6,7 +6,7 @@ use Rattle.gev_links.specs.Faults.{Rose}
 use Rattle.gev_status.specs.declared.status.Status.{Status}
 use Rattle.gev_status.specs.declared.status.Status.TheVariants.{Done, Usage, BadScript, BadCapture, NoPicture, Silent, Controlled, NoDescription, ControlLost, NoDatagram, RefusedAt, ReadFault, WriteFault, LinkFault, NoMemory, NoAnswer, Refused, TurnsSpent}
 use Rattle.gev_live.specs.Told.{Told}
-use Rattle.live_answers.specs.Endings.{Wrote}
+use Rattle.gev_live.specs.Endings.{Wrote}
 use Rattle.gev_live.specs.declared.numbers.Numbers.{Numbers}
 use Rattle.gev_live.specs.LiveRun.{LinkFailed, RunsLive}
 

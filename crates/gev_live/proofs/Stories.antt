@@ -22,8 +22,8 @@ use Rattle.live_crew.specs.Kinds.{is_hosts}
 use Rattle.live_crew.specs.Homes.{CameHome, CrewHome}
 use Rattle.live_crew.proofs.Crews.{home_worker, crew_hosted, crew_apart}
 use Rattle.gev_acq.specs.Kinds.{is_readers, is_strict_readers}
-use Rattle.mode_calls.specs.declared.mode.Mode.{Mode}
-use Rattle.mode_calls.specs.declared.mode.Mode.TheVariants.{OldestFirst, OldestFirstOverwrite, NewestOnly}
+use Rattle.board_calls.specs.declared.mode.Mode.{Mode}
+use Rattle.board_calls.specs.declared.mode.Mode.TheVariants.{OldestFirst, OldestFirstOverwrite, NewestOnly}
 use Rattle.gev_live.specs.Kinds.{is_live, is_filling, is_taking, is_handing}
 use Rattle.gev_live.specs.Acquirers.{takers}
 use Rattle.gev_live.specs.History.{Crew, live_size, LiveHistory}

@@ -10,7 +10,7 @@ use Rattle.acquisition_machine.specs.declared.retired.Retired.{Retired}
 use Rattle.acquisition_machine.specs.Machine.{Input, State}
 use Rattle.block_fills.proofs.Tries.{entries-append}
 use Rattle.buffer_words.specs.Workers.{AreEvents}
-use Rattle.mode_calls.specs.declared.mode.Mode.{Mode}
+use Rattle.board_calls.specs.declared.mode.Mode.{Mode}
 use Rattle.gev_acq.specs.Filling.{laid_unless}
 use Rattle.gev_acq.specs.Serving.{Serves}
 use Rattle.gev_acq.proofs.Parts.{Holds, served_hold}

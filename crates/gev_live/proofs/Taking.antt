@@ -7,7 +7,7 @@ use Rattle.client_machine.specs.Machine.{Client}
 use Rattle.camera_machine.specs.Camera.{Camera}
 use Rattle.gev_links.specs.Links.{Address, Answer}
 use Rattle.gev_acq.specs.Turns.{Outside}
-use Rattle.mode_calls.specs.declared.mode.Mode.{Mode}
+use Rattle.board_calls.specs.declared.mode.Mode.{Mode}
 use Rattle.gev_serve.specs.declared.ends.ServeEnd.{ServeEnd}
 use Rattle.gev_serve.specs.Wires.{Wire}
 use Rattle.gev_control.specs.declared.acq_end.AcqEnd.{AcqEnd}

@@ -22,7 +22,7 @@ use Rattle.gev_control.specs.declared.acq_end.AcqEnd.{AcqEnd}
 use Rattle.gev_status.specs.declared.status.Status.{Status}
 use Rattle.gev_status.specs.declared.status.Status.TheVariants.{NoMemory}
 use Rattle.live_crew.specs.Prepared.{Prepares, SawOnly}
-use Rattle.mode_calls.specs.declared.mode.Mode.{Mode}
+use Rattle.board_calls.specs.declared.mode.Mode.{Mode}
 use Rattle.gev_acq.specs.Kinds.{is_readers, is_strict_readers}
 use Rattle.gev_acq.specs.History.{LiveReading}
 use Rattle.gev_acq.proofs.Whole.{part_stays, part_fills, part_sized}
@@ -30,7 +30,7 @@ use Rattle.gev_acq.proofs.Strict.{part_lays_nothing}
 use Rattle.gev_live.specs.Told.{Told, reader_side, live_config, live_camera}
 use Rattle.gev_live.specs.History.{live_size, LiveHistory}
 use Rattle.gev_live.specs.Acquirers.{acquires}
-use Rattle.live_answers.specs.Endings.{taken_of, status_by, EndsSo}
+use Rattle.gev_live.specs.Endings.{taken_of, status_by, EndsSo}
 use Rattle.gev_acq.specs.declared.turn.Turn.{Turn}
 use Rattle.gev_live.specs.declared.numbers.Numbers.{Numbers}
 use Rattle.gev_live.specs.LiveRun.{LiveRun, NeverRan, RunsLive}

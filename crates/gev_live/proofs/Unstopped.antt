@@ -12,9 +12,9 @@ use Rattle.acquisition_machine.specs.Runs.{after_from}
 use Rattle.buffer_words.specs.Workers.{AreEvents}
 use Rattle.gev_control.specs.declared.acq_end.AcqEnd.{AcqEnd}
 use Rattle.gev_control.specs.declared.acq_end.AcqEnd.TheVariants as how
-use Rattle.mode_calls.specs.declared.mode.Mode.{Mode}
-use Rattle.mode_calls.specs.declared.mode.Mode.TheVariants.{OldestFirst, OldestFirstOverwrite, NewestOnly}
-use Rattle.mode_calls.specs.Modes.{ClaimsOnly, ClaimsOrTakes, ClaimsFor, takes_and_pools, DropsFor}
+use Rattle.board_calls.specs.declared.mode.Mode.{Mode}
+use Rattle.board_calls.specs.declared.mode.Mode.TheVariants.{OldestFirst, OldestFirstOverwrite, NewestOnly}
+use Rattle.board_calls.specs.Modes.{ClaimsOnly, ClaimsOrTakes, ClaimsFor, takes_and_pools, DropsFor}
 use Rattle.gev_acq.specs.Serving.{ClaimsOf, Serves}
 use Rattle.gev_acq.specs.Filling.{laid_unless, FillsOne, FillsRetiredFor}
 use Rattle.gev_acq.specs.Turns.{Turned, inputs_of}

@@ -17,9 +17,9 @@ use Rattle.acquisition_machine.specs.TurnLaws.{held, given_of, GivesBack, KeepsB
 use Rattle.acquisition_machine.proofs.Buffers.{keeps_buffers}
 use Rattle.acquisition_machine.proofs.Joining.{after_from-append}
 use Rattle.acquisition_machine.proofs.Window.{step_sound, blocks_are_in_order}
-use Rattle.mode_calls.specs.declared.mode.Mode.{Mode}
-use Rattle.mode_calls.specs.declared.mode.Mode.TheVariants.{OldestFirst, OldestFirstOverwrite, NewestOnly}
-use Rattle.mode_calls.specs.Modes.{ClaimsOnly, ClaimsOrTakes, ClaimsFor}
+use Rattle.board_calls.specs.declared.mode.Mode.{Mode}
+use Rattle.board_calls.specs.declared.mode.Mode.TheVariants.{OldestFirst, OldestFirstOverwrite, NewestOnly}
+use Rattle.board_calls.specs.Modes.{ClaimsOnly, ClaimsOrTakes, ClaimsFor}
 use Rattle.gev_control.specs.declared.acq_end.AcqEnd.{AcqEnd}
 use Rattle.gev_control.specs.declared.acq_end.AcqEnd.TheVariants as how
 use Rattle.gev_acq.specs.Serving.{ClaimsOf, Serves}

@@ -5,9 +5,9 @@ use Rattle.board_machine.specs.declared.events.Event.{Event}
 use Rattle.board_machine.specs.declared.events.Event.TheVariants.{Claim}
 use Rattle.board_machine.specs.Machine.{Item}
 use Rattle.board_machine.specs.Handout.{handed_items, taken_items}
-use Rattle.mode_calls.specs.declared.mode.Mode.{Mode}
-use Rattle.mode_calls.specs.declared.mode.Mode.TheVariants.{OldestFirst, OldestFirstOverwrite, NewestOnly}
-use Rattle.mode_calls.specs.Dropped.{dropped_items, handed_out_items}
+use Rattle.board_calls.specs.declared.mode.Mode.{Mode}
+use Rattle.board_calls.specs.declared.mode.Mode.TheVariants.{OldestFirst, OldestFirstOverwrite, NewestOnly}
+use Rattle.board_calls.specs.Dropped.{dropped_items, handed_out_items}
 
 abbrev pub is_claim : Event → Bool
 is_claim (Claim place) = true

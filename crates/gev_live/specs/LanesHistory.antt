@@ -14,7 +14,7 @@ use Rattle.board_machine.specs.Actors.{AllBy}
 use Rattle.board_machine.specs.Adding.{entries_of}
 use Rattle.buffer_words.specs.Workers.{AreOf, OnlyBy}
 use Rattle.live_crew.specs.Prepared.{Prepares}
-use Rattle.mode_calls.specs.declared.mode.Mode.{Mode}
+use Rattle.board_calls.specs.declared.mode.Mode.{Mode}
 use Rattle.gev_live.specs.Kinds.{is_live, is_filling, is_taking, is_handing}
 use Rattle.gev_live.specs.Acquirers.{takers}
 use Rattle.gev_live.specs.History.{live_size}

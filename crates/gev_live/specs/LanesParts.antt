@@ -14,7 +14,7 @@ use Rattle.client_machine.specs.Machine.{Client, new_client}
 use Rattle.gev_links.specs.Links.{Address}
 use Rattle.gev_control.specs.declared.acq_end.AcqEnd.{AcqEnd}
 use Rattle.gev_control.specs.Ends.{is_fault_end}
-use Rattle.mode_calls.specs.declared.mode.Mode.{Mode}
+use Rattle.board_calls.specs.declared.mode.Mode.{Mode}
 use Rattle.gev_acq.specs.Reading.{FaultsOf}
 use Rattle.gev_acq.specs.Claims.{claims_in}
 use Rattle.gev_acq.specs.History.{AreSized}

@@ -11,7 +11,7 @@ use Rattle.gev_status.specs.declared.status.Status.{Status}
 use Rattle.gev_status.specs.declared.status.Status.TheVariants as status
 use Rattle.gev_live.specs.declared.numbers.Numbers.{Numbers}
 use Rattle.gev_live.specs.Told.{Told, live_config, live_camera}
-use Rattle.live_answers.specs.Endings.{taken_of, status_by, is_told, EndsSo}
+use Rattle.gev_live.specs.Endings.{taken_of, status_by, is_told, EndsSo}
 use Rattle.gev_live.specs.Parts.{LiveCamera, LiveServes, LiveApplication}
 use Rattle.gev_live.specs.LiveRun.{LinksStay, LinkFailed, Means, NeverRan, RunsLive}
 use Rattle.gev_live.specs.LanesHistory.{LanesCrew, LanesHistory}

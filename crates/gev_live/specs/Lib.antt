@@ -13,3 +13,4 @@ pub mod LanesParts
 pub mod LanesRun
 pub mod LanesHomes
 pub mod LanesRan
+pub mod Endings

@@ -18,7 +18,7 @@ use Rattle.board_machine.specs.declared.events.Event.{Event}
 use Rattle.gev_live.specs.declared.numbers.Numbers.{Numbers}
 use Rattle.gev_live.specs.Told.{Told, live_config, live_camera}
 use Rattle.gev_live.specs.History.{Crew, live_size, LiveHistory}
-use Rattle.live_answers.specs.Endings.{taken_of, status_by, is_told, EndsSo}
+use Rattle.gev_live.specs.Endings.{taken_of, status_by, is_told, EndsSo}
 use Rattle.gev_live.specs.Parts.{LiveReader, LiveCamera, LiveServes, LiveApplication}
 
 -- no call of a link failed

@@ -24,7 +24,7 @@ use Rattle.gev_acq.specs.Acquired.{inputs_in}
 use Rattle.gev_acq.specs.Reads.{ReadsOn}
 use Rattle.gev_acq.specs.History.{LiveReading, AreSized}
 use Rattle.board_machine.specs.Handout.{taken_items}
-use Rattle.mode_calls.specs.declared.mode.Mode.{Mode}
+use Rattle.board_calls.specs.declared.mode.Mode.{Mode}
 use Rattle.gev_live.specs.Acquirers.{handed_out, DropsNothing}
 use Rattle.gev_links.specs.Faults.{Rose}
 use Rattle.gev_links.specs.Moments.{TellsEach}

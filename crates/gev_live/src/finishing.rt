@@ -3,17 +3,17 @@
 ghost use Rattle.std.specs.Prelude.{◌≡◌, ◌++◌};
 ghost use Rattle.gev_report.specs.LiveLine.{live_line};
 ghost use Rattle.gev_live.specs.Told.{told_back};
-ghost use Rattle.live_answers.specs.Endings.{taken_of, status_by, IsAnswer, EndsSo};
+ghost use Rattle.gev_live.specs.Endings.{taken_of, status_by, IsAnswer, EndsSo};
 
 use crate::counting::{Tally, tell_counts};
 use crate::ends::Ends;
 use crate::numbers::Numbers;
+use crate::{status_by, taken_of, write_told};
 use gev_acq::{Acquired, Host, Turn};
 use gev_apply::ApplicationDone;
 use gev_links::{Clock, Link, Sink};
 use gev_serve::CameraDone;
 use gev_status::Status;
-use live_answers::{status_by, taken_of, write_told};
 use std::alloc::Global;
 
 // Tells what was counted, and writes the lines and the last one, where the workers' answer wants that.

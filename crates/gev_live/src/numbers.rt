@@ -1,4 +1,4 @@
-use mode_calls::Mode;
+use board_calls::Mode;
 
 /// What is asked of a live run.
 #[derive(Clone, Copy)]

@@ -5,7 +5,7 @@ use Rattle.gev_links.specs.Links.{Address}
 use Rattle.gev_status.specs.declared.status.Status.{Status}
 use Rattle.gev_status.specs.declared.status.Status.TheVariants.{Done, Usage, BadScript, ReadFault, WriteFault, LinkFault, NoMemory, NoAnswer, Refused, TurnsSpent, BadCapture, NoPicture, Silent, Controlled, NoDescription, ControlLost, NoDatagram, RefusedAt}
 use Rattle.gev_live.specs.Told.{Told}
-use Rattle.live_answers.specs.Endings.{Wrote}
+use Rattle.gev_live.specs.Endings.{Wrote}
 use Rattle.gev_live.specs.LiveRun.{LinksStay, LinkFailed}
 use Rattle.gev_top.specs.declared.live_numbers.LiveNumbers.{LiveNumbers}
 use Rattle.gev_program.specs.Runs.{RunsSo}

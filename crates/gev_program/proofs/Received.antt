@@ -4,7 +4,7 @@ use Rattle.gev_links.specs.Faults.{Rose}
 use Rattle.gev_status.specs.declared.status.Status.{Status}
 use Rattle.gev_status.specs.declared.status.Status.TheVariants.{Done, Usage, BadScript, ReadFault, WriteFault, LinkFault, NoMemory, NoAnswer, Refused, TurnsSpent, BadCapture, NoPicture, Silent, Controlled, NoDescription, ControlLost, NoDatagram, RefusedAt}
 use Rattle.camera_words.specs.declared.settings.Settings.{Settings}
-use Rattle.receive_answers.specs.Answers.{rank}
+use Rattle.gev_receive.specs.Answers.{rank}
 use Rattle.gev_top.specs.declared.errand.Errand.{Errand}
 use Rattle.gev_top.specs.declared.errand.Errand.TheVariants.{Receive}
 use Rattle.gev_top.specs.Completeness.{NoneRose, EndsReception, CompletesErrand}

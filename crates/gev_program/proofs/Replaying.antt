@@ -2,9 +2,9 @@
 use Rattle.std.proofs.Common.{◌≡◌, ℕ, List, Option, subst}
 use Rattle.script_trace.specs.Standing.{Standing, first, running, ReplayRuns, ReplayRefuses}
 use Rattle.script_trace.specs.Laws.{StandsWell, HasSaid}
-use Rattle.script_notes.specs.Explaining.{untold, ExplainRefuses}
-use Rattle.run_promises.specs.Laws.{StandsByHeadline}
-use Rattle.run_promises.proofs.Headlines.{traces_headline}
+use Rattle.script_trace.specs.Explaining.{untold, ExplainRefuses}
+use Rattle.live_promises.specs.HeadlineLaws.{StandsByHeadline}
+use Rattle.live_promises.proofs.Headlines.{traces_headline}
 use Rattle.gev_status.specs.declared.status.Status.{Status}
 use Rattle.gev_top.specs.Scripts.{Ends}
 use Rattle.gev_top.specs.declared.command.Command.{Command}

@@ -12,7 +12,7 @@ use Rattle.gev_top.specs.declared.errand.Errand.{Errand}
 use Rattle.gev_top.specs.declared.errand.Errand.TheVariants.{Plain, Live, Record, Discover, Description, Simulate, Receive}
 use Rattle.gev_top.specs.Answers.{Answers, IsDecided, ReadsSteady}
 use Rattle.gev_top.specs.Completeness.{NoneRose, EndsLive, EndsSearch, EndsDescription, EndsSimulation, EndsReception}
-use Rattle.receive_promises.specs.Over.{ReceivesSo}
+use Rattle.live_promises.specs.Over.{ReceivesSo}
 use Rattle.gev_program.specs.Runs.{IsBound, RunsOver, RecordsOver, RunsNothing}
 use Rattle.gev_program.specs.Cameras.{DiscoversOver, DescribesOver}
 use Rattle.gev_program.specs.Simulation.{SimulatesSo}

@@ -1,7 +1,7 @@
 -- An explanation by the headline, in the words of a live run.
 use Rattle.std.specs.Prelude.{ℕ, List, Option}
-use Rattle.script_notes.specs.Explaining.{Telling, untold, ExplainRefuses}
-use Rattle.run_promises.specs.Laws.{StandsByHeadline}
+use Rattle.script_trace.specs.Explaining.{Telling, untold, ExplainRefuses}
+use Rattle.live_promises.specs.HeadlineLaws.{StandsByHeadline}
 use Rattle.gev_status.specs.declared.status.Status.{Status}
 use Rattle.gev_top.specs.Scripts.{Ends, IfEnded}
 use Rattle.gev_top.specs.Explained.{ExplainsLine, HasTold}

@@ -2,7 +2,7 @@
 use Rattle.std.specs.Prelude.{ℕ, List, Option}
 use Rattle.script_trace.specs.Standing as replay
 use Rattle.script_trace.specs.Laws.{HasSaid}
-use Rattle.run_promises.specs.Laws.{StandsByHeadline}
+use Rattle.live_promises.specs.HeadlineLaws.{StandsByHeadline}
 use Rattle.gev_status.specs.declared.status.Status.{Status}
 use Rattle.gev_top.specs.Scripts.{Ends, IfEnded}
 

@@ -7,7 +7,7 @@ ghost use Rattle.buffer_words.specs.Boards.{board_id};
 ghost use Rattle.camera_words.specs.Receiving.{IsInRange};
 ghost use Rattle.gev_links.specs.Faults.{Rose};
 ghost use Rattle.gev_top.specs.Completeness.{NoneRose, EndsReception};
-ghost use Rattle.receive_promises.specs.Over.{ReceivesSo};
+ghost use Rattle.live_promises.specs.Over.{ReceivesSo};
 
 use buffer_words::{Board, Pass};
 use camera_words::Settings;

@@ -19,7 +19,7 @@ ghost use Rattle.gev_program.specs.Runs.{IsBound, RunsOver, RecordsOver, RunsNot
 ghost use Rattle.gev_program.specs.Cameras.{DiscoversOver, DescribesOver};
 ghost use Rattle.gev_program.specs.Simulation.{SimulatesSo};
 ghost use Rattle.gev_program.specs.Reception.{WritesSteady};
-ghost use Rattle.receive_promises.specs.Over.{ReceivesSo};
+ghost use Rattle.live_promises.specs.Over.{ReceivesSo};
 ghost use Rattle.camera_words.specs.declared.settings.Settings.{Settings};
 ghost use Rattle.camera_words.specs.declared.simulate_words.SimulateWords.{SimulateWords};
 ghost use Rattle.gev_program.specs.Replayed.{ReplaysByHeadline};

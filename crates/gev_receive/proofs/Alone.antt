@@ -8,7 +8,7 @@ use Rattle.buffer_words.specs.Passes.{Token, own}
 use Rattle.buffer_words.specs.Workers.{Works, Hosts}
 use Rattle.buffer_words.specs.WorkLaws.{worker_of}
 use Rattle.buffer_words.proofs.Working.{hosts_first, hosts_splits, hosts_joins_worker, hosted_all}
-use Rattle.mode_calls.specs.declared.mode.Mode.{Mode}
+use Rattle.board_calls.specs.declared.mode.Mode.{Mode}
 use Rattle.live_crew.specs.Kinds.{is_hosts}
 use Rattle.live_crew.specs.Crews.{RanTwo}
 use Rattle.gev_acq.specs.Kinds.{is_readers}

@@ -2,8 +2,8 @@
 use Rattle.std.proofs.Common.{◌≡◌, ℕ, Bool, true, List, Option, sym, subst}
 use Rattle.gev_status.specs.declared.status.Status.{Status}
 use Rattle.camera_words.specs.declared.settings.Output.{Output}
-use Rattle.receive_lines.specs.declared.receive_counts.ReceiveCounts.{ReceiveCounts}
-use Rattle.receive_lines.specs.ReceiveLine.{receive_line}
+use Rattle.frame_writing.specs.declared.receive_counts.ReceiveCounts.{ReceiveCounts}
+use Rattle.frame_writing.specs.ReceiveLine.{receive_line}
 use Rattle.gev_receive.specs.Ending.{has_last, WritesLast, EndsWith, with_strangers, Finishes}
 
 pub with_line : (output : Output) (first answer : Status) (counts last : ReceiveCounts) (strangers : ℕ) (written written_after : Option (List ℕ)) (faults faults_after : ℕ)

@@ -11,7 +11,7 @@ use Rattle.camera_control.specs.Taking.{Takes, Leaves, FailsAs}
 use Rattle.camera_words.specs.declared.settings.Settings.{Settings}
 use Rattle.camera_words.specs.declared.register_write.Stage.TheVariants.{Set, Start, Stop}
 use Rattle.gev_status.specs.declared.status.Status.{Status}
-use Rattle.receive_answers.specs.Answers.{control_status, leave_status, weightier, is_lost}
+use Rattle.gev_receive.specs.Answers.{control_status, leave_status, weightier, is_lost}
 use Rattle.gev_receive.specs.Starting.{writes_at}
 use Rattle.gev_receive.specs.Receives.{wish_of, TakesBy, LeavesUnless, LeavesHeld}
 

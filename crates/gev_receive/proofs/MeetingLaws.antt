@@ -11,8 +11,8 @@ use Rattle.camera_control.specs.Taking.{TakeFails}
 use Rattle.camera_words.specs.declared.settings.Settings.{Settings}
 use Rattle.first_leader.specs.Waiting.{WaitSide}
 use Rattle.gev_status.specs.declared.status.Status.{Status}
-use Rattle.receive_lines.specs.declared.receive_counts.ReceiveCounts.{ReceiveCounts}
-use Rattle.receive_answers.specs.Answers.{StreamEnd, stream_end}
+use Rattle.frame_writing.specs.declared.receive_counts.ReceiveCounts.{ReceiveCounts}
+use Rattle.gev_receive.specs.Answers.{StreamEnd, stream_end}
 use Rattle.gev_receive.specs.Starting.{no_counts}
 use Rattle.gev_receive.specs.Frames.{seen_by}
 use Rattle.gev_receive.specs.Receives.{control_part, history_of, TakesBy, Streams, LeavesUnless, LeavesHeld, Meets}

@@ -8,8 +8,8 @@ use Rattle.gev_acq.specs.Turns.{Outside}
 use Rattle.camera_words.specs.declared.settings.Settings.{Settings}
 use Rattle.first_leader.specs.declared.leading.FirstLeader.{FirstLeader}
 use Rattle.gev_status.specs.declared.status.Status.TheVariants as status
-use Rattle.receive_lines.specs.declared.receive_counts.ReceiveCounts.{ReceiveCounts}
-use Rattle.receive_answers.specs.Answers.{StreamEnd, unread_end}
+use Rattle.frame_writing.specs.declared.receive_counts.ReceiveCounts.{ReceiveCounts}
+use Rattle.gev_receive.specs.Answers.{StreamEnd, unread_end}
 use Rattle.gev_receive.specs.Starting.{buffer_size, leader_counts}
 use Rattle.gev_receive.specs.Frames.{NeverRan}
 

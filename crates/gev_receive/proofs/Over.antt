@@ -9,8 +9,8 @@ use Rattle.link_filters.specs.Strangers.{CountsStrangers}
 use Rattle.camera_words.specs.declared.settings.Settings.{Settings}
 use Rattle.gev_status.specs.declared.status.Status.{Status}
 use Rattle.gev_status.specs.declared.status.Status.TheVariants as status
-use Rattle.receive_lines.specs.declared.receive_counts.ReceiveCounts.{ReceiveCounts}
-use Rattle.receive_answers.specs.Answers.{rank}
+use Rattle.frame_writing.specs.declared.receive_counts.ReceiveCounts.{ReceiveCounts}
+use Rattle.gev_receive.specs.Answers.{rank}
 use Rattle.gev_receive.specs.Ending.{Finishes}
 use Rattle.gev_receive.specs.Bound.{control_peer, AllTold, RaisesByTwo}
 use Rattle.gev_receive.specs.Receives.{IsUntold, host_side, sum_of, SEND_LIMIT, Meets, Receives, told_by, history_of, ReceivesOver}

@@ -5,7 +5,7 @@ use Rattle.acquisition_machine.specs.declared.counts.Counts.{Counts}
 use Rattle.board_machine.specs.Actors.{born}
 use Rattle.buffer_words.specs.Passes.{Token, own}
 use Rattle.buffer_words.specs.Workers.{Works}
-use Rattle.mode_calls.specs.declared.mode.Mode.{Mode}
+use Rattle.board_calls.specs.declared.mode.Mode.{Mode}
 use Rattle.gev_links.specs.Links.{Address}
 use Rattle.gev_links.specs.Told.{Drops}
 use Rattle.live_crew.specs.Prepared.{SawOnly, Prepares}
@@ -22,8 +22,8 @@ use Rattle.camera_reader.specs.Reading.{is_fault}
 use Rattle.first_leader.specs.declared.leading.FirstLeader.{FirstLeader}
 use Rattle.frame_writing.specs.declared.handed_out.HandedOut.{HandedOut}
 use Rattle.frame_writing.specs.Work.{HandsOutAndStops}
-use Rattle.receive_lines.specs.declared.receive_counts.ReceiveCounts.{ReceiveCounts}
-use Rattle.receive_answers.specs.Answers.{StreamEnd, frames_end}
+use Rattle.frame_writing.specs.declared.receive_counts.ReceiveCounts.{ReceiveCounts}
+use Rattle.gev_receive.specs.Answers.{StreamEnd, frames_end}
 use Rattle.gev_receive.specs.Starting.{config_of, mode_of, buffer_size, leader_counts, with_counts}
 use Rattle.gev_receive.specs.Reader.{ReadsFrames}
 use Rattle.gev_receive.specs.Frames.{RanFrames}

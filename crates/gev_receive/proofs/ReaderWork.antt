@@ -13,7 +13,7 @@ use Rattle.buffer_words.specs.Workers.{AreEvents, Works}
 use Rattle.buffer_words.specs.Several.{EntersEach}
 use Rattle.buffer_words.proofs.Several.{each_one, each_then}
 use Rattle.buffer_words.proofs.Working.{works_each}
-use Rattle.mode_calls.specs.declared.mode.Mode.{Mode}
+use Rattle.board_calls.specs.declared.mode.Mode.{Mode}
 use Rattle.gev_links.specs.Links.{Address, Answer}
 use Rattle.gev_links.specs.Moments.{Tells, TellsEach}
 use Rattle.gev_links.proofs.Growing.{tells_first, tells_then}

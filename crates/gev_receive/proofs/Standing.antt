@@ -29,8 +29,8 @@ use Rattle.frame_writing.specs.declared.handed_out.HandedEnd.TheVariants as hand
 use Rattle.frame_writing.specs.HandsOut.{EndsBy}
 use Rattle.gev_status.specs.declared.status.Status.{Status}
 use Rattle.gev_status.specs.declared.status.Status.TheVariants as status
-use Rattle.receive_lines.specs.declared.receive_counts.ReceiveCounts.{ReceiveCounts}
-use Rattle.receive_answers.specs.Answers.{rank, control_status, leader_status, reader_status, handed_status, leave_status, weightier, is_lost, is_told, StreamEnd}
+use Rattle.frame_writing.specs.declared.receive_counts.ReceiveCounts.{ReceiveCounts}
+use Rattle.gev_receive.specs.Answers.{rank, control_status, leader_status, reader_status, handed_status, leave_status, weightier, is_lost, is_told, StreamEnd}
 use Rattle.gev_receive.specs.Ending.{has_last, WritesLast, EndsWith}
 use Rattle.gev_receive.specs.Frames.{RanFrames, Runs}
 use Rattle.gev_receive.specs.Receives.{Told, Streams, unled, undrawn, streamed, LeavesUnless, LeavesHeld, Meets, Receives}

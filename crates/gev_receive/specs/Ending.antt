@@ -6,9 +6,9 @@ use Rattle.gev_status.specs.declared.status.Status.{Status}
 use Rattle.gev_status.specs.declared.status.Status.TheVariants as status
 use Rattle.camera_words.specs.declared.settings.Output.{Output}
 use Rattle.camera_words.specs.declared.settings.Output.TheVariants.{Lines, Pictures, Counts}
-use Rattle.receive_lines.specs.declared.receive_counts.ReceiveCounts.{ReceiveCounts}
-use Rattle.receive_lines.specs.ReceiveLine.{receive_line}
-use Rattle.receive_answers.specs.Answers.{is_told}
+use Rattle.frame_writing.specs.declared.receive_counts.ReceiveCounts.{ReceiveCounts}
+use Rattle.frame_writing.specs.ReceiveLine.{receive_line}
+use Rattle.gev_receive.specs.Answers.{is_told}
 
 -- It comes with lines and with counts, where the answer wants it.
 abbrev pub has_last : Output → Status → Bool

@@ -13,7 +13,7 @@ use Rattle.board_machine.specs.Actors.{AllBy}
 use Rattle.board_machine.specs.Adding.{entries_of}
 use Rattle.buffer_words.specs.Workers.{AreOf, OnlyBy}
 use Rattle.live_crew.specs.Prepared.{Prepares}
-use Rattle.mode_calls.specs.declared.mode.Mode.{Mode}
+use Rattle.board_calls.specs.declared.mode.Mode.{Mode}
 use Rattle.acquisition_machine.specs.declared.config.AcqConfig.{AcqConfig}
 use Rattle.acquisition_machine.specs.declared.counts.Counts.{Counts}
 use Rattle.acquisition_machine.specs.Machine.{tick, stop}
@@ -44,8 +44,8 @@ use Rattle.frame_writing.specs.HandsOut.{EndsBy}
 use Rattle.frame_writing.specs.Work.{has_enough}
 use Rattle.gev_status.specs.declared.status.Status.TheVariants as status
 use Rattle.packet_requests.specs.declared.id_mode.IdMode.{IdMode}
-use Rattle.receive_lines.specs.declared.receive_counts.ReceiveCounts.{ReceiveCounts}
-use Rattle.receive_answers.specs.Answers.{StreamEnd, unread_end, frames_end}
+use Rattle.frame_writing.specs.declared.receive_counts.ReceiveCounts.{ReceiveCounts}
+use Rattle.gev_receive.specs.Answers.{StreamEnd, unread_end, frames_end}
 use Rattle.gev_receive.specs.Starting.{config_of, mode_of, buffer_size, leader_counts, with_counts}
 use Rattle.buffer_words.specs.Passes.{Token, own}
 use Rattle.buffer_words.specs.Workers.{Works}

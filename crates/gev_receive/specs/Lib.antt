@@ -4,3 +4,4 @@ pub mod Reader
 pub mod Frames
 pub mod Bound
 pub mod Receives
+pub mod Answers

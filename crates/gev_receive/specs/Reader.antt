@@ -10,7 +10,7 @@ use Rattle.acq_core.specs.Standing.{capped}
 use Rattle.acquisition_machine.specs.Runs.{After}
 use Rattle.buffer_words.specs.Passes.{Token}
 use Rattle.buffer_words.specs.Several.{EntersEach}
-use Rattle.mode_calls.specs.declared.mode.Mode.{Mode}
+use Rattle.board_calls.specs.declared.mode.Mode.{Mode}
 use Rattle.gev_links.specs.Links.{Address, Adds}
 use Rattle.gev_links.specs.Moments.{TellsEach}
 use Rattle.gev_control.specs.Sends.{addressed}

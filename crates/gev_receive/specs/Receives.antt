@@ -5,7 +5,7 @@ use Rattle.board_machine.specs.declared.events.Entry.{Entry}
 use Rattle.client_machine.specs.Machine.{Client, new_client}
 use Rattle.gev_links.specs.Links.{Address, Answer, IsBlank}
 use Rattle.link_filters.specs.Strangers.{all_from, CountsStrangers}
-use Rattle.read_filters.specs.Reads.{with_registers}
+use Rattle.link_filters.specs.Reads.{with_registers}
 use Rattle.gev_control.specs.CarriesOut.{ControlSide}
 use Rattle.camera_control.specs.declared.control_end.ControlEnd.{ControlEnd}
 use Rattle.camera_control.specs.declared.stream_wish.StreamWish.{StreamWish}
@@ -24,8 +24,8 @@ use Rattle.gev_acq.specs.Turns.{Outside}
 use Rattle.frame_pictures.specs.declared.no_picture.NoPicture.{NoPicture}
 use Rattle.gev_status.specs.declared.status.Status.{Status}
 use Rattle.gev_status.specs.declared.status.Status.TheVariants as status
-use Rattle.receive_lines.specs.declared.receive_counts.ReceiveCounts.{ReceiveCounts}
-use Rattle.receive_answers.specs.Answers.{control_status, leave_status, weightier, is_lost, StreamEnd, unled_end, unread_end}
+use Rattle.frame_writing.specs.declared.receive_counts.ReceiveCounts.{ReceiveCounts}
+use Rattle.gev_receive.specs.Answers.{control_status, leave_status, weightier, is_lost, StreamEnd, unled_end, unread_end}
 use Rattle.gev_receive.specs.Starting.{writes_at, lacks_picture, no_counts, leader_counts}
 use Rattle.gev_receive.specs.Ending.{Finishes}
 use Rattle.gev_receive.specs.Bound.{control_peer, AllTold, FailsToBind}

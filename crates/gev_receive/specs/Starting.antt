@@ -13,13 +13,13 @@ use Rattle.frame_pictures.specs.declared.no_picture.NoPicture.{NoPicture}
 use Rattle.frame_pictures.specs.declared.no_picture.NoPicture.TheVariants.{PixelFormat, NoPixels, PartBytes}
 use Rattle.frame_pictures.specs.declared.samples.Samples.{Samples}
 use Rattle.frame_pictures.specs.Formats.{samples_of, fills_bytes}
-use Rattle.mode_calls.specs.declared.mode.Mode.{Mode}
-use Rattle.mode_calls.specs.declared.mode.Mode.TheVariants.{OldestFirst, OldestFirstOverwrite, NewestOnly}
+use Rattle.board_calls.specs.declared.mode.Mode.{Mode}
+use Rattle.board_calls.specs.declared.mode.Mode.TheVariants.{OldestFirst, OldestFirstOverwrite, NewestOnly}
 use Rattle.packet_requests.specs.declared.id_mode.IdMode.{IdMode}
 use Rattle.packet_requests.specs.declared.id_mode.IdMode.TheVariants as ids
-use Rattle.receive_lines.specs.declared.receive_counts.BlockIds.{BlockIds}
-use Rattle.receive_lines.specs.declared.receive_counts.BlockIds.TheVariants as blocks
-use Rattle.receive_lines.specs.declared.receive_counts.ReceiveCounts.{ReceiveCounts}
+use Rattle.frame_writing.specs.declared.receive_counts.BlockIds.{BlockIds}
+use Rattle.frame_writing.specs.declared.receive_counts.BlockIds.TheVariants as blocks
+use Rattle.frame_writing.specs.declared.receive_counts.ReceiveCounts.{ReceiveCounts}
 use Rattle.stream_packets.specs.declared.fields.LeaderInfo.{LeaderInfo}
 
 -- ---- writes

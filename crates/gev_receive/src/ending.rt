@@ -1,15 +1,15 @@
 //! The last line of a run.
 
 ghost use Rattle.std.specs.Prelude.{◌≡◌};
-ghost use Rattle.receive_lines.specs.ReceiveLine.{receive_line};
+ghost use Rattle.frame_writing.specs.ReceiveLine.{receive_line};
 ghost use Rattle.gev_receive.specs.Ending.{has_last, WritesLast, with_strangers, Finishes};
 
+use crate::is_told;
 use crate::ran::Ran;
 use camera_words::Output;
+use frame_writing::{ReceiveCounts, add_receive};
 use gev_links::{Sink, write_all};
 use gev_status::Status;
-use receive_answers::is_told;
-use receive_lines::{ReceiveCounts, add_receive};
 use std::alloc::Global;
 
 /// Whether the last line is written with this answer.

@@ -1,7 +1,11 @@
 //! A run over the frames of a camera on the network: the camera is taken, its stream is received and handed out as it
 //! comes, and the camera is let go.
+//!
+//! `specs/Answers.antt` says which answer each end gives, which of two goes before the other, and of which the camera let its
+//! controller go.
 #![tactic(auto)]
 
+mod answers; // how a run ends, of several causes
 mod drops; // datagrams that the system dropped
 mod ending; // the last line
 mod frames; // the frames of a stream
@@ -18,4 +22,8 @@ mod tools; // what ports give and get back
 mod workers; // reader and application as threads
 mod writes; // the writes of each stage
 
+pub use answers::{
+    control_status, handed_status, is_leader_lost, is_lost, is_reader_lost, is_told, leader_status,
+    leave_status, reader_status, weightier,
+};
 pub use receiving::receive_over;

@@ -5,7 +5,7 @@ ghost use Rattle.board_machine.specs.Histories.{After};
 ghost use Rattle.board_machine.specs.Laws.{IsAlone};
 ghost use Rattle.buffer_words.specs.Boards.{board_id};
 ghost use Rattle.camera_control.specs.Taking.{TakeFails};
-ghost use Rattle.receive_answers.specs.Answers.{is_lost as lost, control_status as status_of, stream_end};
+ghost use Rattle.gev_receive.specs.Answers.{is_lost as lost, control_status as status_of, stream_end};
 ghost use Rattle.gev_receive.specs.Frames.{seen_by};
 ghost use Rattle.gev_receive.specs.Starting.{no_counts as counts_none};
 ghost use Rattle.gev_receive.specs.Receives.{picture_missing as missing, TakesBy, LeavesUnless, LeavesHeld, Streams, Meets};
@@ -18,6 +18,7 @@ use crate::ran::Ran;
 use crate::sides::Sides;
 use crate::starting::{lacks_picture, leader_counts, no_counts};
 use crate::writes::writes_at;
+use crate::{control_status, is_leader_lost, is_lost, leader_status, leave_status, weightier};
 use buffer_words::{Board, Pass};
 use camera_control::{ControlEnd, NotTaken, StreamWish, Taken, let_go, take_camera};
 use camera_words::{Output, Settings, Stage};
@@ -28,9 +29,6 @@ use gev_far::PeekLink;
 use gev_links::{Clock, Gate, Link, Sink, Source};
 use gev_status::Status;
 use gev_types::Peer;
-use receive_answers::{
-    control_status, is_leader_lost, is_lost, leader_status, leave_status, weightier,
-};
 use std::alloc::Global;
 use std::sync::Wait;
 use std::thread::Threads;

@@ -1,5 +1,5 @@
+use frame_writing::ReceiveCounts;
 use gev_status::Status;
-use receive_lines::ReceiveCounts;
 
 /// How a run went so far.
 #[derive(Clone, Copy)]

@@ -7,7 +7,7 @@ ghost use Rattle.buffer_words.specs.Boards.{board_id};
 ghost use Rattle.camera_words.specs.Receiving.{IsInRange};
 ghost use Rattle.gev_links.specs.Faults.{Rose};
 ghost use Rattle.gev_links.specs.Links.{IsBlank};
-ghost use Rattle.receive_answers.specs.Answers.{rank};
+ghost use Rattle.gev_receive.specs.Answers.{rank};
 ghost use Rattle.gev_receive.specs.Frames.{seen_by};
 ghost use Rattle.gev_receive.specs.Receives.{told_by, Receives, ReceivesOver};
 
@@ -24,8 +24,7 @@ use gev_acq::Host;
 use gev_far::{FarPorts, PeekLink};
 use gev_links::{Clock, Gate, Sink, Source};
 use gev_status::Status;
-use link_filters::{Heard, OnlyFrom};
-use read_filters::RegisterReads;
+use link_filters::{Heard, OnlyFrom, RegisterReads};
 use std::alloc::Global;
 use std::marker::Brand;
 use std::sync::Wait;

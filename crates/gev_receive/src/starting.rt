@@ -7,12 +7,12 @@ ghost use Rattle.camera_words.specs.Receiving.{IsInRange};
 ghost use Rattle.gev_receive.specs.Starting.{within, payload_size, frame_size, config_of, mode_of, buffer_size, lacks_picture, no_counts, ids_of, leader_counts, with_counts};
 
 use acquisition_machine::{AcqConfig, Counts};
+use board_calls::Mode;
 use camera_words::Settings;
 use first_leader::FirstLeader;
 use frame_pictures::{NoPicture, fills_bytes, samples_of};
-use mode_calls::Mode;
+use frame_writing::{BlockIds, ReceiveCounts};
 use packet_requests::IdMode;
-use receive_lines::{BlockIds, ReceiveCounts};
 use stream_packets::LeaderInfo;
 
 /// The smallest payload of a packet, in bytes, and the largest one that is received.

@@ -3,7 +3,7 @@ use Rattle.std.proofs.Common.{◌≡◌, ℕ, suc, ◌<◌, ◌≤◌, List, [],
 use Rattle.std.specs.List.{AllByRecursion}
 use Rattle.hex.specs.Hex.{encode_lower}
 use Rattle.gev_script.specs.Spelling.{IsDatagram}
-use Rattle.recorded_runs.proofs.LinesFit.{is_datagram}
+use Rattle.gev_record.proofs.LinesFit.{is_datagram}
 
 all_small : (bytes : List ℕ) → ((i : ℕ) → get_or bytes i 0 < 256) → AllByRecursion (λ b. b < 256) bytes
 all_small [] small = tt

@@ -6,7 +6,7 @@ use Rattle.std.proofs.lemmas.List.{take-append-le, length-take}
 use Rattle.gev_types.specs.declared.peer.Peer.{Peer}
 use Rattle.gev_links.specs.Links.{Answer, came}
 use Rattle.gev_links.specs.Moments.{Tells}
-use Rattle.recorded_runs.specs.Marks.{IsReceived}
+use Rattle.gev_record.specs.Marks.{IsReceived}
 use Rattle.gev_record.specs.declared.kept.Kept.{Kept}
 use Rattle.gev_record.specs.declared.kept.Kept.TheVariants.{Nothing, Came}
 use Rattle.gev_record.specs.Taped.{datagram_of, front_of, KeepsFront, kept_on, shown, Fits}

@@ -11,13 +11,13 @@ use Rattle.acquisition_machine.specs.Machine.{Input, datagram, claimed, tick, St
 use Rattle.acquisition_machine.specs.Runs.{first_state, After, after_from}
 use Rattle.acquisition_machine.specs.TurnLaws.{asked_by, given_of}
 use Rattle.acquisition_machine.proofs.Joining.{after_from-append}
-use Rattle.acquisition_laws.specs.declared.mark.Mark.{Mark}
-use Rattle.acquisition_laws.specs.Turns.{Noted, with_byte}
+use Rattle.acquisition_machine.specs.declared.mark.Mark.{Mark}
+use Rattle.acquisition_machine.specs.Turns.{Noted, with_byte}
 use Rattle.take_lines.specs.Players.{PlayerState}
-use Rattle.recorded_runs.specs.Script.{live_config, held_places, queued_place, told_outcome, told, heard, told_in, takes, queue_lines, heard_lines, turn_lines}
-use Rattle.recorded_runs.proofs.Holding.{places_in, came_back, settled_datagram, reaches_on, is_free}
-use Rattle.recorded_runs.proofs.TurnLines.{take_each, takes_one}
-use Rattle.recorded_runs.proofs.ClaimLines.{given_state, takes_three}
+use Rattle.gev_record.specs.Script.{live_config, held_places, queued_place, told_outcome, told, heard, told_in, takes, queue_lines, heard_lines, turn_lines}
+use Rattle.gev_record.proofs.Holding.{places_in, came_back, settled_datagram, reaches_on, is_free}
+use Rattle.gev_record.proofs.TurnLines.{take_each, takes_one}
+use Rattle.gev_record.proofs.ClaimLines.{given_state, takes_three}
 use Rattle.gev_record.specs.declared.used.Used.{Used}
 use Rattle.gev_record.specs.Places.{lowest_in}
 use Rattle.gev_record.specs.Standing.{StandsAt, TakesInputs, IsFreeFor, queued_at, turn_of}

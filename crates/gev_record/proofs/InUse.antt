@@ -6,8 +6,8 @@ use Rattle.board_machine.proofs.Places.{same_self}
 use Rattle.acquisition_machine.specs.declared.retired.Retired.{Retired}
 use Rattle.acquisition_machine.specs.TurnLaws.{given_of}
 use Rattle.take_lines.specs.Players.{places_of}
-use Rattle.recorded_runs.specs.Script.{is_among}
-use Rattle.recorded_runs.proofs.Holding.{places_in, IsLive}
+use Rattle.gev_record.specs.Script.{is_among}
+use Rattle.gev_record.proofs.Holding.{places_in, IsLive}
 use Rattle.gev_record.specs.declared.used.Used.{Used}
 use Rattle.gev_record.specs.Places.{used_of, freed, taken, all_freed}
 

@@ -15,9 +15,9 @@ use Rattle.acquisition_machine.specs.declared.need.Need.{Need}
 use Rattle.acquisition_machine.specs.TurnLaws.{asked_by, held}
 use Rattle.acq_core.proofs.Receiving.{receivers_show}
 use Rattle.take_lines.specs.Players.{PlayerState, config_in, asked_in, outcome_of, places_of, places_back, Plays}
-use Rattle.recorded_runs.specs.Script.{live_config, held_places, told_outcome, takes, stop_lines}
-use Rattle.recorded_runs.proofs.Holding.{IsLive, Live, came_back, Settled, settled_datagram, settled_tick, reaches_on, HoldsMore, none_given, one_given}
-use Rattle.recorded_runs.proofs.TurnLines.{take_each, takes_one}
+use Rattle.gev_record.specs.Script.{live_config, held_places, told_outcome, takes, stop_lines}
+use Rattle.gev_record.proofs.Holding.{IsLive, Live, came_back, Settled, settled_datagram, settled_tick, reaches_on, HoldsMore, none_given, one_given}
+use Rattle.gev_record.proofs.TurnLines.{take_each, takes_one}
 use Rattle.gev_record.specs.declared.used.Used.{Used}
 use Rattle.gev_record.specs.Places.{used_of, taken, all_freed}
 use Rattle.gev_record.specs.Standing.{IsOwn, StandsAt, TakesInputs, IsFreeFor}

@@ -6,10 +6,10 @@ use Rattle.gev_script.specs.Lines.{ScriptLine}
 use Rattle.acquisition_machine.specs.Machine.{Input, State}
 use Rattle.acquisition_machine.specs.Runs.{first_state, After}
 use Rattle.acquisition_machine.proofs.Joining.{after_from-append}
-use Rattle.acquisition_laws.specs.declared.mark.Mark.{Mark}
-use Rattle.acquisition_laws.specs.Turns.{Noted, buffer_size, with_bytes}
+use Rattle.acquisition_machine.specs.declared.mark.Mark.{Mark}
+use Rattle.acquisition_machine.specs.Turns.{Noted, buffer_size, with_bytes}
 use Rattle.take_lines.specs.Players.{PlayerState, config_in, Took}
-use Rattle.recorded_runs.specs.Script.{live_config, live_header, told_in, after_turn, after_turns, turn_lines, turns_lines, stop_lines, first_lines, script_of}
+use Rattle.gev_record.specs.Script.{live_config, live_header, told_in, after_turn, after_turns, turn_lines, turns_lines, stop_lines, first_lines, script_of}
 use Rattle.gev_record.specs.declared.record_end.RecordEnd.{RecordEnd}
 use Rattle.gev_record.specs.declared.used.Used.{Used}
 use Rattle.gev_record.specs.Standing.{StandsAt, StandsIn, none_used, turn_of}

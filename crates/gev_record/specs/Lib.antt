@@ -2,3 +2,8 @@ pub mod Places
 pub mod Taped
 pub mod Writing
 pub mod Standing
+pub mod Script
+pub mod Marks
+pub mod Laws
+pub mod TakeLines
+pub mod Reports

@@ -1,6 +1,6 @@
 -- Which of the three places of a recorded script are in use.
 use Rattle.std.specs.Prelude.{ℕ, zero, suc, List, [], ◌∷◌, true, false, if◌then◌else◌}
-use Rattle.recorded_runs.specs.Script.{is_among}
+use Rattle.gev_record.specs.Script.{is_among}
 use Rattle.gev_record.specs.declared.used.Used.{Used}
 
 -- those among these places

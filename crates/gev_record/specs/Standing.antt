@@ -8,10 +8,10 @@ use Rattle.acquisition_machine.specs.Blocks.{Given}
 use Rattle.acquisition_machine.specs.Machine.{Input, State}
 use Rattle.acquisition_machine.specs.Runs.{After}
 use Rattle.acquisition_machine.specs.TurnLaws.{held}
-use Rattle.acquisition_laws.specs.declared.mark.Mark.{Mark}
-use Rattle.acquisition_laws.specs.Turns.{Noted, buffer_size, with_bytes}
+use Rattle.acquisition_machine.specs.declared.mark.Mark.{Mark}
+use Rattle.acquisition_machine.specs.Turns.{Noted, buffer_size, with_bytes}
 use Rattle.take_lines.specs.Players.{PlayerState, config_in, Took}
-use Rattle.recorded_runs.specs.Script.{live_config, held_places}
+use Rattle.gev_record.specs.Script.{live_config, held_places}
 use Rattle.gev_record.specs.declared.used.Used.{Used}
 use Rattle.gev_record.specs.Places.{used_of}
 

@@ -2,8 +2,8 @@
 use Rattle.std.specs.Prelude.{◌≡◌, ℕ, List, [], ◌∷◌, Option, None, Result, Ok, Err}
 use Rattle.gev_links.specs.Faults.{Rose}
 use Rattle.gev_links.specs.Told.{Appends, WritesFront}
-use Rattle.acquisition_laws.specs.declared.mark.Mark.{Mark}
-use Rattle.acquisition_laws.specs.Turns.{Noted}
+use Rattle.acquisition_machine.specs.declared.mark.Mark.{Mark}
+use Rattle.acquisition_machine.specs.Turns.{Noted}
 pub use Rattle.take_lines.specs.Texts.{text_of}
 use Rattle.gev_record.specs.declared.record_end.RecordEnd.{RecordEnd}
 use Rattle.gev_record.specs.declared.record_end.RecordEnd.TheVariants.{WriteFault, NoMemory}

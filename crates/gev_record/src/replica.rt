@@ -6,7 +6,7 @@ ghost use Rattle.acquisition_machine.specs.Machine.{datagram, claimed as claim_t
 ghost use Rattle.acquisition_machine.specs.Runs.{After};
 ghost use Rattle.acquisition_machine.specs.TurnLaws.{asked_by};
 ghost use Rattle.take_lines.specs.Players.{asked_in};
-ghost use Rattle.recorded_runs.specs.Script.{live_config, told_outcome, takes, stop_lines};
+ghost use Rattle.gev_record.specs.Script.{live_config, told_outcome, takes, stop_lines};
 ghost use Rattle.gev_record.specs.Places.{all_freed};
 ghost use Rattle.gev_record.specs.Standing.{StandsAt, TakesInputs, IsFreeFor};
 ghost use Rattle.gev_record.specs.Writing.{text_of};

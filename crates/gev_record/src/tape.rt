@@ -2,7 +2,7 @@ ghost use Rattle.std.specs.Prelude.{◌≡◌, ◌≤◌, ℕ, [], length, vec_c
 ghost use Rattle.gev_links.specs.Faults.{Rose};
 ghost use Rattle.gev_links.specs.Links.{IsBlank};
 ghost use Rattle.std.specs.List.{AllByRecursion};
-ghost use Rattle.recorded_runs.specs.Marks.{IsReceived};
+ghost use Rattle.gev_record.specs.Marks.{IsReceived};
 ghost use Rattle.gev_record.specs.Taped.{KeepsFront, kept_on, shown, Fits};
 
 use crate::kept::{Kept, ROOM};

@@ -2,14 +2,14 @@
 
 ghost use Rattle.std.specs.Prelude.{◌≡◌, ◌++◌, ◌≤◌, length, OnOk, Some, None};
 ghost use Rattle.acquisition_machine.specs.Runs.{After};
-ghost use Rattle.recorded_runs.specs.Script.{live_config, heard, heard_lines, told_in, turn_lines};
+ghost use Rattle.gev_record.specs.Script.{live_config, heard, heard_lines, told_in, turn_lines};
 ghost use Rattle.gev_record.specs.Standing.{TakesInputs, queued_at, turn_of};
 ghost use Rattle.gev_record.specs.Writing.{text_of};
 
 use crate::lines::add_datagram;
 use crate::replica::{give_outcome, tell, tick};
 use crate::used::Used;
-use acquisition_laws::Mark;
+use acquisition_machine::Mark;
 use gev_script::Line;
 use gev_types::NoMemory;
 use std::alloc::Global;

@@ -1,7 +1,7 @@
 ghost use Rattle.std.specs.Prelude.{◌≡◌, ◌++◌, ◌∷◌, ◌≤◌, [], length, map, get_or, OnOk, Some, None, IfOk, IfSome, option_map};
 ghost use Rattle.acquisition_machine.specs.Runs.{first_state};
-ghost use Rattle.acquisition_laws.specs.Turns.{with_bytes};
-ghost use Rattle.recorded_runs.specs.Script.{script_of, live_header, first_lines, after_turn, after_turns, turn_lines, turns_lines, stop_lines};
+ghost use Rattle.acquisition_machine.specs.Turns.{with_bytes};
+ghost use Rattle.gev_record.specs.Script.{script_of, live_header, first_lines, after_turn, after_turns, turn_lines, turns_lines, stop_lines};
 ghost use Rattle.gev_script.specs.Lines.{header, end_of_script};
 ghost use Rattle.gev_record.specs.Standing.{StandsIn, turn_of, none_used};
 ghost use Rattle.gev_record.specs.Writing.{noted, Writes, text_of};
@@ -11,7 +11,7 @@ use crate::replica::{BUFFER_SIZE, stop};
 use crate::tape::Tape;
 use crate::turns::{add_heard, add_silent};
 use crate::used::Used;
-use acquisition_laws::Mark;
+use acquisition_machine::Mark;
 use gev_links::{Link, Sink, write_all};
 use gev_script::Line;
 use gev_types::NoMemory;

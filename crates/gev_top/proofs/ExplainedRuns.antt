@@ -15,11 +15,11 @@ use Rattle.script_runs.specs.Outcomes.{RunEnds}
 use Rattle.script_trace.specs.Standing.{Standing, running, config_of, ReplayRuns}
 use Rattle.script_trace.specs.Standing.{first as at_first}
 use Rattle.script_trace.proofs.Scripts.{runs_keep}
-use Rattle.acquisition_notes.specs.Notes.{Note}
-use Rattle.script_notes.specs.Explaining.{Telling, untold, ExplainsFrom, ExplainRuns, ExplainRefuses}
-use Rattle.script_notes.specs.Laws.{HasSizes, StandsTold, HoldsReport, HoldsLast}
-use Rattle.script_notes.proofs.Reports.{explanations_hold_reports}
-use Rattle.script_notes.proofs.Accounts.{scripts_are_accounted}
+use Rattle.script_trace.specs.Notes.{Note}
+use Rattle.script_trace.specs.Explaining.{Telling, untold, ExplainsFrom, ExplainRuns, ExplainRefuses}
+use Rattle.script_trace.specs.NoteLaws.{HasSizes, StandsTold, HoldsReport, HoldsLast}
+use Rattle.script_trace.proofs.Reports.{explanations_hold_reports}
+use Rattle.script_trace.proofs.Accounts.{scripts_are_accounted}
 use Rattle.gev_status.specs.declared.status.Status.{Status}
 use Rattle.gev_status.specs.declared.status.Status.TheVariants as statuses
 use Rattle.gev_top.specs.Scripts.{RunsWell, Ends, IfEnded}

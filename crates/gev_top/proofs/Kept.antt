@@ -4,10 +4,10 @@ use Rattle.script_runs.specs.Outcomes.{RunEnds}
 use Rattle.script_trace.specs.Standing as replay
 use Rattle.script_trace.specs.Laws.{StandsWell, HasSaid}
 use Rattle.script_trace.proofs.Scripts.{runs_keep}
-use Rattle.camera_trace.specs.Standing as camera
-use Rattle.camera_trace.specs.Laws.{IsTold, CameraTells, HasOnePrimary}
-use Rattle.camera_trace.proofs.Telling.{reports_told}
-use Rattle.camera_trace.proofs.Lines.{scripts_tell}
+use Rattle.camera_replay.specs.Standing as camera
+use Rattle.camera_replay.specs.Laws.{IsTold, CameraTells, HasOnePrimary}
+use Rattle.camera_replay.proofs.Telling.{reports_told}
+use Rattle.camera_replay.proofs.ToldLines.{scripts_tell}
 use Rattle.gev_status.specs.declared.status.Status.{Status}
 use Rattle.gev_status.specs.declared.status.Status.TheVariants as statuses
 use Rattle.gev_top.specs.Scripts.{Ends, IfEnded}

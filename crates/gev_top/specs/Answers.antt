@@ -5,8 +5,8 @@ use Rattle.gev_links.specs.Told.{Appends, WritesFront}
 use Rattle.script_runs.specs.Verdicts.{outcome}
 use Rattle.script_trace.specs.Standing as replay
 use Rattle.script_trace.specs.Laws.{StandsWell, HasSaid}
-use Rattle.camera_trace.specs.Standing as camera
-use Rattle.camera_trace.specs.Laws.{IsTold, CameraTells, HasOnePrimary}
+use Rattle.camera_replay.specs.Standing as camera
+use Rattle.camera_replay.specs.Laws.{IsTold, CameraTells, HasOnePrimary}
 use Rattle.gev_make.specs.MakeText.{make_text}
 use Rattle.gev_status.specs.declared.status.Status.{Status}
 use Rattle.gev_status.specs.declared.status.Status.TheVariants.{Done, Usage, BadScript, ReadFault, WriteFault, LinkFault, NoMemory, NoAnswer, Refused, TurnsSpent, BadCapture, NoPicture, Silent, Controlled, NoDescription, ControlLost, NoDatagram, RefusedAt}

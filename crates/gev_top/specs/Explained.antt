@@ -5,10 +5,10 @@ use Rattle.script_runs.specs.declared.ending.Ending.{Ending}
 use Rattle.script_trace.specs.Standing.{Standing, running}
 use Rattle.script_trace.specs.Standing.{first as at_first}
 use Rattle.script_trace.specs.Laws.{StandsWell, HasSaid}
-use Rattle.acquisition_notes.specs.Notes.{Note}
-use Rattle.script_notes.specs.NoteLines.{LeavesOut}
-use Rattle.script_notes.specs.Explaining.{Telling, untold, ExplainRuns, ExplainRefuses}
-use Rattle.script_notes.specs.Laws.{KeepsAccount, HoldsReport, HoldsLast}
+use Rattle.script_trace.specs.Notes.{Note}
+use Rattle.script_trace.specs.NoteLines.{LeavesOut}
+use Rattle.script_trace.specs.Explaining.{Telling, untold, ExplainRuns, ExplainRefuses}
+use Rattle.script_trace.specs.NoteLaws.{KeepsAccount, HoldsReport, HoldsLast}
 use Rattle.gev_status.specs.declared.status.Status.{Status}
 use Rattle.gev_top.specs.Scripts.{Ends, IfEnded}
 

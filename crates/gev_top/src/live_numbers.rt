@@ -1,4 +1,4 @@
-use mode_calls::Mode;
+use board_calls::Mode;
 
 /// What the words of a live run ask for, or those of a recorded one.
 #[derive(Clone, Copy, Debug, PartialEq, Eq)]

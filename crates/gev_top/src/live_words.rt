@@ -9,9 +9,9 @@ ghost use Rattle.gev_top.specs.LiveWords.{IsInRange, IsRecordable, IsErrand, mod
 use crate::errand::Errand;
 use crate::live_numbers::LiveNumbers;
 use crate::usage::{is, none_at, number_at, read_named};
+use board_calls::Mode;
 use camera_words::{read_description, read_discover, read_receive, read_simulate};
 use gev_script::number_in;
-use mode_calls::Mode;
 
 /// What the words ask for, or the place, from 0, of the first word with which no command line goes on. Where more words
 /// are wanted it is their number.

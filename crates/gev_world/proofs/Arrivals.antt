@@ -1,7 +1,7 @@
 -- What arrives at the client and at the host.
 use Rattle.std.proofs.Common.{◌≡◌, List, [], ◌∷◌, Option, Some, None, refl, sym, ap, subst, ◌∙◌}
 use Rattle.lossy_queue.specs.declared.datagram.Datagram.{Datagram}
-use Rattle.soak_host.specs.Receiver.{Receiver, soak_host}
+use Rattle.world_laws.specs.Receiver.{Receiver, soak_host}
 use Rattle.soak_receiver.specs.Standing.{Hosting}
 use Rattle.world_machine.specs.State.{World}
 use Rattle.world_machine.specs.ClientTurn.{End, Passed}

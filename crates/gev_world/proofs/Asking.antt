@@ -2,7 +2,7 @@
 use Rattle.std.proofs.Common.{◌≡◌, ℕ, ◌-◌, ◌≤◌, List, [], ◌∷◌, ◌++◌, length, take, drop, get_or, refl, sym, ap, subst, ◌∙◌, append_assoc, arith}
 use Rattle.gev_script.specs.Lines as line
 use Rattle.gev_script.specs.Lines.{ScriptLine}
-use Rattle.soak_host.specs.Receiver.{Receiver, soak_host, start}
+use Rattle.world_laws.specs.Receiver.{Receiver, soak_host, start}
 use Rattle.soak_receiver.specs.Standing.{Hosting, HostStands}
 use Rattle.camera_machine.specs.Camera.{Camera}
 use Rattle.world_machine.specs.State.{Run, World}

@@ -1,6 +1,6 @@
 -- A world at its start.
 use Rattle.std.proofs.Common.{◌≡◌, [], refl, sym, ap, subst, ◌∙◌, ◌<◌, ◌^◌}
-use Rattle.soak_host.specs.Receiver.{start}
+use Rattle.world_laws.specs.Receiver.{start}
 use Rattle.soak_receiver.specs.Standing.{Hosting, HostStands}
 use Rattle.world_machine.specs.State.{Run, new_world}
 use Rattle.gev_world.specs.declared.stage.Stage.{Stage}

@@ -9,7 +9,7 @@ use Rattle.lossy_queue.specs.declared.datagram.Datagram.{Datagram}
 use Rattle.client_machine.specs.Machine.{Asked, Told, to_send, taken, ticked}
 use Rattle.camera_machine.specs.Camera.{Camera, is_open}
 use Rattle.camera_machine.specs.Events.{Turn, command_turn, tick_turn, frame_turn}
-use Rattle.soak_host.specs.Receiver.{Receiver}
+use Rattle.world_laws.specs.Receiver.{Receiver}
 use Rattle.world_machine.specs.State.{Run, World}
 use Rattle.world_machine.specs.Queues.{to_host, sent_to_camera, ack_to_host, packets_to_host}
 use Rattle.world_machine.specs.ClientTurn.{client_peer, submits, begins, setup_commands, stream_peer, client_turn}

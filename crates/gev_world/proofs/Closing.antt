@@ -7,7 +7,7 @@ use Rattle.gev_make.specs.Writing.{Writes}
 use Rattle.gev_make.proofs.Texts.{Appends-none, writes_none, writes_then, writes_stops}
 use Rattle.gev_report.specs.declared.soak_numbers.SoakNumbers.{SoakNumbers}
 use Rattle.gev_report.specs.SoakLine.{soak_line}
-use Rattle.soak_host.specs.Receiver.{Receiver, soak_host}
+use Rattle.world_laws.specs.Receiver.{Receiver, soak_host}
 use Rattle.soak_receiver.specs.declared.counts.SoakCounts.{SoakCounts}
 use Rattle.soak_receiver.specs.Standing.{Hosting, numbers_in}
 use Rattle.world_machine.specs.State.{HostNumbers, Run, World}

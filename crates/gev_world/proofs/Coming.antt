@@ -2,7 +2,7 @@
 use Rattle.std.proofs.Common.{◌≡◌, ℕ, ◌+◌, ◌≤◌, [], Option, Some, None, refl, sym, ap, subst, ◌∙◌}
 use Rattle.client_machine.specs.declared.outcome.Outcome.{Outcome}
 use Rattle.client_machine.specs.declared.outcome.Outcome.TheVariants as outcomes
-use Rattle.soak_host.specs.Receiver.{Receiver, start}
+use Rattle.world_laws.specs.Receiver.{Receiver, start}
 use Rattle.world_machine.specs.State.{World}
 use Rattle.world_machine.specs.ClientTurn.{SETUP_SIZE, end_of, client_turn}
 use Rattle.world_machine.specs.CameraTurn.{camera_turn, makes}

@@ -7,7 +7,7 @@ use Rattle.client_machine.specs.Machine.{Asked, ticked}
 use Rattle.camera_machine.specs.Camera.{Camera}
 use Rattle.camera_machine.specs.Commands.{commanded}
 use Rattle.camera_machine.specs.Stream.{all_waiting, emptied}
-use Rattle.soak_host.specs.Receiver.{Receiver}
+use Rattle.world_laws.specs.Receiver.{Receiver}
 use Rattle.world_machine.specs.State.{Run, World}
 use Rattle.world_machine.specs.Queues.{ack_to_host, packets_to_host}
 use Rattle.world_machine.specs.ClientTurn.{client_peer, end_of, submits, begins}

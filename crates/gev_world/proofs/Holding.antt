@@ -4,11 +4,11 @@ use Rattle.std.specs.Prelude.{IfSome}
 use Rattle.stream_packets.specs.Packets.{StreamPacket}
 use Rattle.stream_packets.specs.Sent.{IsSent}
 use Rattle.gvsp_wire.specs.Reading.{packet_of}
-use Rattle.soak_host.specs.Receiver.{soak_config, soak_host, start}
-use Rattle.soak_ends.specs.Packets.{soak_frames}
-use Rattle.soak_ends.proofs.Endings.{run_ends, soak_acts_once}
-use Rattle.soak_ends.proofs.PacketReads.{frame_of_block}
-use Rattle.soak_ends.proofs.PacketActs.{hears_its_frames}
+use Rattle.world_laws.specs.Receiver.{soak_config, soak_host, start}
+use Rattle.world_laws.specs.Packets.{soak_frames}
+use Rattle.world_laws.proofs.Endings.{run_ends, soak_acts_once}
+use Rattle.world_laws.proofs.PacketReads.{frame_of_block}
+use Rattle.world_laws.proofs.PacketActs.{hears_its_frames}
 use Rattle.world_machine.specs.State.{Run, image_shape, STORE_ROOM}
 use Rattle.world_machine.specs.ClientTurn.{End, client_peer}
 use Rattle.world_machine.specs.Laws.{EndsAfter, start_line}

@@ -5,12 +5,12 @@ use Rattle.gev_make.specs.declared.stop.Stop.{Stop}
 use Rattle.gev_make.specs.declared.stop.Stop.TheVariants as stops
 use Rattle.gev_make.specs.Writing.{Writes}
 use Rattle.gev_make.proofs.Texts.{Leads, leads_start, leads_on, leads_stops, writes_none}
-use Rattle.soak_host.specs.Receiver.{Receiver, soak_config, soak_host, start}
+use Rattle.world_laws.specs.Receiver.{Receiver, soak_config, soak_host, start}
 use Rattle.soak_receiver.specs.Standing.{Hosting}
-use Rattle.soak_ends.specs.Setup.{GoesOn}
-use Rattle.soak_ends.specs.Ending.{most_rounds}
-use Rattle.soak_ends.proofs.BeatsRounds.{beating}
-use Rattle.soak_ends.proofs.Endings.{run_ends, has_text, soak_acts_once}
+use Rattle.world_laws.specs.Setup.{GoesOn}
+use Rattle.world_laws.specs.Ending.{most_rounds}
+use Rattle.world_laws.proofs.BeatsRounds.{beating}
+use Rattle.world_laws.proofs.Endings.{run_ends, has_text, soak_acts_once}
 use Rattle.world_machine.specs.State.{Run, World}
 use Rattle.world_machine.specs.ClientTurn.{End}
 use Rattle.std.specs.Prelude.{◌⊎◌, OnOk}

@@ -4,7 +4,7 @@ use Rattle.gev_make.specs.declared.stop.Stop.{Stop}
 use Rattle.gev_make.specs.Writing.{Writes}
 use Rattle.gev_make.proofs.Texts.{Appends-none}
 use Rattle.gev_script.specs.Lines.{ScriptLine}
-use Rattle.soak_host.specs.Receiver.{Receiver, soak_host, start, waiting}
+use Rattle.world_laws.specs.Receiver.{Receiver, soak_host, start, waiting}
 use Rattle.soak_receiver.specs.Standing.{Hosting, HostStands}
 use Rattle.world_machine.specs.State.{Run, World}
 use Rattle.world_machine.specs.ClientTurn.{End, client_turn}

@@ -8,7 +8,7 @@ use Rattle.camera_machine.specs.Camera.{Camera}
 use Rattle.camera_machine.specs.Commands.{commanded}
 use Rattle.camera_machine.specs.Stream.{given, all_waiting, emptied}
 use Rattle.camera_machine.proofs.Order.{first_and_rest}
-use Rattle.soak_host.specs.Receiver.{Receiver, start}
+use Rattle.world_laws.specs.Receiver.{Receiver, start}
 use Rattle.world_machine.specs.State.{Run, World}
 use Rattle.world_machine.specs.Queues.{to_host, ack_to_host, packets_to_host}
 use Rattle.world_machine.specs.ClientTurn.{client_peer}

@@ -11,7 +11,7 @@ use Rattle.gev_script.specs.Lines as line
 use Rattle.gev_script.specs.Lines.{ScriptLine}
 use Rattle.board_machine.specs.Machine.{Board, Item, word_at}
 use Rattle.board_machine.specs.Places.{tail}
-use Rattle.soak_host.specs.Receiver.{Receiver, waiting, takes_one, takes_each, lines_each, soak_host}
+use Rattle.world_laws.specs.Receiver.{Receiver, waiting, takes_one, takes_each, lines_each, soak_host}
 use Rattle.soak_receiver.specs.Standing.{Hosting, HostStands, HostTakes}
 use Rattle.world_laws.specs.SoakApplication.{soak_takes}
 use Rattle.gev_world.specs.Takes.{HasReceiver, Took, WritesTake, IsTaking, first_text}

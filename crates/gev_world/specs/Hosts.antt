@@ -2,7 +2,7 @@
 use Rattle.std.specs.Prelude.{◌≡◌, List, [], ◌∷◌, ◌++◌, Option}
 use Rattle.gev_script.specs.Lines.{ScriptLine}
 use Rattle.lossy_queue.specs.declared.datagram.Datagram.{Datagram}
-use Rattle.soak_host.specs.Receiver.{Receiver, soak_host, start}
+use Rattle.world_laws.specs.Receiver.{Receiver, soak_host, start}
 use Rattle.soak_receiver.specs.Standing.{Hosting, HostStands}
 use Rattle.world_machine.specs.State.{World}
 use Rattle.world_machine.specs.ClientTurn.{Passed}

@@ -2,7 +2,7 @@
 use Rattle.std.specs.Prelude.{◌≡◌, ◌==◌, ◌&&◌, ◌||◌, not, nat_lt, Bool, ℕ, List, [], Option, Some, None, Result, Ok, Err, IfOk}
 use Rattle.gev_make.specs.declared.stop.Stop.{Stop}
 use Rattle.gev_make.specs.Writing.{Writes}
-use Rattle.soak_host.specs.Receiver.{Receiver, soak_host}
+use Rattle.world_laws.specs.Receiver.{Receiver, soak_host}
 use Rattle.soak_receiver.specs.Standing.{Hosting}
 use Rattle.world_machine.specs.State.{Run, World}
 use Rattle.world_machine.specs.ClientTurn.{SETUP_SIZE, client_turn}

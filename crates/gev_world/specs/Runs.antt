@@ -3,13 +3,13 @@ use Rattle.std.specs.Prelude.{◌≡◌, ◌≤◌, ◌<◌, ◌^◌, ⊤, ℕ, 
 use Rattle.gev_make.specs.declared.stop.Stop.{Stop}
 use Rattle.gev_make.specs.declared.stop.Stop.TheVariants as stops
 use Rattle.gev_make.specs.Writing.{Writes}
-use Rattle.control_session.specs.Schedule.{after}
-use Rattle.control_session.specs.Laws.{ActOnce}
+use Rattle.world_machine.specs.Schedule.{after}
+use Rattle.world_machine.specs.SessionLaws.{ActOnce}
 use Rattle.script_trace.specs.Trace.{Trace}
 use Rattle.script_trace.specs.Laws.{KeepsPromises}
-use Rattle.soak_host.specs.Receiver.{Receiver, soak_config, soak_host, start}
-use Rattle.soak_ends.specs.Ending.{MOST_FRAMES, most_rounds}
-use Rattle.soak_ends.specs.Packets.{soak_frames}
+use Rattle.world_laws.specs.Receiver.{Receiver, soak_config, soak_host, start}
+use Rattle.world_laws.specs.Ending.{MOST_FRAMES, most_rounds}
+use Rattle.world_laws.specs.Packets.{soak_frames}
 use Rattle.world_machine.specs.State.{Run, new_world, image_shape}
 use Rattle.world_machine.specs.ClientTurn.{End, done, no_answer, refused, client_peer}
 use Rattle.world_machine.specs.Soak.{Soak}

@@ -1,6 +1,6 @@
 -- What the code of a world stands for, and what its parts do to it.
 use Rattle.std.specs.Prelude.{◌≡◌, ◌≤◌, []}
-use Rattle.soak_host.specs.Receiver.{Receiver}
+use Rattle.world_laws.specs.Receiver.{Receiver}
 use Rattle.world_machine.specs.State.{Run, World}
 use Rattle.world_machine.specs.ClientTurn.{SETUP_SIZE}
 use Rattle.gev_world.specs.declared.stage.Stage.{Stage}

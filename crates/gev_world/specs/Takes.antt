@@ -6,7 +6,7 @@ use Rattle.gev_script.specs.Lines as line
 use Rattle.gev_script.specs.Lines.{ScriptLine}
 use Rattle.board_machine.specs.Machine.{Item, word_at}
 use Rattle.board_machine.specs.Ids.{buffer_at}
-use Rattle.soak_host.specs.Receiver.{Receiver, waiting, takes_one, soak_host}
+use Rattle.world_laws.specs.Receiver.{Receiver, waiting, takes_one, soak_host}
 use Rattle.soak_receiver.specs.Standing.{Hosting, HostStands}
 use Rattle.gev_world.specs.Rounds.{Wrote}
 use Rattle.world_laws.specs.SoakApplication.{soak_takes}

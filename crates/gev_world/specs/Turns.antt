@@ -9,7 +9,7 @@ use Rattle.lossy_queue.specs.declared.datagram.Channel.TheVariants.{Stream}
 use Rattle.camera_machine.specs.Camera.{Camera}
 use Rattle.camera_machine.specs.Commands.{commanded}
 use Rattle.camera_machine.specs.Stream.{first_waiting, given, all_waiting, emptied}
-use Rattle.soak_host.specs.Receiver.{Receiver}
+use Rattle.world_laws.specs.Receiver.{Receiver}
 use Rattle.world_machine.specs.State.{Run, World}
 use Rattle.world_machine.specs.Queues.{to_host, sent_to_camera, all_to_camera, ack_to_host, packets_to_host}
 use Rattle.world_machine.specs.ClientTurn.{client_peer, end_of, client_turn}

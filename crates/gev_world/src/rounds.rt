@@ -1,7 +1,7 @@
 //! Rounds of a run: 10 ms each.
 
 ghost use Rattle.std.specs.Prelude.{◌≡◌, ◌+◌, ◌<◌, ◌^◌, ◌&&◌, List, [], None, OnOk, IfOk};
-ghost use Rattle.soak_host.specs.Receiver.{Receiver, soak_host};
+ghost use Rattle.world_laws.specs.Receiver.{Receiver, soak_host};
 ghost use Rattle.world_machine.specs.State.{World};
 ghost use Rattle.world_machine.specs.HostActs.{HostAct, with_host_turn, with_host_round};
 ghost use Rattle.gev_report.specs.SoakLine.{soak_line};

@@ -2,7 +2,7 @@
 
 ghost use Rattle.std.specs.Prelude.{List, ◌++◌, OnOk};
 ghost use Rattle.gev_script.specs.Lines.{ScriptLine};
-ghost use Rattle.soak_host.specs.Receiver.{Receiver, soak_host, waiting};
+ghost use Rattle.world_laws.specs.Receiver.{Receiver, soak_host, waiting};
 ghost use Rattle.soak_receiver.specs.Standing.{HostStands};
 ghost use Rattle.gev_world.specs.Rounds.{Wrote};
 ghost use Rattle.world_laws.specs.SoakApplication.{soak_takes};

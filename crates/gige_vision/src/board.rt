@@ -58,11 +58,11 @@ pub use buffer_words::Pass;
 ///     Err(error) => println!(rt; "{error:?}")?,
 /// }
 /// ```
+pub use board_calls::Mode;
 pub use gentl_events::{event_flush, event_get, event_kill};
 pub use gentl_stream::{
     ds_announce, ds_borrow, ds_buffer_info, ds_close, ds_flush, ds_info, ds_queue, ds_return,
     ds_revoke, ds_start, ds_stop,
 };
 pub use gentl_types::{BufferId, GcError};
-pub use mode_calls::Mode;
 pub use shared_modes::{claim_for, fill_for};

@@ -7,10 +7,9 @@
 //! }
 //! ```
 
-pub use gvcp_aux::{Resend, read_pending, read_resend, write_discovery, write_resend};
 pub use gvcp_wire::{
-    Ack, Command, CommandHead, ControlError, Status, parse_ack, parse_command, write_ack,
-    write_command,
+    Ack, Command, CommandHead, ControlError, Resend, Status, parse_ack, parse_command,
+    read_pending, read_resend, write_ack, write_command, write_discovery, write_resend,
 };
 pub use gvsp_std::{StdError, write_resend_std};
 /// `Widener` makes datagrams with standard identifiers such with extended ones.

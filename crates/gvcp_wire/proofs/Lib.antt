@@ -3,3 +3,6 @@ pub mod Forms
 pub mod Commands
 pub mod Answers
 pub mod Written
+pub mod Resends
+pub mod Pendings
+pub mod BodiesWritten

@@ -7,3 +7,6 @@ pub mod Control
 pub mod Answer
 pub mod Reading
 pub mod Laws
+pub mod Bodies
+pub mod BodyReading
+pub mod BodyLaws

@@ -3,7 +3,7 @@ use Rattle.std.proofs.Common.{ℕ, ◌^◌, ◌<◌, ◌≤◌, arith}
 use Rattle.wire_fields.specs.Fields.{spelled}
 use Rattle.wire_fields.proofs.Spellings.{fields_spelled, whole_spelled}
 use Rattle.gvcp_wire.specs.Control.{header_fields}
-use Rattle.gvcp_aux.specs.declared.resend.Resend.{Resend}
+use Rattle.gvcp_wire.specs.declared.resend.Resend.{Resend}
 use Rattle.gvsp_std.specs.Asking.{std_resend_head, std_resend_body_fields, std_resend_fields, IsStandardResend}
 
 pub asked_again : (req : ℕ) (resend : Resend) → req < 2 ^ 16 → resend.channel < 2 ^ 16 → resend.first < 2 ^ 32 → resend.last < 2 ^ 32 → 1 ≤ resend.block

@@ -4,7 +4,7 @@ use Rattle.wire_fields.specs.Fields.{HasFields}
 use Rattle.gvcp_wire.specs.Codes.{KEY, PACKETRESEND_CMD}
 use Rattle.gvcp_wire.specs.declared.message.CommandHead.{CommandHead}
 use Rattle.gvcp_wire.specs.Control.{IsCommandOf}
-use Rattle.gvcp_aux.specs.declared.resend.Resend.{Resend}
+use Rattle.gvcp_wire.specs.declared.resend.Resend.{Resend}
 use Rattle.gvsp_std.specs.Blocks.{narrow}
 
 -- standard identifiers, and no acknowledge is asked for

@@ -5,7 +5,7 @@ ghost use Rattle.gvsp_std.specs.Asking.{std_resend_head, std_resend_body_fields,
 
 use crate::blocks::narrow;
 use byteorder::{BigEndian, ByteOrder};
-use gvcp_aux::Resend;
+use gvcp_wire::Resend;
 use gvcp_wire::codes::PACKETRESEND_CMD;
 
 /// The first byte of each command.

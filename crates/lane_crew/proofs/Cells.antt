@@ -8,7 +8,7 @@ use Rattle.acq_core.specs.Receiver.{KeepsBlocks}
 use Rattle.acq_core.specs.Waiting.{waiting_fills, waiting_requests}
 use Rattle.buffer_words.specs.Passes.{Token}
 use Rattle.gev_lanes.specs.LineEnds.{GiverEnd, TakerEnd, gave, took}
-use Rattle.mode_calls.specs.declared.mode.Mode.{Mode}
+use Rattle.board_calls.specs.declared.mode.Mode.{Mode}
 use Rattle.gev_acq.specs.Claims.{ServesOn}
 use Rattle.gev_acq.proofs.Serves.{serves_then, serves_none}
 use Rattle.gev_acq.proofs.Emptying.{keeps_then, keeps_all}

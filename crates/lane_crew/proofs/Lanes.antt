@@ -10,7 +10,7 @@ use Rattle.gev_lanes.specs.declared.parts.ReaderLane.{ReaderLane}
 use Rattle.gev_lanes.specs.Sides.{IsNew, AreNew, Met, MetAt}
 use Rattle.gev_lanes.specs.Messages.{message_of, messages, GoOn}
 use Rattle.gev_lanes.specs.Acts.{Ends}
-use Rattle.mode_calls.specs.declared.mode.Mode.{Mode}
+use Rattle.board_calls.specs.declared.mode.Mode.{Mode}
 use Rattle.lane_reader.specs.LanesTurns.{ReaderTurn, Each}
 use Rattle.lane_reader.specs.Brought.{IsSublist, datagrams_in, parts_of, news_of, Brought}
 use Rattle.lane_reader.proofs.Bringing.{take_turns, turns_bring, take_all}

@@ -5,7 +5,7 @@ use Rattle.buffer_words.specs.Passes.{Token, IsEmptyHanded}
 use Rattle.acquisition_machine.specs.Blocks.{Given}
 use Rattle.gev_acq.specs.Buffers.{HoldsAlone}
 use Rattle.gev_lanes.specs.declared.parts.LaneQueues.{LaneQueues}
-use Rattle.mode_calls.specs.declared.mode.Mode.{Mode}
+use Rattle.board_calls.specs.declared.mode.Mode.{Mode}
 use Rattle.lane_crew.specs.declared.lane_tools.LaneTools.{LaneTools}
 use Rattle.lane_crew.specs.Tools.{IsReady, AreReady, IsServed, AreServed, AreBack, ends_in}
 

@@ -8,7 +8,7 @@ use Rattle.acquisition_machine.specs.Machine.{Input, State}
 use Rattle.buffer_words.specs.Workers.{AreEvents}
 use Rattle.gev_control.specs.declared.acq_end.AcqEnd.{AcqEnd}
 use Rattle.gev_control.specs.declared.acq_end.AcqEnd.TheVariants as how
-use Rattle.mode_calls.specs.declared.mode.Mode.{Mode}
+use Rattle.board_calls.specs.declared.mode.Mode.{Mode}
 use Rattle.gev_acq.specs.Filling.{laid_unless}
 use Rattle.gev_acq.specs.Serving.{Serves}
 use Rattle.gev_acq.proofs.Parts.{Holds, served_hold}

@@ -13,7 +13,7 @@ use Rattle.acq_core.specs.Receiver.{config_of, Stands}
 use Rattle.buffer_words.specs.Passes.{Token, own}
 use Rattle.buffer_words.specs.Several.{EntersEach}
 use Rattle.buffer_words.proofs.Working.{are_of_entries}
-use Rattle.mode_calls.specs.declared.mode.Mode.{Mode}
+use Rattle.board_calls.specs.declared.mode.Mode.{Mode}
 use Rattle.gev_acq.specs.Claims.{claims_in, claims_by}
 use Rattle.gev_acq.proofs.Whole.{claims_whole}
 use Rattle.lane_crew.specs.Cells.{inputs_in}

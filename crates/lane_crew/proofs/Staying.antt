@@ -13,7 +13,7 @@ use Rattle.acquisition_machine.specs.declared.config.AcqConfig.{AcqConfig}
 use Rattle.gev_acq.specs.Claims.{met_by, claims_of, claims_by}
 use Rattle.gev_acq.proofs.Owning.{met_by-append, met_none}
 use Rattle.gev_lanes.specs.declared.parts.ReaderLane.{ReaderLane}
-use Rattle.mode_calls.specs.declared.mode.Mode.{Mode}
+use Rattle.board_calls.specs.declared.mode.Mode.{Mode}
 use Rattle.lane_reader.specs.LanesTurns.{ReaderTurn}
 use Rattle.lane_crew.specs.Cells.{CellServed}
 use Rattle.lane_crew.specs.declared.lane_tools.LaneTools.{LaneTools}

@@ -6,7 +6,7 @@ use Rattle.acquisition_machine.specs.Machine.{Input, datagram, tick, request_byt
 use Rattle.acquisition_machine.specs.Runs.{turn}
 use Rattle.acquisition_machine.specs.TurnLaws.{asked_by}
 use Rattle.buffer_words.specs.Passes.{Token}
-use Rattle.mode_calls.specs.declared.mode.Mode.{Mode}
+use Rattle.board_calls.specs.declared.mode.Mode.{Mode}
 use Rattle.gev_acq.specs.Claims.{ServesOn}
 use Rattle.gev_acq.specs.Turning.{inputs_if}
 use Rattle.gev_lanes.specs.Messages.{Message, Says, heard, told, ended}

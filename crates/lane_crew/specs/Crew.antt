@@ -7,7 +7,7 @@ use Rattle.gev_links.specs.Links.{Address}
 use Rattle.buffer_words.specs.Passes.{Token}
 use Rattle.buffer_words.specs.Several.{EntersEach}
 use Rattle.gev_control.specs.declared.acq_end.AcqEnd.{AcqEnd}
-use Rattle.mode_calls.specs.declared.mode.Mode.{Mode}
+use Rattle.board_calls.specs.declared.mode.Mode.{Mode}
 use Rattle.gev_acq.specs.Turns.{Outside}
 use Rattle.gev_lanes.specs.declared.parts.ReaderLane.{ReaderLane}
 use Rattle.lane_reader.specs.LanesTurns.{ReaderTurn}

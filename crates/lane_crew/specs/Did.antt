@@ -10,7 +10,7 @@ use Rattle.acquisition_machine.specs.Runs.{first_state}
 use Rattle.acq_core.specs.Receiver.{config_of}
 use Rattle.buffer_words.specs.Workers.{IsHome}
 use Rattle.gev_lanes.specs.LineEnds.{gave, took}
-use Rattle.mode_calls.specs.declared.mode.Mode.{Mode}
+use Rattle.board_calls.specs.declared.mode.Mode.{Mode}
 use Rattle.gev_acq.specs.Serving.{Serves}
 use Rattle.gev_acq.specs.Claims.{claims_in, claims_by}
 use Rattle.gev_lanes.specs.declared.cell.Cell.{Cell}

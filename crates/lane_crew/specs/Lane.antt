@@ -4,7 +4,7 @@ use Rattle.acquisition_machine.specs.declared.config.AcqConfig.{AcqConfig}
 use Rattle.acquisition_machine.specs.Machine.{Input, stop}
 use Rattle.buffer_words.specs.Passes.{Token}
 use Rattle.gev_lanes.specs.LineEnds.{GiverEnd, gave, took}
-use Rattle.mode_calls.specs.declared.mode.Mode.{Mode}
+use Rattle.board_calls.specs.declared.mode.Mode.{Mode}
 use Rattle.gev_acq.specs.Claims.{ServesOn}
 use Rattle.gev_lanes.specs.declared.cell.Cell.{Cell}
 use Rattle.gev_lanes.specs.Sides.{LaneEnd}

@@ -4,7 +4,7 @@ use Rattle.board_machine.specs.declared.events.Entry.{Entry}
 use Rattle.board_machine.specs.Histories.{Run}
 use Rattle.gev_lanes.specs.declared.parts.ReaderLane.{ReaderLane}
 use Rattle.lane_reader.specs.LanesTurns.{ReaderTurn}
-use Rattle.mode_calls.specs.declared.mode.Mode.{Mode}
+use Rattle.board_calls.specs.declared.mode.Mode.{Mode}
 use Rattle.lane_crew.specs.declared.lane_tools.LaneTools.{LaneTools}
 use Rattle.lane_crew.specs.Did.{LanesDid}
 

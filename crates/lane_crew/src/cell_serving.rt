@@ -9,11 +9,11 @@ ghost use Rattle.gev_lanes.specs.Messages.{says_of, message_of};
 ghost use Rattle.lane_crew.specs.Cells.{came_in, is_end as says_end, ServesCell};
 
 use acq_core::Acq;
+use board_calls::Mode;
 use buffer_words::{Board, Pass};
 use gev_acq::serve_turn;
 use gev_lanes::{Cell, CellKind};
 use gev_links::Gate;
-use mode_calls::Mode;
 use std::sync::Wait;
 
 /// Whether the reader has ended.

@@ -12,11 +12,11 @@ ghost use Rattle.lane_crew.specs.Lane.{ServesCells};
 use crate::cell_serving::{is_end, serve_cell};
 use crate::putting::put_requests;
 use acq_core::Acq;
+use board_calls::Mode;
 use buffer_words::{Board, Pass};
 use gev_acq::retire_all;
 use gev_lanes::{LaneEnds, Lanes};
 use gev_links::Gate;
-use mode_calls::Mode;
 use std::sync::Wait;
 
 /// A lane of a live run: it takes the cells that the reader gives it, up to the end.

@@ -1,9 +1,9 @@
 use crate::lane_tools::LaneTools;
+use board_calls::Mode;
 use buffer_words::Pass;
 use gev_acq::Host;
 use gev_lanes::{Lanes, ReaderEnds};
 use gev_types::Peer;
-use mode_calls::Mode;
 
 /// The reader of a run with lanes and its lanes, by what they work with.
 #[derive(Drop)]

@@ -6,10 +6,10 @@ ghost use Rattle.lane_crew.specs.Tools.{IsReady, AreReady, IsServed, AreServed};
 
 use crate::lane_running::lane;
 use crate::lane_tools::LaneTools;
+use board_calls::Mode;
 use buffer_words::Board;
 use gev_lanes::Lanes;
 use gev_links::Gate;
-use mode_calls::Mode;
 use std::sync::Wait;
 use std::thread;
 use std::thread::Threads;

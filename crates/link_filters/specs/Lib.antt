@@ -1,3 +1,4 @@
 pub mod Strangers
 pub mod Wide
 pub mod States
+pub mod Reads

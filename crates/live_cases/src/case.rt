@@ -4,8 +4,8 @@ ghost use Rattle.std.specs.Prelude.{◌≤◌, IfOk};
 
 use crate::fields::Fields;
 use anyhow::{Result, anyhow};
+use board_calls::Mode;
 use gev_types::{NoMemory, Peer};
-use mode_calls::Mode;
 use std::alloc::Global;
 
 /// What a link hears: datagrams, each with who sent it, and receives that get nothing.

@@ -11,16 +11,16 @@ use Rattle.board_machine.specs.Kinds.{is_taken}
 use Rattle.board_machine.specs.Adding.{entries_of}
 use Rattle.board_machine.proofs.Places.{same_self}
 use Rattle.buffer_words.specs.Workers.{AreEvents, OnlyBy}
-use Rattle.mode_calls.specs.declared.mode.Mode.{Mode}
-use Rattle.mode_calls.specs.declared.mode.Mode.TheVariants.{OldestFirst, OldestFirstOverwrite, NewestOnly}
-use Rattle.mode_calls.specs.Dropped.{others, handed_out_items}
+use Rattle.board_calls.specs.declared.mode.Mode.{Mode}
+use Rattle.board_calls.specs.declared.mode.Mode.TheVariants.{OldestFirst, OldestFirstOverwrite, NewestOnly}
+use Rattle.board_calls.specs.Dropped.{others, handed_out_items}
 use Rattle.live_crew.specs.Prepared.{Prepares}
 use Rattle.gev_live.specs.Kinds.{is_taking}
 use Rattle.gev_live.specs.Acquirers.{handed_out, takers}
 use Rattle.gev_live.specs.History.{Crew, live_size, LiveHistory}
 use Rattle.gev_live.proofs.Quiet.{is_beginning, beginning_are, begins_untaken, taken_takes}
 use Rattle.gev_live.proofs.Splitting.{member_or}
-use Rattle.run_promises.specs.Headline.{Acquirer, is_acquirer}
+use Rattle.live_promises.specs.Headline.{Acquirer, is_acquirer}
 
 -- ---- by whom the takes are
 

@@ -6,7 +6,7 @@ use Rattle.gvcp_wire.specs.declared.message.ControlError.{ControlError}
 use Rattle.gvcp_wire.specs.Messages.{PlainCommand, PlainAck}
 use Rattle.gvcp_wire.specs.Control.{plain}
 use Rattle.gvcp_wire.specs.Reading.{ack_reading}
-use Rattle.gvcp_aux.specs.Reading.{pending_reading}
+use Rattle.gvcp_wire.specs.BodyReading.{pending_reading}
 use Rattle.client_machine.specs.declared.outcome.Outcome.TheVariants.{NoAnswer}
 use Rattle.client_machine.specs.Times.{SENDS}
 use Rattle.client_machine.specs.Commands.{code_of, head_for, next_req, is_match, heartbeat}

@@ -15,11 +15,11 @@ use Rattle.acquisition_machine.proofs.Order.{all_append, all_front, all_back}
 use Rattle.block_fills.specs.Fills.{tried_by, tried}
 use Rattle.buffer_words.specs.Workers.{AreEvents, OnlyBy}
 use Rattle.live_crew.specs.Prepared.{PreparesEach, LooksLast, FallsShort}
-use Rattle.mode_calls.specs.declared.mode.Mode.{Mode}
+use Rattle.board_calls.specs.declared.mode.Mode.{Mode}
 use Rattle.gev_live.specs.Kinds.{is_filling}
 use Rattle.gev_live.specs.History.{Crew, live_size, LiveHistory}
 use Rattle.gev_live.proofs.Quiet.{is_beginning, beginning_are}
-use Rattle.run_promises.specs.Headline.{Acquirer, FillsAsAcquirer, FillsByAcquirers}
+use Rattle.live_promises.specs.Headline.{Acquirer, FillsAsAcquirer, FillsByAcquirers}
 
 -- ---- by whom the fills are
 

@@ -18,8 +18,8 @@ use Rattle.script_trace.proofs.Handing.{taken_all}
 use Rattle.gev_live.specs.Told.{Told, live_config, reader_side}
 use Rattle.gev_live.specs.declared.numbers.Numbers.{Numbers}
 use Rattle.gev_live.specs.LiveRun.{LiveRun, NeverRan}
-use Rattle.run_promises.specs.Headline.{HoldsUnder}
-use Rattle.run_promises.proofs.Headlines.{runs_headline, blocks_frames}
+use Rattle.live_promises.specs.Headline.{HoldsUnder}
+use Rattle.live_promises.proofs.Headlines.{runs_headline, blocks_frames}
 use Rattle.live_promises.specs.Promises.{reader_of, KeepsRun, KeepsNothing}
 use Rattle.live_promises.specs.Laws.{LiveRunsKeepPromises}
 use Rattle.live_promises.proofs.Sending.{inputs_sent, inputs_clean}

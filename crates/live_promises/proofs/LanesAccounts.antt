@@ -5,14 +5,14 @@ use Rattle.board_machine.specs.Places.{same, times}
 use Rattle.board_machine.specs.Handout.{taken_items}
 use Rattle.board_machine.proofs.Places.{same_self, times-append}
 use Rattle.acquisition_machine.specs.declared.config.AcqConfig.{AcqConfig}
-use Rattle.mode_calls.specs.declared.mode.Mode.{Mode}
-use Rattle.mode_calls.specs.Dropped.{handed_out_items}
+use Rattle.board_calls.specs.declared.mode.Mode.{Mode}
+use Rattle.board_calls.specs.Dropped.{handed_out_items}
 use Rattle.gev_lanes.specs.declared.parts.ReaderLane.{ReaderLane}
 use Rattle.gev_lanes.specs.Sides.{LaneEnd}
 use Rattle.lane_reader.specs.LanesTurns.{ReaderTurn}
 use Rattle.gev_live.specs.Acquirers.{handed_out}
 use Rattle.gev_live.specs.History.{live_size}
-use Rattle.run_promises.specs.Headline.{is_acquirer}
+use Rattle.live_promises.specs.Headline.{is_acquirer}
 use Rattle.live_promises.proofs.Accounts.{one_account}
 use Rattle.gev_live.specs.LanesHistory.{LanesCrew, LanesHistory}
 use Rattle.gev_live.specs.LanesParts.{LanesShare}

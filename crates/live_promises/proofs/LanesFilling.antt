@@ -17,7 +17,7 @@ use Rattle.acquisition_machine.proofs.Order.{all_append, all_front, all_back, al
 use Rattle.block_fills.specs.Fills.{tried_by, tried, IsRetired}
 use Rattle.block_fills.proofs.Acquisitions.{retired_blocks}
 use Rattle.buffer_words.specs.Workers.{AreEvents, OnlyBy}
-use Rattle.mode_calls.specs.declared.mode.Mode.{Mode}
+use Rattle.board_calls.specs.declared.mode.Mode.{Mode}
 use Rattle.gev_lanes.specs.declared.parts.ReaderLane.{ReaderLane}
 use Rattle.gev_lanes.specs.Sides.{LaneEnd}
 use Rattle.lane_reader.specs.LanesTurns.{ReaderTurn}
@@ -26,8 +26,8 @@ use Rattle.gev_live.specs.Kinds.{is_filling}
 use Rattle.gev_live.specs.History.{live_size}
 use Rattle.gev_live.proofs.Quiet.{is_beginning, beginning_are}
 use Rattle.gev_live.proofs.Splitting.{member_or}
-use Rattle.run_promises.specs.Headline.{Acquirer, is_acquirer, FillsAsAcquirer, FillsByAcquirers, IsBlockOf}
-use Rattle.run_promises.specs.Laws.{FillsWhatRetires}
+use Rattle.live_promises.specs.Headline.{Acquirer, is_acquirer, FillsAsAcquirer, FillsByAcquirers, IsBlockOf}
+use Rattle.live_promises.specs.HeadlineLaws.{FillsWhatRetires}
 use Rattle.gev_live.specs.LanesHistory.{LanesCrew, LanesHistory}
 use Rattle.gev_live.specs.LanesParts.{LanesShare}
 use Rattle.live_promises.specs.LanesPromises.{acquirers_in}

@@ -12,7 +12,7 @@ use Rattle.acquisition_machine.proofs.Order.{all_weaker}
 use Rattle.gev_links.specs.Links.{Address}
 use Rattle.gev_status.specs.declared.status.Status.{Status}
 use Rattle.script_trace.proofs.Handing.{taken_all}
-use Rattle.mode_calls.specs.declared.mode.Mode.{Mode}
+use Rattle.board_calls.specs.declared.mode.Mode.{Mode}
 use Rattle.gev_lanes.specs.declared.parts.ReaderLane.{ReaderLane}
 use Rattle.gev_lanes.specs.Sides.{LaneEnd}
 use Rattle.lane_reader.specs.LanesTurns.{ReaderTurn}
@@ -22,8 +22,8 @@ use Rattle.client_machine.specs.Times.{SEND_LIMIT}
 use Rattle.client_machine.specs.Machine.{new_client}
 use Rattle.gev_live.specs.Told.{Told, live_config, reader_side}
 use Rattle.gev_live.specs.declared.numbers.Numbers.{Numbers}
-use Rattle.run_promises.specs.Headline.{IsBlockOf}
-use Rattle.run_promises.proofs.Headlines.{runs_headline, blocks_frames}
+use Rattle.live_promises.specs.Headline.{IsBlockOf}
+use Rattle.live_promises.proofs.Headlines.{runs_headline, blocks_frames}
 use Rattle.live_promises.specs.Promises.{packets_among}
 use Rattle.live_promises.proofs.Keeping.{never_keeps}
 use Rattle.gev_live.specs.LanesParts.{LanesShare}

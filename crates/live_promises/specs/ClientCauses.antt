@@ -8,7 +8,7 @@ use Rattle.client_machine.specs.declared.outcome.Outcome.TheVariants.{Waiting, I
 use Rattle.client_machine.specs.Machine.{Client, HasSubmittedNone}
 use Rattle.client_machine.specs.Events.{Request, new_request}
 use Rattle.acquisition_machine.specs.declared.config.AcqConfig.{AcqConfig}
-use Rattle.mode_calls.specs.declared.mode.Mode.{Mode}
+use Rattle.board_calls.specs.declared.mode.Mode.{Mode}
 use Rattle.gev_links.specs.Links.{Address}
 use Rattle.gev_control.specs.declared.acq_end.AcqEnd.{AcqEnd}
 use Rattle.gev_control.specs.declared.acq_end.AcqEnd.TheVariants as how

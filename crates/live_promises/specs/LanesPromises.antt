@@ -9,8 +9,8 @@ use Rattle.board_machine.specs.Machine.{Item}
 use Rattle.board_machine.specs.Handout.{handed_items}
 use Rattle.acquisition_machine.specs.declared.config.AcqConfig.{AcqConfig}
 use Rattle.acquisition_machine.specs.Machine.{stop}
-use Rattle.mode_calls.specs.declared.mode.Mode.{Mode}
-use Rattle.mode_calls.specs.Dropped.{handed_out_items}
+use Rattle.board_calls.specs.declared.mode.Mode.{Mode}
+use Rattle.board_calls.specs.Dropped.{handed_out_items}
 use Rattle.gev_links.specs.Links.{Address}
 use Rattle.gev_status.specs.declared.status.Status.{Status}
 use Rattle.gev_lanes.specs.declared.parts.ReaderLane.{ReaderLane}
@@ -23,7 +23,7 @@ use Rattle.client_machine.specs.Machine.{new_client}
 use Rattle.gev_live.specs.Acquirers.{handed_out}
 use Rattle.gev_live.specs.Told.{Told, live_config, reader_side}
 use Rattle.gev_live.specs.declared.numbers.Numbers.{Numbers}
-use Rattle.run_promises.specs.Headline.{Acquirer, is_acquirer, IsBlockOf, KeepsHeadline, HoldsUnder}
+use Rattle.live_promises.specs.Headline.{Acquirer, is_acquirer, IsBlockOf, KeepsHeadline, HoldsUnder}
 use Rattle.live_promises.specs.Promises.{packets_among, KeepsNothing}
 use Rattle.gev_live.specs.LanesParts.{LanesShare}
 use Rattle.gev_live.specs.LanesRun.{LanesRun, RunsLanes}

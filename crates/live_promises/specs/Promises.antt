@@ -13,7 +13,7 @@ use Rattle.acquisition_machine.specs.Runs.{with_packet}
 use Rattle.block_fills.specs.Fills.{IsRetired}
 use Rattle.client_machine.specs.Times.{SEND_LIMIT}
 use Rattle.client_machine.specs.Machine.{new_client}
-use Rattle.mode_calls.specs.Dropped.{handed_out_items}
+use Rattle.board_calls.specs.Dropped.{handed_out_items}
 use Rattle.gev_links.specs.Links.{Address, Answer, nothing, failed, came}
 use Rattle.gev_status.specs.declared.status.Status.{Status}
 use Rattle.gev_acq.specs.Acquired.{inputs_in, answers_in}
@@ -21,7 +21,7 @@ use Rattle.gev_live.specs.Acquirers.{handed_out}
 use Rattle.gev_live.specs.Told.{Told, live_config, reader_side}
 use Rattle.gev_live.specs.declared.numbers.Numbers.{Numbers}
 use Rattle.gev_live.specs.LiveRun.{LiveRun, RunsLive}
-use Rattle.run_promises.specs.Headline.{Acquirer, is_acquirer, KeepsHeadline, HoldsUnder}
+use Rattle.live_promises.specs.Headline.{Acquirer, is_acquirer, KeepsHeadline, HoldsUnder}
 use Rattle.live_promises.specs.Causes.{HasCauses}
 
 -- The reader of a live run, with what its receiver was told: the inputs of its turns, and the stop at their end.

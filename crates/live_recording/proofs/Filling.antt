@@ -20,11 +20,11 @@ use Rattle.acquisition_machine.specs.declared.retired.Retired.{Retired}
 use Rattle.acquisition_machine.specs.Blocks.{fills}
 use Rattle.acquisition_machine.specs.Machine.{Input}
 use Rattle.acquisition_machine.specs.Runs.{first_state, retired_from}
-use Rattle.acquisition_laws.specs.Erased.{images}
+use Rattle.acquisition_machine.specs.Erased.{images}
 use Rattle.block_fills.specs.Fills.{tried_by, tried, item_of, retired_items}
 use Rattle.buffer_words.specs.Workers.{AreOf, AreEvents, OnlyBy}
 use Rattle.gev_live.specs.Kinds.{is_live, is_filling}
-use Rattle.mode_calls.specs.declared.mode.Mode.{Mode}
+use Rattle.board_calls.specs.declared.mode.Mode.{Mode}
 use Rattle.gev_live.specs.History.{Crew, live_size, LiveHistory}
 use Rattle.gev_live.proofs.Quiet.{is_beginning, beginning_are, none_both, never_closed}
 use Rattle.live_recording.specs.Replayed.{contents}

@@ -9,9 +9,9 @@ use Rattle.acquisition_machine.specs.Sound.{IsSound, MayOpen}
 use Rattle.acquisition_machine.proofs.Joining.{after_from-append}
 use Rattle.acquisition_machine.proofs.Window.{first_sound, run_sound}
 use Rattle.acquisition_machine.proofs.Counting.{claims_follow_buffer}
-use Rattle.acquisition_laws.specs.Turns.{IsOutcome, IsTold, IsHeard}
-use Rattle.recorded_runs.specs.Script.{live_config}
-use Rattle.recorded_runs.specs.Marks.{block_or_zero, opened_in, IsMarkedRun}
+use Rattle.acquisition_machine.specs.Turns.{IsOutcome, IsTold, IsHeard}
+use Rattle.gev_record.specs.Script.{live_config}
+use Rattle.gev_record.specs.Marks.{block_or_zero, opened_in, IsMarkedRun}
 use Rattle.gev_record.specs.Taped.{datagram_of}
 use Rattle.gev_record.specs.Writing.{noted}
 use Rattle.gev_acq.specs.declared.turn.Turn.{Turn}

@@ -7,10 +7,10 @@ use Rattle.acquisition_machine.specs.Blocks.{Given}
 use Rattle.acquisition_machine.specs.Machine.{Input, datagram}
 use Rattle.acquisition_machine.specs.Runs.{After, turn}
 use Rattle.acquisition_machine.specs.TurnLaws.{asked_by}
-use Rattle.acquisition_laws.specs.declared.mark.Mark.{Mark}
+use Rattle.acquisition_machine.specs.declared.mark.Mark.{Mark}
 use Rattle.gev_links.specs.Links.{Answer, nothing, failed, came}
-use Rattle.recorded_runs.specs.Script.{live_config}
-use Rattle.recorded_runs.specs.Marks.{block_or_zero, opened_in, IsReceived, HasWidths}
+use Rattle.gev_record.specs.Script.{live_config}
+use Rattle.gev_record.specs.Marks.{block_or_zero, opened_in, IsReceived, HasWidths}
 use Rattle.gev_record.specs.Taped.{datagram_of}
 use Rattle.gev_record.specs.Writing.{noted}
 use Rattle.gev_acq.specs.declared.turn.Turn.{Turn}

@@ -8,7 +8,7 @@ use Rattle.gev_links.specs.Links.{Address}
 use Rattle.gev_status.specs.declared.status.Status.{Status}
 use Rattle.gev_status.specs.declared.status.Status.TheVariants.{Done, WriteFault, LinkFault, NoMemory, NoAnswer, Refused, TurnsSpent}
 use Rattle.gev_live.specs.Told.{Told}
-use Rattle.live_answers.specs.Endings.{is_told, FailsLast}
+use Rattle.gev_live.specs.Endings.{is_told, FailsLast}
 use Rattle.gev_live.specs.declared.numbers.Numbers.{Numbers}
 use Rattle.gev_live.proofs.Steady.{runs_steady, runs_failed}
 use Rattle.live_recording.specs.Recorded.{Recorded, RecordsLive}

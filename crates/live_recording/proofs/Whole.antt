@@ -8,17 +8,17 @@ use Rattle.board_machine.specs.Handout.{filled}
 use Rattle.acquisition_machine.specs.Machine.{Input, stop}
 use Rattle.acquisition_machine.specs.Runs.{first_state, retired_from}
 use Rattle.acquisition_machine.specs.Blocks.{fills}
-use Rattle.acquisition_laws.specs.Erased.{images}
-use Rattle.acquisition_laws.specs.Turns.{Noted}
+use Rattle.acquisition_machine.specs.Erased.{images}
+use Rattle.acquisition_machine.specs.Turns.{Noted}
 use Rattle.gev_links.specs.Links.{Address, Answer}
 use Rattle.gev_links.specs.Moments.{TellsEach}
 use Rattle.gev_status.specs.declared.status.Status.{Status}
 use Rattle.gev_status.specs.declared.status.Status.TheVariants as status
-use Rattle.recorded_runs.specs.Script.{script_of}
-use Rattle.recorded_runs.specs.Marks.{IsReceived, HasWidths, IsMarkedRun}
-use Rattle.recorded_runs.specs.TakeLines.{take_lines, AreTakesOf}
-use Rattle.recorded_runs.specs.Reports.{ReportsRun}
-use Rattle.recorded_runs.proofs.Reporting.{recorded_scripts_report}
+use Rattle.gev_record.specs.Script.{script_of}
+use Rattle.gev_record.specs.Marks.{IsReceived, HasWidths, IsMarkedRun}
+use Rattle.gev_record.specs.TakeLines.{take_lines, AreTakesOf}
+use Rattle.gev_record.specs.Reports.{ReportsRun}
+use Rattle.gev_record.proofs.Reporting.{recorded_scripts_report}
 use Rattle.gev_record.specs.Taped.{datagram_of, KeepsFront}
 use Rattle.gev_record.specs.Writing.{noted}
 use Rattle.gev_control.specs.declared.acq_end.AcqEnd.{AcqEnd}
@@ -31,8 +31,8 @@ use Rattle.gev_acq.specs.History.{AreSized}
 use Rattle.gev_acq.specs.Reads.{EndsAfter}
 use Rattle.gev_live.specs.Told.{Told, live_config}
 use Rattle.gev_live.specs.History.{live_size}
-use Rattle.live_answers.specs.Endings.{is_told}
-use Rattle.mode_calls.specs.declared.mode.Mode.TheVariants.{OldestFirst}
+use Rattle.gev_live.specs.Endings.{is_told}
+use Rattle.board_calls.specs.declared.mode.Mode.TheVariants.{OldestFirst}
 use Rattle.gev_live.specs.Acquirers.{DropsNothing}
 use Rattle.gev_live.specs.declared.numbers.Numbers.{Numbers}
 use Rattle.gev_live.specs.LiveRun.{LiveRun}

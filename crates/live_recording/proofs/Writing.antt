@@ -2,19 +2,19 @@
 use Rattle.std.proofs.Common.{◌≡◌, inl, inr, ℕ, ◌<◌, ◌^◌, true, false, List, [], length, map, Option, Some, None, Result, Ok, Err, refl, sym, ap, subst, ◌∙◌, arith, append-nil}
 use Rattle.std.specs.List.{AllByRecursion}
 use Rattle.board_machine.specs.declared.events.Entry.{Entry}
-use Rattle.acquisition_laws.specs.declared.mark.Mark.{Mark}
+use Rattle.acquisition_machine.specs.declared.mark.Mark.{Mark}
 use Rattle.gev_links.specs.Faults.{Rose}
 use Rattle.gev_links.specs.Links.{Address}
 use Rattle.gev_links.specs.Told.{Appends, WritesFront}
 use Rattle.gev_status.specs.declared.status.Status.{Status}
 use Rattle.gev_status.specs.declared.status.Status.TheVariants as status
-use Rattle.recorded_runs.specs.Script.{script_of}
+use Rattle.gev_record.specs.Script.{script_of}
 use Rattle.gev_record.specs.declared.record_end.RecordEnd.{RecordEnd}
 use Rattle.gev_record.specs.declared.record_end.RecordEnd.TheVariants as ends
 use Rattle.gev_record.specs.Writing.{noted, Writes}
 use Rattle.gev_acq.specs.declared.turn.Turn.{Turn}
 use Rattle.gev_live.specs.Told.{Told}
-use Rattle.live_answers.specs.Endings.{is_told}
+use Rattle.gev_live.specs.Endings.{is_told}
 use Rattle.gev_live.specs.declared.numbers.Numbers.{Numbers}
 use Rattle.gev_live.specs.LiveRun.{LiveRun}
 use Rattle.live_recording.specs.Marks.{mark_of}

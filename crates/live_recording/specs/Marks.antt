@@ -3,9 +3,9 @@ use Rattle.std.specs.Prelude.{List, [], ◌∷◌, ◌++◌, Bool, false, Option
 use Rattle.acquisition_machine.specs.Blocks.{Given}
 use Rattle.acquisition_machine.specs.Machine.{Input}
 use Rattle.acquisition_machine.specs.Runs.{After}
-use Rattle.acquisition_laws.specs.declared.mark.Mark.{Mark}
-use Rattle.recorded_runs.specs.Script.{live_config}
-use Rattle.recorded_runs.specs.Marks.{opened_in}
+use Rattle.acquisition_machine.specs.declared.mark.Mark.{Mark}
+use Rattle.gev_record.specs.Script.{live_config}
+use Rattle.gev_record.specs.Marks.{opened_in}
 use Rattle.gev_acq.specs.declared.turn.Turn.{Turn}
 use Rattle.gev_acq.specs.Turns.{Turned, bytes_in, inputs_of}
 

@@ -7,7 +7,7 @@ use Rattle.gev_links.specs.Links.{Address}
 use Rattle.gev_links.specs.Told.{Appends, WritesFront}
 use Rattle.gev_status.specs.declared.status.Status.{Status}
 use Rattle.gev_status.specs.declared.status.Status.TheVariants.{Done, WriteFault, LinkFault, NoMemory, NoAnswer, Refused, TurnsSpent}
-use Rattle.recorded_runs.specs.Script.{script_of}
+use Rattle.gev_record.specs.Script.{script_of}
 use Rattle.gev_record.specs.declared.record_end.RecordEnd.{RecordEnd}
 use Rattle.gev_record.specs.declared.record_end.RecordEnd.TheVariants as ends
 use Rattle.gev_record.specs.Taped.{datagram_of}
@@ -15,7 +15,7 @@ use Rattle.gev_record.specs.Writing.{noted}
 use Rattle.gev_acq.specs.declared.turn.Turn.{Turn}
 use Rattle.gev_acq.specs.Acquired.{answers_in}
 use Rattle.gev_live.specs.Told.{Told}
-use Rattle.live_answers.specs.Endings.{is_told, FailsLast}
+use Rattle.gev_live.specs.Endings.{is_told, FailsLast}
 use Rattle.gev_live.specs.declared.numbers.Numbers.{Numbers}
 use Rattle.gev_live.specs.LiveRun.{LiveRun, NeverRan}
 use Rattle.live_promises.specs.Promises.{KeepsRun, KeepsNothing}

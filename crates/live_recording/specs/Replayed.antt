@@ -5,8 +5,8 @@ use Rattle.board_machine.specs.declared.events.Entry.{Entry}
 use Rattle.board_machine.specs.Places.{IsPrefix}
 use Rattle.board_machine.specs.Machine.{Item}
 use Rattle.board_machine.specs.Handout.{filled, taken_items}
-use Rattle.recorded_runs.specs.TakeLines.{take_lines, AreTakesOf}
-use Rattle.recorded_runs.specs.Reports.{Reports}
+use Rattle.gev_record.specs.TakeLines.{take_lines, AreTakesOf}
+use Rattle.gev_record.specs.Reports.{Reports}
 
 -- what buffers hold, wherever they lie: bytes and record
 abbrev pub contents : List Item → List Filling

@@ -4,7 +4,7 @@ ghost use Rattle.std.specs.Prelude.{◌≡◌, ◌<◌, ◌^◌, ◌++◌, [], �
 ghost use Rattle.std.specs.List.{AllByRecursion};
 ghost use Rattle.live_recording.specs.Marks.{mark_of};
 
-use acquisition_laws::Mark;
+use acquisition_machine::Mark;
 use gev_acq::Turn;
 use gev_types::NoMemory;
 use std::alloc::Global;

@@ -1,9 +1,9 @@
 -- The missing ranges are the holes of what is settled.
 use Rattle.std.proofs.Common.{◌≡◌, ℕ, ◌+◌, List, Option, sym, ap, subst, arith}
 use Rattle.stream_packets.specs.Packets.{StreamPacket}
-use Rattle.id_ranges.specs.Ranges.{holes}
-use Rattle.id_ranges.specs.Laws.{AreHoles}
-use Rattle.id_ranges.proofs.HoleLemmas.{holes_are_maximal}
+use Rattle.missing_ranges.specs.Ranges.{holes}
+use Rattle.missing_ranges.specs.RangeLaws.{AreHoles}
+use Rattle.missing_ranges.proofs.HoleLemmas.{holes_are_maximal}
 use Rattle.missing_ranges.specs.Missing.{is_settled, top_of, missing_to}
 use Rattle.missing_ranges.specs.Laws.{MissingIsMaximal}
 

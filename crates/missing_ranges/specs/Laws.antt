@@ -2,7 +2,7 @@
 use Rattle.std.specs.Prelude.{◌≡◌, ℕ, ◌+◌, List, [], Some}
 use Rattle.stream_packets.specs.Packets.{StreamPacket}
 use Rattle.block_image.specs.Kept.{kept}
-use Rattle.id_ranges.specs.Laws.{AreHoles}
+use Rattle.missing_ranges.specs.RangeLaws.{AreHoles}
 use Rattle.missing_ranges.specs.Missing.{is_settled, top_of, missing}
 
 -- Where the last id is known, the missing ranges are all maximal ranges of ids up to it of which the

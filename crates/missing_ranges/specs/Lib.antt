@@ -1,3 +1,10 @@
 pub mod Missing
 pub mod Laws
 pub mod Worked
+pub mod Ranges
+pub mod RangeLaws
+pub mod WorkedRanges
+pub mod Reasons
+pub mod Lost
+pub mod ReasonLaws
+pub mod WorkedReasons

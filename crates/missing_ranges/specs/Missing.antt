@@ -4,7 +4,7 @@ use Rattle.stream_packets.specs.Packets.{StreamPacket, head_of, is_notice}
 use Rattle.stream_packets.specs.FramePackets.{payload_count}
 use Rattle.block_image.specs.Kept.{kept, has_id}
 use Rattle.block_image.specs.Image.{extent_in}
-use Rattle.id_ranges.specs.Ranges.{holes}
+use Rattle.missing_ranges.specs.Ranges.{holes}
 
 -- The camera says of the packet with id k that it's gone for good. With the status 0x8010 it says that
 -- the packet isn't there yet, so it may be asked for again.

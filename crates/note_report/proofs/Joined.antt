@@ -4,8 +4,8 @@ use Rattle.std.specs.Prelude.{◌==◌, ◌||◌, not, nat_lt, codes, Result, Ok
 use Rattle.std.proofs.lemmas.Bool.{ne_eqb}
 use Rattle.std.proofs.lemmas.List.{map-append, take_more}
 use Rattle.block_assembly.specs.declared.lost.Lost.{Lost}
-use Rattle.block_reasons.specs.declared.reasons.Reasons.{Reasons}
-use Rattle.acquisition_notes.specs.Texts.{span_text, behind_commas, listed, where_so, why_text}
+use Rattle.missing_ranges.specs.declared.reasons.Reasons.{Reasons}
+use Rattle.script_trace.specs.Texts.{span_text, behind_commas, listed, where_so, why_text}
 use Rattle.note_report.specs.Pieces.{follow, where_none, has_some, lost_text}
 
 pub append_nil : (xs : List ℕ) → xs ++ [] ≡ xs

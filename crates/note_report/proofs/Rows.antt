@@ -4,7 +4,7 @@ use Rattle.block_assembly.specs.Losing.{lost_of}
 use Rattle.acquisition_machine.specs.Blocks.{complete, old, displaced, stopped}
 use Rattle.acquisition_machine.specs.Blocks.{Cause as Reason}
 use Rattle.acq_core.specs.Ending.{cause_of}
-use Rattle.acquisition_notes.specs.Texts.{span_text, more_text, ids_text, cause_text}
+use Rattle.script_trace.specs.Texts.{span_text, more_text, ids_text, cause_text}
 use Rattle.note_report.specs.Pieces.{cause_word, lost_text}
 use Rattle.note_report.specs.Ended.{EndedWordsAreOutcomes}
 use Rattle.note_report.proofs.Joined.{listed_is}

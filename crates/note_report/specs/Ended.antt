@@ -12,9 +12,9 @@ use Rattle.acquisition_machine.specs.Blocks.{Given, Open, kept_in}
 use Rattle.acquisition_machine.specs.Blocks.{Cause as Reason}
 use Rattle.acq_core.specs.declared.ended.Cause.{Cause}
 use Rattle.acq_core.specs.Ending.{cause_of}
-use Rattle.acquisition_notes.specs.Notes.{done, unbuffered}
-use Rattle.acquisition_notes.specs.Inputs.{outcome_of}
-use Rattle.acquisition_notes.specs.Texts.{id_text, flag_text, why_text, words_of}
+use Rattle.script_trace.specs.Notes.{done, unbuffered}
+use Rattle.script_trace.specs.Inputs.{outcome_of}
+use Rattle.script_trace.specs.Texts.{id_text, flag_text, why_text, words_of}
 use Rattle.note_report.specs.Pieces.{cause_word, lost_text}
 
 abbrev pub ended_words : ℕ → BufferId → Cause → Account → Bool → List ℕ

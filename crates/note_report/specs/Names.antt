@@ -1,7 +1,7 @@
 -- What a note names of a packet.
 use Rattle.std.specs.Prelude.{◌≡◌}
 use Rattle.stream_packets.specs.Packets.{StreamPacket, head_of}
-use Rattle.acquisition_notes.specs.Texts.{payload_length}
+use Rattle.script_trace.specs.Texts.{payload_length}
 use Rattle.note_report.specs.declared.piece.Named.{Named}
 
 -- it is named so

@@ -6,7 +6,7 @@ use Rattle.hex.specs.Hex.{encode_lower}
 use Rattle.block_assembly.specs.declared.lost.Lost.{Lost}
 use Rattle.acq_core.specs.declared.ended.Cause.{Cause}
 use Rattle.acq_core.specs.declared.ended.Cause.TheVariants.{Complete, Old, Displaced, Stopped}
-use Rattle.acquisition_notes.specs.Texts.{hex_text, span_text, id_text, id_or_none, number_or_none, flag_text, behind_commas, where_so, why_text}
+use Rattle.script_trace.specs.Texts.{hex_text, span_text, id_text, id_or_none, number_or_none, flag_text, behind_commas, where_so, why_text}
 use Rattle.note_report.specs.declared.piece.Basic.{Basic}
 use Rattle.note_report.specs.declared.piece.Basic.TheVariants.{Text as Words, Number as Plain, Hex}
 use Rattle.note_report.specs.declared.piece.Piece.{Piece}

@@ -2,8 +2,8 @@
 
 ghost use Rattle.std.specs.Prelude.{◌≡◌, ◌++◌, OnOk, None, Some};
 ghost use Rattle.stream_packets.specs.Packets.{StreamPacket};
-ghost use Rattle.acquisition_notes.specs.Notes.{idle, ignored, unwidened};
-ghost use Rattle.acquisition_notes.specs.Texts.{note_line};
+ghost use Rattle.script_trace.specs.Notes.{idle, ignored, unwidened};
+ghost use Rattle.script_trace.specs.Texts.{note_line};
 ghost use Rattle.note_report.specs.Names.{IsNamed};
 
 use crate::at::At;

@@ -1,8 +1,8 @@
 //! Notes of blocks and frames.
 
 ghost use Rattle.std.specs.Prelude.{◌≡◌, ◌++◌, OnOk};
-ghost use Rattle.acquisition_notes.specs.Notes.{leads, opens, asks, first as first_note, absent, drops};
-ghost use Rattle.acquisition_notes.specs.Texts.{words_line, note_line};
+ghost use Rattle.script_trace.specs.Notes.{leads, opens, asks, first as first_note, absent, drops};
+ghost use Rattle.script_trace.specs.Texts.{words_line, note_line};
 ghost use Rattle.note_report.specs.Blocks.{counts_words};
 ghost use Rattle.note_report.specs.Ended.{ended_words, unbuffered_words};
 

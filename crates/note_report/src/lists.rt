@@ -1,7 +1,7 @@
 //! Lists of words and spans, joined by commas.
 
 ghost use Rattle.std.specs.Prelude.{◌≡◌, ◌++◌, ◌||◌, ◌∷◌, [], false, map, OnOk, IfOk};
-ghost use Rattle.acquisition_notes.specs.Texts.{span_text, where_so, why_text};
+ghost use Rattle.script_trace.specs.Texts.{span_text, where_so, why_text};
 ghost use Rattle.note_report.specs.Pieces.{lost_text, follow, where_none};
 
 use crate::basics::add_basics;

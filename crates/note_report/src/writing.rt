@@ -2,7 +2,7 @@
 
 ghost use Rattle.std.specs.Prelude.{◌≡◌, ◌++◌, OnOk};
 ghost use Rattle.std.specs.List.{flat_map};
-ghost use Rattle.acquisition_notes.specs.Texts.{hex_text, span_text, id_text, id_or_none, number_or_none, flag_text, words_line};
+ghost use Rattle.script_trace.specs.Texts.{hex_text, span_text, id_text, id_or_none, number_or_none, flag_text, words_line};
 ghost use Rattle.note_report.specs.Pieces.{piece_text, cause_word, packet_text, status_text, front_text};
 
 use crate::at::At;

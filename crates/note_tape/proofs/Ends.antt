@@ -8,8 +8,8 @@ use Rattle.acq_core.specs.declared.ended.Cause.{Cause}
 use Rattle.acq_core.specs.declared.ended.Ended.{Ended}
 use Rattle.acq_core.specs.declared.ended.Held.{Held}
 use Rattle.acq_core.specs.Ending.{cause_of}
-use Rattle.acquisition_notes.specs.Notes.{Note}
-use Rattle.acquisition_notes.specs.Texts.{words_of}
+use Rattle.script_trace.specs.Notes.{Note}
+use Rattle.script_trace.specs.Texts.{words_of}
 use Rattle.note_report.specs.Ended.{ended_words, unbuffered_words}
 use Rattle.note_report.proofs.Rows.{ended_words_are_outcomes}
 use Rattle.note_tape.specs.Telling.{IsEnd, IsEndWith}

@@ -1,8 +1,8 @@
 -- A tape is printed and counted from its front.
 use Rattle.std.proofs.Common.{◌≡◌, ℕ, ◌+◌, ◌<◌, List, [], ◌∷◌, ◌++◌, length, drop, get_or, refl, sym, ap, subst, ◌∙◌, append_assoc, append-nil}
 use Rattle.std.proofs.lemmas.List.{drop_more}
-use Rattle.acquisition_notes.specs.Notes.{Note}
-use Rattle.acquisition_notes.specs.Texts.{note_line, notes_text}
+use Rattle.script_trace.specs.Notes.{Note}
+use Rattle.script_trace.specs.Texts.{note_line, notes_text}
 use Rattle.note_report.specs.declared.block_counts.BlockCounts.{BlockCounts}
 use Rattle.note_tape.specs.declared.told.Told.{Told}
 use Rattle.note_tape.specs.Telling.{IsNoted, AreNoted}

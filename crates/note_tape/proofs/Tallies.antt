@@ -1,12 +1,12 @@
 -- Counting note by note is counting all of them.
 use Rattle.std.proofs.Common.{◌≡◌, ℕ, ◌+◌, ◌-◌, Bool, true, false, List, [], ◌∷◌, ◌++◌, refl, sym, ap, ◌∙◌, arith, append_assoc, append-nil}
 use Rattle.std.specs.Prelude.{if◌then◌else◌}
-use Rattle.block_reasons.specs.Lost.{ids_in}
-use Rattle.acquisition_notes.specs.Notes.{Note, Outcome, idle, ignored, unwidened, leads, opens, asks, first, absent, drops, done, unbuffered}
-use Rattle.acquisition_notes.specs.Counted.{is_opening, times_so}
-use Rattle.acquisition_notes.proofs.Opened.{times-append}
+use Rattle.missing_ranges.specs.Lost.{ids_in}
+use Rattle.script_trace.specs.Notes.{Note, Outcome, idle, ignored, unwidened, leads, opens, asks, first, absent, drops, done, unbuffered}
+use Rattle.script_trace.specs.Counted.{is_opening, times_so}
+use Rattle.script_trace.proofs.Opened.{times-append}
 use Rattle.script_trace.specs.Ending.{as_count}
-use Rattle.script_notes.specs.Explaining.{is_whole, is_partial, is_unbuffered, is_drop, absent_spans}
+use Rattle.script_trace.specs.Explaining.{is_whole, is_partial, is_unbuffered, is_drop, absent_spans}
 use Rattle.note_report.specs.declared.block_counts.BlockCounts.{BlockCounts}
 use Rattle.note_tape.specs.Counting.{tally, counted_up, with_end, with_note, with_notes}
 

@@ -1,10 +1,10 @@
 -- How many blocks notes tell of, by kind.
 use Rattle.std.specs.Prelude.{◌≡◌, ℕ, ◌+◌, ◌-◌, ◌^◌, min, Bool, List, [], ◌∷◌, ◌++◌, if◌then◌else◌}
-use Rattle.block_reasons.specs.Lost.{ids_in}
-use Rattle.acquisition_notes.specs.Notes.{Note, idle, ignored, unwidened, leads, opens, asks, first, absent, drops, done, unbuffered}
-use Rattle.acquisition_notes.specs.Counted.{is_opening, times_so}
+use Rattle.missing_ranges.specs.Lost.{ids_in}
+use Rattle.script_trace.specs.Notes.{Note, idle, ignored, unwidened, leads, opens, asks, first, absent, drops, done, unbuffered}
+use Rattle.script_trace.specs.Counted.{is_opening, times_so}
 use Rattle.script_trace.specs.Ending.{as_count}
-use Rattle.script_notes.specs.Explaining.{is_whole, is_partial, is_unbuffered, is_drop, absent_spans}
+use Rattle.script_trace.specs.Explaining.{is_whole, is_partial, is_unbuffered, is_drop, absent_spans}
 use Rattle.note_report.specs.declared.block_counts.BlockCounts.{BlockCounts}
 
 -- the counts of these notes, each as far as its type goes

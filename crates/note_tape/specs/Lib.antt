@@ -1,2 +1,4 @@
 pub mod Telling
 pub mod Counting
+pub mod Tells
+pub mod Rounds

@@ -10,9 +10,9 @@ use Rattle.acquisition_machine.specs.declared.need.Why.TheVariants as whys
 use Rattle.acquisition_machine.specs.Blocks.{Given, Open, Cause, kept_in}
 use Rattle.acq_core.specs.declared.ended.Ended.{Ended}
 use Rattle.acq_core.specs.Ending.{cause_of}
-use Rattle.acquisition_notes.specs.Notes as notes
-use Rattle.acquisition_notes.specs.Notes.{Note}
-use Rattle.acquisition_notes.specs.Inputs.{outcome_of}
+use Rattle.script_trace.specs.Notes as notes
+use Rattle.script_trace.specs.Notes.{Note}
+use Rattle.script_trace.specs.Inputs.{outcome_of}
 use Rattle.note_report.specs.Names.{IsNamed}
 use Rattle.note_tape.specs.declared.told.Told.{Told}
 use Rattle.note_tape.specs.declared.told.Told.TheVariants.{Idle, Foreign, Ignored, Unwidened, Leader, Opened, Asked, First, Absent, Dropped, Done}

@@ -1,7 +1,7 @@
 //! What is told of blocks, counted.
 
 ghost use Rattle.std.specs.Prelude.{◌≡◌, [], MatchOption};
-ghost use Rattle.acquisition_notes.specs.Notes.{Note};
+ghost use Rattle.script_trace.specs.Notes.{Note};
 ghost use Rattle.note_tape.specs.Telling.{IsNoted};
 ghost use Rattle.note_tape.specs.Counting.{tally, counted_up, with_end, with_note};
 

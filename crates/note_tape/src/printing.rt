@@ -1,8 +1,8 @@
 //! The notes of what is told.
 
 ghost use Rattle.std.specs.Prelude.{◌≡◌, ◌++◌, List, OnOk};
-ghost use Rattle.acquisition_notes.specs.Notes.{Note};
-ghost use Rattle.acquisition_notes.specs.Texts.{note_line, notes_text};
+ghost use Rattle.script_trace.specs.Notes.{Note};
+ghost use Rattle.script_trace.specs.Texts.{note_line, notes_text};
 ghost use Rattle.note_tape.specs.Telling.{IsEnd, IsNoted, AreNoted};
 ghost use Rattle.note_tape.specs.Counting.{with_notes};
 

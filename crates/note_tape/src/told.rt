@@ -1,7 +1,7 @@
 use acq_core::Ended;
 use acquisition_machine::Why;
 use gentl_types::BufferId;
-use gvcp_aux::Resend;
+use gvcp_wire::Resend;
 use gvsp_std::StdError;
 use gvsp_wire::{LeaderInfo, WireError};
 use note_report::Named;

@@ -3,7 +3,7 @@ use Rattle.std.proofs.Common.{◌≡◌, ◌⊎◌, inl, inr, ℕ, ◌+◌, ◌-
 use Rattle.std.specs.Prelude.{◌==◌, not, slice_index}
 use Rattle.std.specs.Int.{bit_at}
 use Rattle.std.proofs.lemmas.Bool.{cases_lt, false≢true}
-use Rattle.id_ranges.specs.Laws.{IsFirstHole}
+use Rattle.missing_ranges.specs.RangeLaws.{IsFirstHole}
 use Rattle.packet_bitmap.specs.Bits.{has, HasClear, is_set, IsFirstWith, IsNextBit}
 
 -- an id of the same word

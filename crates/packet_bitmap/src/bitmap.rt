@@ -1,6 +1,6 @@
 ghost use Rattle.std.specs.Prelude.{◌≡◌, ℕ, ◌+◌, ◌*◌, ◌/◌, ◌<◌, ◌≤◌, ◌==◌, true, false, not, length, replicate, slice_index, slice_set, IfOk};
 ghost use Rattle.std.specs.Int.{bit_at};
-ghost use Rattle.id_ranges.specs.Laws.{IsFirstHole};
+ghost use Rattle.missing_ranges.specs.RangeLaws.{IsFirstHole};
 ghost use Rattle.packet_bitmap.specs.Bits.{has, HasClear};
 
 use crate::words::{first_with, is_set, words_for};

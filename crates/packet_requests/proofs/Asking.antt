@@ -6,11 +6,11 @@ use Rattle.wire_fields.proofs.InOrder.{fields_read}
 use Rattle.wire_fields.proofs.Spellings.{fields_spelled}
 use Rattle.gvcp_wire.specs.Flags.{has_flag}
 use Rattle.gvcp_wire.specs.Control.{header_fields}
-use Rattle.gvcp_aux.specs.declared.resend.Resend.{Resend}
-use Rattle.gvcp_aux.specs.Bodies.{IsWithin, resend_head, resend_body}
-use Rattle.gvcp_aux.specs.Reading.{resend_at, resend_reading}
-use Rattle.gvcp_aux.proofs.Resends.{reads_resend}
-use Rattle.gvcp_aux.proofs.Written.{writes_resend}
+use Rattle.gvcp_wire.specs.declared.resend.Resend.{Resend}
+use Rattle.gvcp_wire.specs.Bodies.{IsWithin, resend_head, resend_body}
+use Rattle.gvcp_wire.specs.BodyReading.{resend_at, resend_reading}
+use Rattle.gvcp_wire.proofs.Resends.{reads_resend}
+use Rattle.gvcp_wire.proofs.BodiesWritten.{writes_resend}
 use Rattle.gvsp_std.proofs.Asked.{asked_again}
 use Rattle.packet_requests.specs.declared.id_mode.IdMode.{IdMode}
 use Rattle.packet_requests.specs.declared.id_mode.IdMode.TheVariants.{Standard, Extended}

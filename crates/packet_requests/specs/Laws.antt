@@ -2,8 +2,8 @@
 use Rattle.std.specs.Prelude.{◌≡◌, ◌≢◌, ℕ, ◌+◌, ◌^◌, ◌<◌, ◌≤◌, Bool, true, false, List, [], ◌∷◌, slice_index, Option, Some, None}
 use Rattle.gvcp_wire.specs.Flags.{has_flag}
 use Rattle.gvcp_wire.specs.Control.{Control, plain}
-use Rattle.gvcp_aux.specs.declared.resend.Resend.{Resend}
-use Rattle.gvcp_aux.specs.Bodies.{IsWithin, IsResend, resend_head, resend_body, resend_command}
+use Rattle.gvcp_wire.specs.declared.resend.Resend.{Resend}
+use Rattle.gvcp_wire.specs.Bodies.{IsWithin, IsResend, resend_head, resend_body, resend_command}
 use Rattle.gvsp_std.specs.Asking.{IsStandardResend}
 use Rattle.client_machine.specs.Commands.{acknowledge_flag}
 use Rattle.client_machine.specs.Machine.{Asked}

@@ -3,9 +3,9 @@ use Rattle.std.specs.Prelude.{ℕ, ◌^◌, ◌&&◌, nat_le, nat_lt, Bool, true
 use Rattle.std.specs.Int.RustNames.{bit_or}
 use Rattle.wire_fields.specs.Fields.{number_at, spelled}
 use Rattle.gvcp_wire.specs.Control.{plain}
-use Rattle.gvcp_aux.specs.declared.resend.Resend.{Resend}
-use Rattle.gvcp_aux.specs.Bodies.{resend_head, resend_command}
-use Rattle.gvcp_aux.specs.Reading.{resend_at}
+use Rattle.gvcp_wire.specs.declared.resend.Resend.{Resend}
+use Rattle.gvcp_wire.specs.Bodies.{resend_head, resend_command}
+use Rattle.gvcp_wire.specs.BodyReading.{resend_at}
 use Rattle.gvsp_std.specs.Asking.{std_resend_fields}
 use Rattle.packet_requests.specs.declared.id_mode.IdMode.{IdMode}
 use Rattle.packet_requests.specs.declared.id_mode.IdMode.TheVariants.{Standard, Extended}

@@ -2,12 +2,12 @@
 
 ghost use Rattle.std.specs.Prelude.{◌≡◌, ◌≤◌, ◌^◌, ◌++◌, true, length, drop};
 ghost use Rattle.wire_fields.specs.Fields.{spelled};
-ghost use Rattle.gvcp_aux.specs.Reading.{resend_at};
+ghost use Rattle.gvcp_wire.specs.BodyReading.{resend_at};
 ghost use Rattle.gvsp_std.specs.Asking.{std_resend_fields};
 ghost use Rattle.packet_requests.specs.Requests.{request_number, is_narrow, is_standard, command_in, control_request};
 
 use crate::id_mode::IdMode;
-use gvcp_aux::{Resend, write_resend};
+use gvcp_wire::{Resend, write_resend};
 use gvsp_std::write_resend_std;
 use wire_fields::{u16_at, u32_at, u64_at};
 

@@ -15,7 +15,7 @@ use Rattle.gev_script.specs.Lines.{ScriptLine}
 use Rattle.acquisition_machine.specs.declared.config.AcqConfig.{AcqConfig}
 use Rattle.acquisition_machine.specs.Machine.{Input, restart}
 use Rattle.acquisition_machine.specs.Runs.{After}
-use Rattle.acquisition_notes.specs.Inputs.{notes_from}
+use Rattle.script_trace.specs.Inputs.{notes_from}
 use Rattle.script_trace.specs.Trace.{Trace, Part, board, caller, acts, Calls}
 use Rattle.script_trace.specs.BoardLines.{TakeIfOpen, AsksBuffer, AsksLoan, open_event, is_of_loan, buffer}
 use Rattle.script_trace.specs.StreamLines.{Restarts, ModeIfRunning}
@@ -23,8 +23,8 @@ use Rattle.script_trace.specs.HandleLines.{ClosesHandle, ClosesStream}
 use Rattle.script_trace.specs.StepLines.{StepBy, StepInHand, FillStep, is_in_hand}
 use Rattle.script_trace.specs.Adding.{Spells}
 use Rattle.script_trace.specs.Wide.{Wide, meaning, Does}
-use Rattle.script_notes.specs.Drops.{drops_in}
-use Rattle.script_notes.specs.LineNotes.{idle_notes, part_notes, notes_as}
+use Rattle.script_trace.specs.Drops.{drops_in}
+use Rattle.script_trace.specs.LineNotes.{idle_notes, part_notes, notes_as}
 use Rattle.script_explain.specs.Explains.{is_fed}
 
 -- ---- parts with no notes

@@ -12,15 +12,15 @@ use Rattle.script_runs.specs.declared.ran.Ran.TheVariants.{GoesOn, Ended}
 use Rattle.acquisition_machine.specs.declared.config.AcqConfig.{AcqConfig}
 use Rattle.acquisition_machine.specs.Runs.{After}
 use Rattle.acq_core.specs.Receiver.{config_of, Stands}
-use Rattle.acquisition_notes.specs.Notes.{Note}
-use Rattle.acquisition_notes.specs.Texts.{words_line, notes_text}
+use Rattle.script_trace.specs.Notes.{Note}
+use Rattle.script_trace.specs.Texts.{words_line, notes_text}
 use Rattle.script_trace.specs.Trace.{Trace}
 use Rattle.script_trace.specs.Opening.{opening}
 use Rattle.script_trace.specs.Ending.{as_count, end_text}
 use Rattle.script_trace.specs.Wide.{Wide, meaning, nothing_wide, kept_behind}
 use Rattle.script_trace.specs.Standing.{Standing, first, running, config_of as config_from, ReplayRefuses}
-use Rattle.script_notes.specs.LineNotes.{inputs_as, notes_as}
-use Rattle.script_notes.specs.Explaining.{Telling, blocks_words, since_after, ExplainsFrom}
+use Rattle.script_trace.specs.LineNotes.{inputs_as, notes_as}
+use Rattle.script_trace.specs.Explaining.{Telling, blocks_words, since_after, ExplainsFrom}
 use Rattle.note_report.specs.declared.block_counts.BlockCounts.{BlockCounts}
 use Rattle.note_report.specs.Blocks.{counts_words}
 use Rattle.note_tape.specs.declared.told.Told.{Told}

@@ -11,13 +11,13 @@ use Rattle.acquisition_machine.specs.Machine.{Input}
 use Rattle.acquisition_machine.specs.Runs.{After}
 use Rattle.acq_core.specs.declared.window.Window.{Window}
 use Rattle.acq_core.specs.Receiver.{config_of, Stands}
-use Rattle.acquisition_notes.specs.Notes.{Note}
-use Rattle.acquisition_notes.specs.Texts.{words_line, notes_text}
+use Rattle.script_trace.specs.Notes.{Note}
+use Rattle.script_trace.specs.Texts.{words_line, notes_text}
 use Rattle.script_trace.specs.Trace.{Trace}
 use Rattle.script_trace.specs.Wide.{Wide, meaning, Does, kept_behind}
 use Rattle.script_trace.specs.Standing.{Standing, first, running, later_kind}
-use Rattle.script_notes.specs.LineNotes.{notes_as}
-use Rattle.script_notes.specs.Explaining.{Telling, ExplainRuns, ExplainRefuses}
+use Rattle.script_trace.specs.LineNotes.{notes_as}
+use Rattle.script_trace.specs.Explaining.{Telling, ExplainRuns, ExplainRefuses}
 use Rattle.note_report.specs.Blocks.{counts_words}
 use Rattle.note_tape.specs.declared.told.Told.{Told}
 use Rattle.note_tape.specs.Telling.{AreNoted}

@@ -2,8 +2,8 @@
 
 ghost use Rattle.std.specs.Prelude.{◌≡◌, IfOk, None};
 ghost use Rattle.script_trace.specs.Standing.{replay_verdict, IsBehind};
-ghost use Rattle.script_notes.specs.Explaining.{Telling, ExplainRuns, ExplainRefuses};
-ghost use Rattle.script_notes.proofs.Reports.{explanations_are_judged};
+ghost use Rattle.script_trace.specs.Explaining.{Telling, ExplainRuns, ExplainRefuses};
+ghost use Rattle.script_trace.proofs.Reports.{explanations_are_judged};
 ghost use Rattle.script_explain.specs.Explains.{IsKept, RunsAs, RefusesAs, StandsFor};
 
 use crate::explained::Explained;

@@ -1,8 +1,8 @@
 //! The notes of a line that was run, and its report behind them.
 
 ghost use Rattle.std.specs.Prelude.{◌≡◌, ◌++◌, List, [], OnOk};
-ghost use Rattle.acquisition_notes.specs.Notes.{Note};
-ghost use Rattle.acquisition_notes.specs.Texts.{words_line, notes_text};
+ghost use Rattle.script_trace.specs.Notes.{Note};
+ghost use Rattle.script_trace.specs.Texts.{words_line, notes_text};
 ghost use Rattle.note_report.specs.Blocks.{counts_words};
 ghost use Rattle.note_tape.specs.Telling.{AreNoted};
 ghost use Rattle.note_tape.specs.Counting.{with_notes};

@@ -31,8 +31,8 @@ use Rattle.acq_core.specs.Giving.{given_as}
 use Rattle.acq_core.specs.Standing.{IsConfig}
 use Rattle.acq_core.specs.Receiver.{config_of, asked_block, buffers, Stands, Takes, KeepsBlocks}
 use Rattle.acq_core.specs.Waiting.{waiting_fills, waiting_requests}
-use Rattle.mode_calls.specs.declared.mode.Mode.{Mode}
-use Rattle.mode_calls.specs.Modes.{ClaimsFor}
+use Rattle.board_calls.specs.declared.mode.Mode.{Mode}
+use Rattle.board_calls.specs.Modes.{ClaimsFor}
 use Rattle.script_trace.specs.Trace.{Trace, Part, board, acquirer}
 use Rattle.script_trace.specs.Modes.{FillsInMode, place_of}
 use Rattle.script_trace.proofs.Quiet.{claims_quiet}

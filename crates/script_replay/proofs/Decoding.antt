@@ -10,7 +10,7 @@ use Rattle.acquisition_machine.specs.declared.config.AcqConfig.{AcqConfig}
 use Rattle.acquisition_machine.specs.Machine.{Input}
 use Rattle.acq_core.specs.declared.window.Window.{Window}
 use Rattle.acq_core.specs.Receiver.{Stands}
-use Rattle.mode_calls.specs.declared.mode.Mode.{Mode}
+use Rattle.board_calls.specs.declared.mode.Mode.{Mode}
 use Rattle.script_trace.specs.Trace.{Trace, Part, board}
 use Rattle.script_trace.specs.StreamLines.{DatagramLine, HearsIfRunning, idles}
 use Rattle.script_replay.specs.declared.fill_counts.FillCounts.{FillCounts}

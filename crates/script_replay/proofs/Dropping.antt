@@ -21,12 +21,12 @@ use Rattle.board_machine.proofs.Places.{same_self, times-put}
 use Rattle.board_machine.proofs.Runs.{stands_lists}
 use Rattle.board_model.specs.Plain.{PlainState}
 use Rattle.board_model.proofs.CallsHands.{times_set}
-use Rattle.buffer_modes.specs.Steps.{KeepsHeld}
-use Rattle.buffer_modes.proofs.Parts.{keeps_same, keeps_then, keeps_dropped}
+use Rattle.board_model.specs.Steps.{KeepsHeld}
+use Rattle.board_model.proofs.Parts.{keeps_same, keeps_then, keeps_dropped}
 use Rattle.acquisition_machine.specs.Blocks.{Given}
-use Rattle.mode_calls.specs.declared.mode.Mode.{Mode}
-use Rattle.mode_calls.specs.declared.mode.Mode.TheVariants.{OldestFirst, OldestFirstOverwrite, NewestOnly}
-use Rattle.mode_calls.specs.Modes.{GotNothing, ClaimsOnly, ClaimsOrTakes, ClaimsFor, takes_and_pools, DropsUntilNothing, DropsAll, DropsFor}
+use Rattle.board_calls.specs.declared.mode.Mode.{Mode}
+use Rattle.board_calls.specs.declared.mode.Mode.TheVariants.{OldestFirst, OldestFirstOverwrite, NewestOnly}
+use Rattle.board_calls.specs.Modes.{GotNothing, ClaimsOnly, ClaimsOrTakes, ClaimsFor, takes_and_pools, DropsUntilNothing, DropsAll, DropsFor}
 use Rattle.script_trace.specs.Trace.{acquirer}
 use Rattle.script_trace.specs.Contents.{content_after, contents_of, contents_from}
 use Rattle.script_trace.specs.Modes.{dropped}

@@ -15,7 +15,7 @@ use Rattle.board_machine.specs.Handout.{handed}
 use Rattle.gentl_types.specs.declared.errors.GcError.TheVariants.{ResourceInUse}
 use Rattle.gentl_types.specs.declared.errors.Shown.TheVariants.{Word}
 use Rattle.board_calls.specs.Calls.{run_word}
-use Rattle.mode_calls.specs.declared.mode.Mode.{Mode}
+use Rattle.board_calls.specs.declared.mode.Mode.{Mode}
 use Rattle.script_trace.specs.Modes.{mode_of, handed_out, dropped}
 use Rattle.script_trace.specs.Answers.{refused_text, done_text}
 use Rattle.script_trace.specs.StreamLines.{StartLine, sets_mode, ModeIfRunning}

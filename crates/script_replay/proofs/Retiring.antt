@@ -32,11 +32,11 @@ use Rattle.acquisition_machine.specs.TurnLaws.{given_of}
 use Rattle.acq_core.specs.declared.window.Window.{Window}
 use Rattle.acq_core.specs.Receiver.{buffers, KeepsBlocks}
 use Rattle.acq_core.specs.Waiting.{waiting_fills, waiting_requests}
-use Rattle.buffer_modes.specs.Steps.{KeepsHeld}
-use Rattle.buffer_modes.specs.declared.gone.Gone.{Gone}
-use Rattle.buffer_modes.specs.Gone.{gone_of}
-use Rattle.mode_calls.specs.declared.mode.Mode.{Mode}
-use Rattle.mode_calls.specs.Modes.{DropsFor, FillsDropping}
+use Rattle.board_model.specs.Steps.{KeepsHeld}
+use Rattle.board_model.specs.declared.gone.Gone.{Gone}
+use Rattle.board_model.specs.Gone.{gone_of}
+use Rattle.board_calls.specs.declared.mode.Mode.{Mode}
+use Rattle.board_calls.specs.Modes.{DropsFor, FillsDropping}
 use Rattle.script_trace.specs.Trace.{acquirer}
 use Rattle.script_trace.proofs.Quiet.{fills_block}
 use Rattle.script_trace.specs.Contents.{contents_of, contents_from, FillsFrom, FillsAsLay}

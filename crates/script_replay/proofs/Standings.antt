@@ -11,7 +11,7 @@ use Rattle.acq_core.specs.declared.window.Window.{Window}
 use Rattle.acq_core.specs.Standing.{IsConfig}
 use Rattle.acq_core.specs.Receiver.{config_of, asked_block, buffers, Stands}
 use Rattle.acq_core.specs.Waiting.{waiting_fills, waiting_requests}
-use Rattle.mode_calls.specs.declared.mode.Mode.TheVariants.{OldestFirst}
+use Rattle.board_calls.specs.declared.mode.Mode.TheVariants.{OldestFirst}
 use Rattle.script_trace.specs.Opening.{opening, first_handles}
 use Rattle.script_trace.specs.Ending.{end_text}
 use Rattle.script_trace.specs.Wide.{nothing_wide, Does, kept_behind}

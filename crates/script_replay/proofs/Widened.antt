@@ -9,7 +9,7 @@ use Rattle.hex.proofs.HexLemmas.{decode_of-encode_lower}
 use Rattle.gvsp_std.specs.declared.std_error.StdError.{StdError}
 use Rattle.gvsp_std.specs.Widening.{widened}
 use Rattle.gvsp_std.specs.Asking.{std_resend_fields}
-use Rattle.gvcp_aux.specs.declared.resend.Resend.{Resend}
+use Rattle.gvcp_wire.specs.declared.resend.Resend.{Resend}
 use Rattle.wire_fields.specs.Fields.{number_at, spelled}
 use Rattle.gev_report.specs.ReplayLines.{request_line}
 use Rattle.gev_script.specs.Lines as line

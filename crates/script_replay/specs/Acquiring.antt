@@ -21,8 +21,8 @@ use Rattle.acq_core.specs.declared.window.Window.{Window}
 use Rattle.acq_core.specs.Standing.{IsConfig}
 use Rattle.acq_core.specs.Receiver.{config_of, asked_block, buffers, Stands, Takes}
 use Rattle.acq_core.specs.Waiting.{waiting_fills, waiting_requests}
-use Rattle.mode_calls.specs.declared.mode.Mode.{Mode}
-use Rattle.mode_calls.specs.Modes.{DropsFor, ClaimsFor}
+use Rattle.board_calls.specs.declared.mode.Mode.{Mode}
+use Rattle.board_calls.specs.Modes.{DropsFor, ClaimsFor}
 use Rattle.script_trace.specs.Trace.{Trace, Part, board, grown, caller, acquirer}
 use Rattle.script_trace.specs.Contents.{contents_of, FillsFrom}
 use Rattle.script_trace.specs.StreamLines.{outcome}

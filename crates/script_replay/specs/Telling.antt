@@ -4,9 +4,9 @@ use Rattle.board_machine.specs.Machine.{Item}
 use Rattle.board_model.specs.Plain.{PlainState}
 use Rattle.acquisition_machine.specs.declared.retired.Retired.{Retired}
 use Rattle.acq_core.specs.declared.window.Window.{Window}
-use Rattle.mode_calls.specs.declared.mode.Mode.{Mode}
-use Rattle.buffer_modes.specs.declared.gone.Gone.{Gone}
-use Rattle.buffer_modes.specs.Gone.{gone_of}
+use Rattle.board_calls.specs.declared.mode.Mode.{Mode}
+use Rattle.board_model.specs.declared.gone.Gone.{Gone}
+use Rattle.board_model.specs.Gone.{gone_of}
 use Rattle.script_replay.specs.declared.fill_counts.FillCounts.{FillCounts}
 use Rattle.script_replay.specs.declared.got.Got.{Got}
 use Rattle.script_replay.specs.Acquiring.{CountsOne, Claims}

@@ -8,7 +8,7 @@ use Rattle.board_model.specs.Plain.{PlainState}
 use Rattle.acq_core.specs.declared.window.Window.{Window}
 use Rattle.acq_core.specs.Receiver.{config_of, Takes, KeepsBlocks}
 use Rattle.acq_core.specs.Waiting.{waiting_fills, waiting_requests}
-use Rattle.mode_calls.specs.declared.mode.Mode.{Mode}
+use Rattle.board_calls.specs.declared.mode.Mode.{Mode}
 use Rattle.script_trace.specs.Trace.{Trace}
 use Rattle.script_trace.specs.Wide.{Wide, standard_meaning, DoesAs, standard_form}
 use Rattle.script_replay.specs.declared.fill_counts.FillCounts.{FillCounts}

@@ -18,8 +18,7 @@ use crate::fill_counts::FillCounts;
 use crate::hex_digits::decode;
 use crate::retired::{fill_retired, give_claimed, write_requests};
 use acq_core::{Acq, Need};
-use board_model::PlainBoard;
-use buffer_modes::Mode;
+use board_model::{Mode, PlainBoard};
 use gev_types::NoMemory;
 use std::alloc::Global;
 

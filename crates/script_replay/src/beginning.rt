@@ -14,7 +14,7 @@ use crate::script::Script;
 use crate::widening::Widening;
 use acq_core::Acq;
 use acquisition_machine::AcqConfig;
-use buffer_modes::Mode;
+use board_model::Mode;
 use gev_script::{Line, ScriptKind, parse_line};
 use gev_types::NoMemory;
 use gvsp_std::Widener;

@@ -1,7 +1,6 @@
 use crate::fill_counts::FillCounts;
 use acq_core::Acq;
-use board_model::PlainBoard;
-use buffer_modes::Mode;
+use board_model::{Mode, PlainBoard};
 use gentl_handles::{Handle, Tree};
 
 /// What a script runs on behind its header, and what its last line counts. Each count stands still at its

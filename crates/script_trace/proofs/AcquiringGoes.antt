@@ -18,9 +18,9 @@ use Rattle.board_calls.specs.Rounds.{filled_or_laid}
 use Rattle.acquisition_machine.specs.declared.retired.Retired.{Retired}
 use Rattle.acquisition_machine.specs.Blocks.{Given}
 use Rattle.acquisition_machine.specs.TurnLaws.{given_of, HasOneMore, TakesGiven}
-use Rattle.mode_calls.specs.declared.mode.Mode.{Mode}
-use Rattle.mode_calls.specs.declared.mode.Mode.TheVariants.{OldestFirst, OldestFirstOverwrite, NewestOnly}
-use Rattle.mode_calls.specs.Modes.{takes_and_pools, DropsFor, ClaimsFor}
+use Rattle.board_calls.specs.declared.mode.Mode.{Mode}
+use Rattle.board_calls.specs.declared.mode.Mode.TheVariants.{OldestFirst, OldestFirstOverwrite, NewestOnly}
+use Rattle.board_calls.specs.Modes.{takes_and_pools, DropsFor, ClaimsFor}
 use Rattle.script_trace.specs.Trace.{acquirer}
 use Rattle.script_trace.specs.Modes.{FillsInMode, place_of}
 use Rattle.script_trace.specs.StreamLines.{outcome}

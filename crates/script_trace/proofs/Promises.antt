@@ -9,7 +9,7 @@ use Rattle.board_machine.specs.Machine.{Item}
 use Rattle.board_machine.specs.Histories.{Run}
 use Rattle.board_machine.proofs.Forms.{prefix_cases}
 use Rattle.board_machine.proofs.Handouts.{run_legal}
-use Rattle.mode_calls.specs.Dropped.{others}
+use Rattle.board_calls.specs.Dropped.{others}
 use Rattle.script_trace.specs.Trace.{Trace}
 use Rattle.script_trace.specs.Modes.{acquires}
 use Rattle.script_trace.specs.Adding.{Leads}

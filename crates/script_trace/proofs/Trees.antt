@@ -27,9 +27,9 @@ use Rattle.board_model.specs.Holdings.{emptied}
 use Rattle.acquisition_machine.specs.declared.retired.Retired.{Retired}
 use Rattle.script_trace.specs.Trace.{Part, acquirer}
 use Rattle.script_trace.specs.Contents.{FillsFrom}
-use Rattle.mode_calls.specs.declared.mode.Mode.{Mode}
-use Rattle.mode_calls.specs.declared.mode.Mode.TheVariants.{OldestFirst, OldestFirstOverwrite, NewestOnly}
-use Rattle.mode_calls.specs.Modes.{GotNothing, ClaimsOnly, ClaimsOrTakes, ClaimsFor, takes_and_pools, DropsFor}
+use Rattle.board_calls.specs.declared.mode.Mode.{Mode}
+use Rattle.board_calls.specs.declared.mode.Mode.TheVariants.{OldestFirst, OldestFirstOverwrite, NewestOnly}
+use Rattle.board_calls.specs.Modes.{GotNothing, ClaimsOnly, ClaimsOrTakes, ClaimsFor, takes_and_pools, DropsFor}
 use Rattle.script_trace.specs.Modes.{FillsInMode, place_of}
 use Rattle.script_trace.proofs.Quiet.{BlockParts, block_parts}
 

@@ -23,7 +23,7 @@ use Rattle.board_calls.specs.Infos.{InfosBy}
 use Rattle.acquisition_machine.specs.Machine.{stop, restart}
 use Rattle.acquisition_machine.specs.Worked.{seen}
 use Rattle.script_trace.specs.StreamLines.{tells, idles, told_twice}
-use Rattle.mode_calls.specs.declared.mode.Mode.TheVariants.{OldestFirst}
+use Rattle.board_calls.specs.declared.mode.Mode.TheVariants.{OldestFirst}
 use Rattle.script_trace.specs.Modes.{FillsBlock}
 use Rattle.hex.specs.Hex.{decode_pairs}
 use Rattle.wire_fields.specs.Fields.{number_at}

@@ -16,7 +16,7 @@ use Rattle.board_machine.specs.Owners.{IsOwned}
 use Rattle.acquisition_machine.specs.declared.config.AcqConfig.{AcqConfig}
 use Rattle.acquisition_machine.specs.Machine.{Input, datagram, Request, request_bytes}
 use Rattle.acquisition_machine.specs.Runs.{first_state, After as AcqAfter, requests_from}
-use Rattle.mode_calls.specs.Dropped.{dropped_items, handed_out_items}
+use Rattle.board_calls.specs.Dropped.{dropped_items, handed_out_items}
 use Rattle.script_trace.specs.Trace.{Trace, board}
 use Rattle.script_trace.specs.Modes.{acquires}
 use Rattle.script_trace.specs.Adding.{Leads}

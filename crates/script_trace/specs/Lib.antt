@@ -15,3 +15,17 @@ pub mod Fills
 pub mod Takes
 pub mod Laws
 pub mod Worked
+pub mod Drops
+pub mod LineNotes
+pub mod Explaining
+pub mod NoteLines
+pub mod NoteLaws
+pub mod WorkedNotes
+pub mod Narrowing
+pub mod Notes
+pub mod Inputs
+pub mod Counted
+pub mod Spans
+pub mod InputLaws
+pub mod Texts
+pub mod WorkedInputs

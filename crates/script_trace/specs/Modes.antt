@@ -6,10 +6,10 @@ use Rattle.board_machine.specs.declared.events.Event.{Event}
 use Rattle.board_machine.specs.declared.events.Event.TheVariants.{Lay}
 use Rattle.board_machine.specs.Handout.{handed_by}
 use Rattle.acquisition_machine.specs.declared.retired.Retired.{Retired}
-use Rattle.mode_calls.specs.declared.mode.Mode.{Mode}
-use Rattle.mode_calls.specs.declared.mode.Mode.TheVariants.{OldestFirst, OldestFirstOverwrite, NewestOnly}
-use Rattle.mode_calls.specs.Modes.{FillsFor}
-use Rattle.mode_calls.specs.Dropped.{others}
+use Rattle.board_calls.specs.declared.mode.Mode.{Mode}
+use Rattle.board_calls.specs.declared.mode.Mode.TheVariants.{OldestFirst, OldestFirstOverwrite, NewestOnly}
+use Rattle.board_calls.specs.Modes.{FillsFor}
+use Rattle.board_calls.specs.Dropped.{others}
 use Rattle.script_trace.specs.Trace.{acquirer}
 
 -- the mode that a line's number names; the grammar has 0 to 2

@@ -4,7 +4,7 @@ use Rattle.gentl_handles.specs.Handles.{Handles, no_handles}
 use Rattle.gentl_handles.specs.Calls.{Call, open_child, after_calls}
 use Rattle.board_machine.specs.declared.events.Event.TheVariants.{Split}
 use Rattle.board_machine.specs.Adding.{entries_of}
-use Rattle.mode_calls.specs.declared.mode.Mode.TheVariants.{OldestFirst}
+use Rattle.board_calls.specs.declared.mode.Mode.TheVariants.{OldestFirst}
 use Rattle.script_trace.specs.Trace.{Trace, caller}
 
 -- a system, an interface, a device, a stream and its event, each with number 0 under the one before, and

@@ -15,8 +15,8 @@ use Rattle.acquisition_machine.specs.Blocks.{Given, fills}
 use Rattle.acquisition_machine.specs.Machine.{Input, Request, request_bytes, datagram, claimed, tick, stop, restart}
 use Rattle.acquisition_machine.specs.Runs.{turn}
 use Rattle.acquisition_machine.specs.TurnLaws.{asked_by}
-use Rattle.mode_calls.specs.declared.mode.Mode.{Mode}
-use Rattle.mode_calls.specs.Modes.{ClaimsFor}
+use Rattle.board_calls.specs.declared.mode.Mode.{Mode}
+use Rattle.board_calls.specs.Modes.{ClaimsFor}
 use Rattle.script_trace.specs.Trace.{Trace, Part, board, caller, acquirer, acts, only_says}
 use Rattle.script_trace.specs.Modes.{mode_of, FillsInMode, place_of}
 use Rattle.script_trace.specs.Answers.{refused_text, done_text}

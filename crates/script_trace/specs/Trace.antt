@@ -7,7 +7,7 @@ use Rattle.board_machine.specs.Machine.{Board}
 use Rattle.board_machine.specs.Histories.{After}
 use Rattle.board_machine.specs.Adding.{entries_of}
 use Rattle.gentl_handles.specs.Handles.{Handles}
-use Rattle.mode_calls.specs.declared.mode.Mode.{Mode}
+use Rattle.board_calls.specs.declared.mode.Mode.{Mode}
 
 pub record Trace : Type 0 where
   -- the history of the board of the stream with serial 4

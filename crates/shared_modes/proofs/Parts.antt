@@ -13,10 +13,10 @@ use Rattle.buffer_words.specs.Handing.{AfterFill, HandsOver}
 use Rattle.buffer_words.specs.Several.{EntersOf}
 use Rattle.buffer_words.proofs.Hands.{hands_then, same_has, gets_gone}
 use Rattle.buffer_words.proofs.Several.{each_two, of_kind, of_none, of_one, of_as, of_then, of_push, of_first}
-use Rattle.mode_calls.specs.declared.mode.Mode.{Mode}
-use Rattle.mode_calls.specs.declared.mode.Mode.TheVariants.{OldestFirst, OldestFirstOverwrite, NewestOnly}
-use Rattle.mode_calls.specs.Modes.{GotNothing, ClaimsOrTakes, ClaimsFor, takes_and_pools, FillsDropping}
-use Rattle.buffer_modes.specs.Steps.{TakesOne, DropsOne, DropsSome, Drops}
+use Rattle.board_calls.specs.declared.mode.Mode.{Mode}
+use Rattle.board_calls.specs.declared.mode.Mode.TheVariants.{OldestFirst, OldestFirstOverwrite, NewestOnly}
+use Rattle.board_calls.specs.Modes.{GotNothing, ClaimsOrTakes, ClaimsFor, takes_and_pools, FillsDropping}
+use Rattle.board_model.specs.Steps.{TakesOne, DropsOne, DropsSome, Drops}
 
 -- ---- hands
 

@@ -1,13 +1,13 @@
 ghost use Rattle.std.specs.Prelude.{◌≡◌};
 ghost use Rattle.buffer_words.specs.Boards.{board_id};
 ghost use Rattle.buffer_words.specs.Several.{EntersOf};
-ghost use Rattle.buffer_modes.specs.Steps.{TakesOne};
-ghost use Rattle.mode_calls.specs.Modes.{ClaimsFor};
+ghost use Rattle.board_model.specs.Steps.{TakesOne};
+ghost use Rattle.board_calls.specs.Modes.{ClaimsFor};
 ghost use Rattle.shared_modes.specs.Hands.{GetsFor};
 
+use board_calls::Mode;
 use buffer_words::{Board, Pass};
 use input_pool::claim;
-use mode_calls::Mode;
 use output_queue::{TakeEnd, take};
 use std::sync::Wait;
 

@@ -1,16 +1,16 @@
 ghost use Rattle.std.specs.Prelude.{◌≡◌, length};
 ghost use Rattle.board_calls.specs.Ends.{IfClosed, is_filled};
-ghost use Rattle.buffer_modes.specs.Steps.{DropsOne, Drops};
+ghost use Rattle.board_model.specs.Steps.{DropsOne, Drops};
 ghost use Rattle.buffer_words.specs.Boards.{board_id};
 ghost use Rattle.buffer_words.specs.Handing.{AfterFill};
 ghost use Rattle.buffer_words.specs.Passes.{IsLifted, SameHands, size_at};
 ghost use Rattle.buffer_words.specs.Several.{EntersOf};
-ghost use Rattle.mode_calls.specs.Modes.{FillsDropping};
+ghost use Rattle.board_calls.specs.Modes.{FillsDropping};
 
+use board_calls::Mode;
 use buffer_words::{Board, Pass};
 use gev_types::{Buf, PLACES};
 use input_pool::put_back;
-use mode_calls::Mode;
 use output_queue::{FillEnd, TakeEnd, fill, take};
 use std::sync::Wait;
 

@@ -32,7 +32,7 @@ use Rattle.script_trace.specs.Opening.{opening}
 use Rattle.script_replay.specs.declared.running.Running.{Running}
 use Rattle.script_replay.specs.Replays.{StandsAt, IsReplaying, AddsAt, Goes}
 use Rattle.script_replay.proofs.Replaying.{leads_on}
-use Rattle.soak_host.specs.Receiver.{soak_config, SOAK_BUFFER_SIZE, pooled_word, start}
+use Rattle.world_laws.specs.Receiver.{soak_config, SOAK_BUFFER_SIZE, pooled_word, start}
 use Rattle.soak_receiver.specs.Moves.{IsOpen, IsLeft}
 use Rattle.soak_receiver.specs.Taking.{queued}
 use Rattle.soak_receiver.specs.Stocking.{stock_lines, stocked, announced, IsBeginning, IsStocked, IsAnnounced, HasBegun}

@@ -12,7 +12,7 @@ use Rattle.board_calls.specs.Rounds.{filled_or_laid}
 use Rattle.acquisition_machine.specs.declared.retired.Retired.{Retired}
 use Rattle.script_trace.specs.Trace.{acquirer}
 use Rattle.block_fills.specs.Fills.{FillsRetired}
-use Rattle.soak_host.specs.Receiver.{acts_on, fills_all}
+use Rattle.world_laws.specs.Receiver.{acts_on, fills_all}
 
 -- a fill is answered by the close mark
 fill_answer : (b : Board) (i : ℕ) (f : Filling) (filled : Bool) (rest : List Event) → RunsFrom b (entries_of acquirer (filled_or_laid i f filled ++ rest)) → filled ≡ not b.closed

@@ -13,7 +13,7 @@ use Rattle.board_machine.specs.Ids.{buffer_at}
 use Rattle.script_trace.specs.Opening.{opening}
 use Rattle.script_trace.specs.Ending.{as_count}
 use Rattle.script_replay.specs.declared.running.Running.{Running}
-use Rattle.soak_host.specs.Receiver.{Receiver, soak_config, start, hears, told, told_again, waiting, takes_one}
+use Rattle.world_laws.specs.Receiver.{Receiver, soak_config, start, hears, told, told_again, waiting, takes_one}
 use Rattle.soak_receiver.specs.Moves.{MovesAt, Moves, Asks, heard_line, unchanged}
 use Rattle.soak_receiver.specs.Taking.{TakesItem, TakesFirst}
 use Rattle.soak_receiver.specs.Stocking.{start_lines, HasBegun}

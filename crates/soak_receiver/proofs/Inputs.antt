@@ -17,7 +17,7 @@ use Rattle.script_trace.specs.StreamLines.{Restarts, HearsIfRunning, Hears}
 use Rattle.script_trace.specs.Opening.{opening}
 use Rattle.script_trace.proofs.Promises.{traces_keep_by}
 use Rattle.script_trace.proofs.BlockFills.{IsByOther}
-use Rattle.soak_host.specs.Receiver.{soak_config}
+use Rattle.world_laws.specs.Receiver.{soak_config}
 use Rattle.soak_receiver.specs.Standing.{IsHostLine, HostsKeepPromises, IsHeardIn, InputsAreHeard}
 use Rattle.soak_receiver.proofs.Lending.{take_tells_nothing}
 

@@ -37,7 +37,7 @@ use Rattle.script_replay.proofs.Lines.{caller_apart, quiet_acts, quiet_ready}
 use Rattle.script_replay.proofs.Quiet.{get_quiet, queue_quiet}
 use Rattle.script_replay.proofs.Replaying.{under_goes, call_goes, still}
 use Rattle.script_replay.proofs.Resting.{lifted_same}
-use Rattle.soak_host.specs.Receiver.{Receiver, soak_config, waiting, takes_one}
+use Rattle.world_laws.specs.Receiver.{Receiver, soak_config, waiting, takes_one}
 use Rattle.soak_receiver.specs.Moves.{IsOpen, IsHosting, IsLeft, Moves, unchanged}
 use Rattle.soak_receiver.specs.Taking.{returned, queued, on_board, TookFirst, TookNothing, TakesItem}
 use Rattle.soak_receiver.proofs.Moving.{left_at, moves_by, moves_both, hosting_by, StaysOpen}

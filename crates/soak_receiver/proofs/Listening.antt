@@ -19,8 +19,8 @@ use Rattle.acquisition_machine.specs.TurnLaws.{asked_by}
 use Rattle.acq_core.specs.declared.window.Window.{Window}
 use Rattle.acq_core.specs.Receiver.{config_of, asked_block, Takes, KeepsBlocks, buffers}
 use Rattle.acq_core.specs.Waiting.{waiting_fills, waiting_requests}
-use Rattle.mode_calls.specs.declared.mode.Mode.{Mode}
-use Rattle.mode_calls.specs.declared.mode.Mode.TheVariants.{OldestFirst}
+use Rattle.board_calls.specs.declared.mode.Mode.{Mode}
+use Rattle.board_calls.specs.declared.mode.Mode.TheVariants.{OldestFirst}
 use Rattle.script_trace.specs.Trace.{Trace, Part, board, grown, acquirer}
 use Rattle.script_trace.specs.Adding.{Spells}
 use Rattle.script_trace.specs.StreamLines.{Hears, HearsIfRunning, DatagramLine}
@@ -33,7 +33,7 @@ use Rattle.script_replay.proofs.Decoding.{running_drives}
 use Rattle.script_replay.proofs.Driving.{tick_drives, rests}
 use Rattle.script_replay.proofs.Replaying.{drive_goes}
 use Rattle.script_replay.proofs.Retiring.{keeps_twice}
-use Rattle.soak_host.specs.Receiver.{Receiver, soak_config, hears, told, told_again, claims, claim_of, acts_on, fills_all}
+use Rattle.world_laws.specs.Receiver.{Receiver, soak_config, hears, told, told_again, claims, claim_of, acts_on, fills_all}
 use Rattle.soak_receiver.specs.Moves.{IsOpen, IsHosting, IsLeft, Moves, Asks, heard_line}
 use Rattle.soak_receiver.proofs.Fillings.{LeavesOpen, fills_leave}
 use Rattle.soak_receiver.proofs.Moving.{left_at, moves_by, hosting_by, StaysOpen}

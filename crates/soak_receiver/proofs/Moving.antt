@@ -9,7 +9,7 @@ use Rattle.script_trace.specs.Trace.{Trace, Part, board, grown}
 use Rattle.script_trace.specs.Adding.{AddsPart, Leads}
 use Rattle.script_replay.specs.declared.running.Running.{Running}
 use Rattle.script_replay.specs.Replays.{StandsAt, Goes}
-use Rattle.soak_host.specs.Receiver.{Receiver, soak_config, start}
+use Rattle.world_laws.specs.Receiver.{Receiver, soak_config, start}
 use Rattle.soak_receiver.specs.Moves.{IsOpen, IsHosting, IsLeft, MovesAt, Moves}
 
 -- the receiver with what the trace leaves

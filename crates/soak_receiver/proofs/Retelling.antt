@@ -18,13 +18,13 @@ use Rattle.acquisition_machine.specs.Runs.{first_state, After as AcqAfter}
 use Rattle.acquisition_machine.proofs.Joining.{after_from-append}
 use Rattle.script_trace.specs.Trace.{Trace, Part, board, grown, acquirer}
 use Rattle.block_fills.specs.Fills.{FillsRetired}
-use Rattle.mode_calls.specs.declared.mode.Mode.{Mode}
-use Rattle.mode_calls.specs.declared.mode.Mode.TheVariants.{OldestFirst}
-use Rattle.mode_calls.specs.Modes.{ClaimsOnly, ClaimsFor}
+use Rattle.board_calls.specs.declared.mode.Mode.{Mode}
+use Rattle.board_calls.specs.declared.mode.Mode.TheVariants.{OldestFirst}
+use Rattle.board_calls.specs.Modes.{ClaimsOnly, ClaimsFor}
 use Rattle.script_trace.specs.Modes.{FillsBlock, FillsInMode, place_of}
 use Rattle.script_trace.proofs.Quiet.{BlockParts, block_parts}
 use Rattle.script_trace.specs.StreamLines.{Settles, Hears, retired_by, tells, told_twice, outcome}
-use Rattle.soak_host.specs.Receiver.{Receiver, soak_config, told, told_again, claims, claim_of, acts_on, fills_all}
+use Rattle.world_laws.specs.Receiver.{Receiver, soak_config, told, told_again, claims, claim_of, acts_on, fills_all}
 use Rattle.soak_receiver.specs.Moves.{IsLeft}
 use Rattle.soak_receiver.proofs.Fillings.{LeavesOpen, fills_compute, fills_leave}
 use Rattle.soak_receiver.proofs.Moving.{left_at}

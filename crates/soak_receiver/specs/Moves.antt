@@ -8,13 +8,13 @@ use Rattle.board_machine.specs.Machine.{Board}
 use Rattle.acquisition_machine.specs.Machine.{tick, request_bytes}
 use Rattle.acquisition_machine.specs.Runs.{After, turn}
 use Rattle.acq_core.specs.Receiver.{config_of}
-use Rattle.mode_calls.specs.declared.mode.Mode.TheVariants.{OldestFirst}
+use Rattle.board_calls.specs.declared.mode.Mode.TheVariants.{OldestFirst}
 use Rattle.script_trace.specs.Trace.{Trace, board}
 use Rattle.script_trace.specs.Adding.{Leads}
 use Rattle.script_trace.specs.Opening.{first_handles}
 use Rattle.script_replay.specs.declared.running.Running.{Running}
 use Rattle.script_replay.specs.Replays.{StandsAt, IsReplaying}
-use Rattle.soak_host.specs.Receiver.{Receiver, soak_config}
+use Rattle.world_laws.specs.Receiver.{Receiver, soak_config}
 
 -- ---- between two calls
 

@@ -16,7 +16,7 @@ use Rattle.board_machine.specs.Ids.{buffer_at}
 use Rattle.script_replay.specs.declared.running.Running.{Running}
 use Rattle.script_replay.specs.Replays.{StandsAt}
 use Rattle.world_machine.specs.State.{HostNumbers}
-use Rattle.soak_host.specs.Receiver.{Receiver, soak_config, takes_one}
+use Rattle.world_laws.specs.Receiver.{Receiver, soak_config, takes_one}
 use Rattle.soak_receiver.specs.declared.counts.SoakCounts.{SoakCounts}
 use Rattle.soak_receiver.specs.Moves.{IsLeft}
 

@@ -7,13 +7,13 @@ use Rattle.gev_script.specs.Lines as line
 use Rattle.gev_script.specs.Lines.{ScriptLine}
 use Rattle.board_machine.specs.Machine.{Board, vacant, empty_hands}
 use Rattle.acq_core.specs.Receiver.{config_of}
-use Rattle.mode_calls.specs.declared.mode.Mode.TheVariants.{OldestFirst}
+use Rattle.board_calls.specs.declared.mode.Mode.TheVariants.{OldestFirst}
 use Rattle.script_trace.specs.Trace.{Trace}
 use Rattle.script_trace.specs.Opening.{opening, first_handles}
 use Rattle.script_trace.specs.Adding.{Leads}
 use Rattle.script_replay.specs.declared.running.Running.{Running}
 use Rattle.script_replay.specs.Replays.{StandsAt, IsReplaying}
-use Rattle.soak_host.specs.Receiver.{soak_config, SOAK_BUFFER_SIZE, pooled_word, start}
+use Rattle.world_laws.specs.Receiver.{soak_config, SOAK_BUFFER_SIZE, pooled_word, start}
 use Rattle.soak_receiver.specs.Moves.{IsHosting, IsLeft}
 
 -- ---- lines

@@ -12,7 +12,7 @@ use Rattle.board_model.specs.Plain.{content_at}
 use Rattle.script_trace.specs.Trace.{caller}
 use Rattle.board_machine.specs.Ids.{buffer_at}
 use Rattle.script_replay.specs.declared.running.Running.{Running}
-use Rattle.soak_host.specs.Receiver.{Receiver, acts_on, waiting, takes_one}
+use Rattle.world_laws.specs.Receiver.{Receiver, acts_on, waiting, takes_one}
 use Rattle.soak_receiver.specs.Moves.{Moves, unchanged}
 
 -- the board after the output's first buffer, of this place, was taken and returned

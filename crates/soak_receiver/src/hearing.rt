@@ -1,10 +1,10 @@
 //! Datagrams of the stream.
 
 ghost use Rattle.std.specs.Prelude.{◌∷◌, []};
-ghost use Rattle.soak_host.specs.Receiver.{hears};
+ghost use Rattle.world_laws.specs.Receiver.{hears};
 ghost use Rattle.soak_receiver.specs.Moves.{IsHosting, Moves, heard_line};
 
-use mode_calls::Mode;
+use board_calls::Mode;
 use script_replay::{Running, receive};
 
 /// Tells a datagram. Where it wants a buffer, one is claimed and the datagram is told again; buffers that

@@ -3,7 +3,7 @@
 ghost use Rattle.std.specs.Prelude.{◌≡◌, ◌∷◌, [], ◌++◌, List, IfOk, OnOk, OnErr};
 ghost use Rattle.gev_script.specs.Lines as script_line;
 ghost use Rattle.gev_script.specs.Lines.{ScriptLine};
-ghost use Rattle.soak_host.specs.Receiver.{Receiver, start, soak_host, waiting};
+ghost use Rattle.world_laws.specs.Receiver.{Receiver, start, soak_host, waiting};
 ghost use Rattle.soak_receiver.specs.Moves.{heard_line};
 ghost use Rattle.soak_receiver.specs.Stocking.{start_lines};
 ghost use Rattle.soak_receiver.specs.Standing.{HostStands, HostTakes, numbers_in};

@@ -1,7 +1,7 @@
 //! The beginning of a host.
 
 ghost use Rattle.std.specs.Prelude.{◌≡◌, ◌+◌, ◌<◌, IfOk, OnOk};
-ghost use Rattle.soak_host.specs.Receiver.{soak_config};
+ghost use Rattle.world_laws.specs.Receiver.{soak_config};
 ghost use Rattle.soak_receiver.specs.Stocking.{IsStocked, IsAnnounced, HasBegun};
 
 use acquisition_machine::AcqConfig;

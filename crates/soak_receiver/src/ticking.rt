@@ -5,12 +5,12 @@ ghost use Rattle.gev_script.specs.Lines as script_line;
 ghost use Rattle.acquisition_machine.specs.Machine.{tick as told_moment};
 ghost use Rattle.acq_core.specs.Receiver.{KeepsBlocks};
 ghost use Rattle.acq_core.specs.Waiting.{waiting_fills, waiting_requests};
-ghost use Rattle.soak_host.specs.Receiver.{told};
+ghost use Rattle.world_laws.specs.Receiver.{told};
 ghost use Rattle.soak_receiver.specs.Moves.{IsHosting, Moves, Asks};
 
 use acq_core::Acq;
+use board_calls::Mode;
 use gev_types::NoMemory;
-use mode_calls::Mode;
 use script_replay::{Running, fill_retired};
 
 /// Drops the requests that wait in the receiver.

@@ -10,7 +10,7 @@ use Rattle.camera_machine.specs.Camera.{Camera, is_open}
 use Rattle.camera_machine.specs.Stream.{waiting_count}
 use Rattle.camera_machine.specs.Events as cameras
 use Rattle.client_machine.specs.Events as clients
-use Rattle.control_session.specs.Schedule.{Act, at_client, at_camera}
+use Rattle.world_machine.specs.Schedule.{Act, at_client, at_camera}
 use Rattle.world_machine.specs.State.{Host, Run, World}
 use Rattle.world_machine.specs.ClientTurn.{End, client_peer, stream_peer, setup_commands, client_turn}
 use Rattle.world_machine.specs.CameraTurn.{obeys, looks, camera_turn, is_due, makes}

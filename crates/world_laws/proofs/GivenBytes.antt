@@ -18,8 +18,8 @@ use Rattle.camera_machine.specs.Stream.{sent_packets, again, all_waiting, next_f
 use Rattle.camera_machine.specs.Events as cameras
 use Rattle.camera_machine.proofs.Walk.{Stays, stays_looked, stays_commanded}
 use Rattle.camera_machine.proofs.Waiting.{packets_all, held_all, staying_all, replies_all, waiting_push, waiting_reply, waiting_rest, next_sent}
-use Rattle.control_session.specs.Schedule.{Act, at_client, at_camera, new_line, after, camera_events}
-use Rattle.control_session.proofs.Apart.{apart}
+use Rattle.world_machine.specs.Schedule.{Act, at_client, at_camera, new_line, after, camera_events}
+use Rattle.world_machine.proofs.Apart.{apart}
 use Rattle.world_machine.specs.HostActs.{given_by, given_in, IsGiven}
 use Rattle.world_laws.proofs.Reading.{bytes_append, bytes_taken, bytes_dropped, spelled_small, header_small}
 use Rattle.world_laws.proofs.Made.{noise_small, last_all}

@@ -24,7 +24,7 @@ use Rattle.script_trace.specs.Fills.{tried_blocks, IsRetired}
 use Rattle.script_trace.specs.Laws.{KeepsPromises}
 use Rattle.script_trace.proofs.Handing.{leads_empty, opening_empty, filled_all, taken_all}
 use Rattle.camera_machine.specs.Sending.{AreGenerated}
-use Rattle.control_session.specs.Schedule.{new_line}
+use Rattle.world_machine.specs.Schedule.{new_line}
 use Rattle.world_machine.specs.HostActs.{given_in}
 use Rattle.world_laws.specs.Schedule.{WorldEvent, session_acts, host_lines}
 use Rattle.world_laws.specs.Images.{IsReadAsSent, HearsFrames, HoldsBlock, IsTrueImage, HasTrueImages, made_in, AreOfMade, IsGenerated, HasGeneratedImages}

@@ -14,8 +14,8 @@ use Rattle.camera_machine.specs.Events.{past, frames_made}
 use Rattle.camera_machine.specs.Sending.{AskFromOne, HaveRows, HaveSize}
 use Rattle.camera_machine.proofs.Sound.{Frames, sent_more}
 use Rattle.camera_machine.proofs.Sending.{size_step, lines_step, asks_rest, frames_grow, frames_are, packets_sent}
-use Rattle.control_session.specs.Schedule.{Act, at_client, at_camera, new_line, after, with_last, camera_events}
-use Rattle.control_session.proofs.Apart.{apart}
+use Rattle.world_machine.specs.Schedule.{Act, at_client, at_camera, new_line, after, with_last, camera_events}
+use Rattle.world_machine.proofs.Apart.{apart}
 use Rattle.world_machine.specs.HostActs.{given_by, given_in}
 use Rattle.world_laws.specs.Schedule.{WorldEvent, session_acts}
 use Rattle.world_laws.specs.Images.{FitsPackets, ShapeFits}

@@ -25,7 +25,7 @@ use Rattle.acquisition_machine.proofs.Frames.{fills_keep_frames}
 use Rattle.script_trace.specs.Trace.{acquirer}
 use Rattle.script_trace.specs.StreamLines.{outcome}
 use Rattle.world_machine.specs.HostActs.{HostAct, host_hears, host_ticks, host_takes, host_after}
-use Rattle.soak_host.specs.Receiver.{Receiver, soak_config, start, acts_on, fills_all, told, claim_of, claims, told_again, hears, takes_one, takes_each, waiting, soak_host}
+use Rattle.world_laws.specs.Receiver.{Receiver, soak_config, start, acts_on, fills_all, told, claim_of, claims, told_again, hears, takes_one, takes_each, waiting, soak_host}
 
 -- ---- what is kept
 

@@ -7,7 +7,7 @@ use Rattle.gev_types.specs.FrameSize.{IsImageSize}
 use Rattle.gev_frames.specs.Frames.{shape_size}
 use Rattle.gev_script.specs.Lines.{ScriptLine}
 use Rattle.board_machine.specs.Machine.{Item}
-use Rattle.control_session.specs.Schedule.{Act, at_camera, Line, after, IsAllowed, IsSchedule}
+use Rattle.world_machine.specs.Schedule.{Act, at_camera, Line, after, IsAllowed, IsSchedule}
 use Rattle.camera_machine.specs.Events.{set_short}
 use Rattle.world_machine.specs.State.{Host, Run, World, image_shape, STORE_ROOM}
 use Rattle.world_machine.specs.ClientTurn.{client_peer}
@@ -18,7 +18,7 @@ use Rattle.world_machine.specs.Laws.{start_line, AsksNoAccess}
 use Rattle.world_machine.proofs.Fits.{none_in, head_in, tail_in, cons_in}
 use Rattle.world_machine.proofs.Hosts.{host_is}
 use Rattle.world_machine.proofs.WholeRounds.{rounds_are_acts, hears_given}
-use Rattle.soak_host.specs.Receiver.{Receiver, waiting, takes_one}
+use Rattle.world_laws.specs.Receiver.{Receiver, waiting, takes_one}
 use Rattle.world_laws.specs.Schedule.{WorldEvent, at_session, hears, passes, applies, session_acts, host_lines, IsApplied, IsWorld}
 use Rattle.world_laws.specs.RunEvents.{Application, act_lines, lines_of_acts, with_lines, with_act, with_acts, events_after}
 use Rattle.world_laws.specs.SoakApplication.{soak_takes}

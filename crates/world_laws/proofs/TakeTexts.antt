@@ -20,7 +20,7 @@ use Rattle.world_machine.specs.State.{Run, image_shape}
 use Rattle.world_machine.specs.ClientTurn.{End}
 use Rattle.world_machine.specs.HostActs.{HostAct, host_hears, host_ticks, host_takes, host_after, host_acts_after}
 use Rattle.world_machine.proofs.Fits.{head_in, tail_in}
-use Rattle.soak_host.specs.Receiver.{Receiver, soak_config, start, takes_one, lines_each, waiting, soak_host}
+use Rattle.world_laws.specs.Receiver.{Receiver, soak_config, start, takes_one, lines_each, waiting, soak_host}
 use Rattle.world_laws.specs.TakeLines.{Taken, take_text, HasDigest, AreTakeLines, TextHasTakeLines}
 use Rattle.world_laws.proofs.RunTexts.{texts_of, text_is}
 use Rattle.world_laws.proofs.Receiving.{HoldsIfComplete, AreFramesFor, HearsSent, holds_after, waiting_holds}

@@ -15,8 +15,8 @@ use Rattle.script_trace.proofs.Promises.{traces_keep_by}
 use Rattle.script_trace.specs.Laws.{IsInPlace}
 use Rattle.script_trace.proofs.LinesGo.{lines_have_a_trace}
 use Rattle.hex.proofs.HexLemmas.{decode_of-encode_lower}
-use Rattle.control_session.specs.Schedule.{Line, new_line, after, IsSchedule}
-use Rattle.control_session.proofs.Lines.{acts_once}
+use Rattle.world_machine.specs.Schedule.{Line, new_line, after, IsSchedule}
+use Rattle.world_machine.proofs.Lines.{acts_once}
 use Rattle.world_machine.specs.HostActs.{given_at, given_in, IsGiven}
 use Rattle.world_machine.proofs.Fits.{none_in, head_in, tail_in, cons_in, kept_in}
 use Rattle.world_laws.specs.Schedule.{WorldEvent, at_session, hears, passes, applies, session_acts, lines_of, host_lines, IsApplied, MayCome, IsWorld}

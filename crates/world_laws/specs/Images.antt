@@ -24,7 +24,7 @@ use Rattle.script_trace.specs.Fills.{tried_blocks}
 use Rattle.camera_machine.specs.Camera.{new_camera}
 use Rattle.camera_machine.specs.Events.{past, frames_made}
 use Rattle.camera_machine.specs.Sending.{AreGenerated, AskFromOne, HaveRows, HaveSize}
-use Rattle.control_session.specs.Schedule.{camera_events}
+use Rattle.world_machine.specs.Schedule.{camera_events}
 use Rattle.world_laws.specs.Schedule.{WorldEvent, hears, session_acts}
 
 -- ---- frames

@@ -9,8 +9,8 @@ use Rattle.script_trace.specs.Trace.{Trace}
 use Rattle.script_trace.specs.Adding.{Leads}
 use Rattle.script_trace.specs.Opening.{opening}
 use Rattle.script_trace.specs.Laws.{KeepsPromises}
-use Rattle.control_session.specs.Schedule.{new_line, after}
-use Rattle.control_session.specs.Laws.{ActOnce}
+use Rattle.world_machine.specs.Schedule.{new_line, after}
+use Rattle.world_machine.specs.SessionLaws.{ActOnce}
 use Rattle.world_machine.specs.HostActs.{given_in}
 use Rattle.world_laws.specs.Schedule.{WorldEvent, session_acts, host_lines, IsWorld}
 use Rattle.world_laws.specs.Images.{AreOfFrames, HearsFrames, HasTrueImages, made_in, SendsFrames, AreOfMade, HasGeneratedImages}

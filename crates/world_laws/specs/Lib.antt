@@ -5,3 +5,10 @@ pub mod RunEvents
 pub mod SoakApplication
 pub mod RunLaws
 pub mod TakeLines
+pub mod Receiver
+pub mod Setup
+pub mod Beats
+pub mod Sizes
+pub mod Tail
+pub mod Ending
+pub mod Packets

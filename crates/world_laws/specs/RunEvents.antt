@@ -5,7 +5,7 @@ use Rattle.hex.specs.Hex.{encode_lower}
 use Rattle.gev_script.specs.Lines as line
 use Rattle.gev_script.specs.Lines.{ScriptLine}
 use Rattle.camera_machine.specs.Events.{set_short}
-use Rattle.control_session.specs.Schedule.{at_camera}
+use Rattle.world_machine.specs.Schedule.{at_camera}
 use Rattle.world_machine.specs.State.{Host, Run, World}
 use Rattle.world_machine.specs.Rounds.{world_after}
 use Rattle.world_machine.specs.Acts.{with_round}

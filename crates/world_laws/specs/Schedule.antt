@@ -6,7 +6,7 @@ use Rattle.gev_types.specs.declared.peer.Peer.{Peer}
 use Rattle.gev_script.specs.Lines as line
 use Rattle.gev_script.specs.Lines.{ScriptLine}
 use Rattle.gev_script.specs.Spelling.{IsStep}
-use Rattle.control_session.specs.Schedule.{Act, Line, after, IsAllowed}
+use Rattle.world_machine.specs.Schedule.{Act, Line, after, IsAllowed}
 use Rattle.world_machine.specs.HostActs.{given_in, IsGiven}
 
 pub data WorldEvent : Type 0 where

@@ -3,7 +3,7 @@ use Rattle.std.specs.Prelude.{List, [], ◌∷◌}
 use Rattle.gev_script.specs.Lines as line
 use Rattle.gev_script.specs.Lines.{ScriptLine}
 use Rattle.board_machine.specs.Machine.{Item, word_at}
-use Rattle.soak_host.specs.Receiver.{Receiver, SOAK_BUFFER_SIZE, waiting, takes_one}
+use Rattle.world_laws.specs.Receiver.{Receiver, SOAK_BUFFER_SIZE, waiting, takes_one}
 use Rattle.world_laws.specs.RunEvents.{Application}
 
 -- Four buffers are announced and queued, one after the other, and the stream is started.

@@ -13,7 +13,7 @@ use Rattle.world_machine.specs.State.{Run, World, image_shape}
 use Rattle.world_machine.specs.ClientTurn.{End}
 use Rattle.world_machine.specs.Rounds.{last_line}
 use Rattle.world_machine.specs.Laws.{EndsAfter}
-use Rattle.soak_host.specs.Receiver.{Receiver, soak_config, soak_host, start}
+use Rattle.world_laws.specs.Receiver.{Receiver, soak_config, soak_host, start}
 use Rattle.world_laws.specs.RunLaws.{RunHears}
 
 -- a buffer that was taken

@@ -15,7 +15,7 @@ use Rattle.client_machine.specs.Events.{Request}
 use Rattle.client_machine.specs.Events as clients
 use Rattle.camera_machine.specs.Camera.{Camera}
 use Rattle.camera_machine.specs.Events as cameras
-use Rattle.control_session.specs.Schedule.{Act, at_client, at_camera, Line, after, IsNoAccess, submission_of, taken_by, ack_of, with_last, bytes_of, AllowedAtClient, AllowedAtCamera, IsSchedule}
+use Rattle.world_machine.specs.Schedule.{Act, at_client, at_camera, Line, after, IsNoAccess, submission_of, taken_by, ack_of, with_last, bytes_of, AllowedAtClient, AllowedAtCamera, IsSchedule}
 use Rattle.world_machine.specs.State.{Run, World}
 use Rattle.world_machine.specs.Queues.{to_camera, to_host, sent_to_camera, all_to_camera, ack_to_host, packets_to_host}
 use Rattle.world_machine.specs.ClientTurn.{client_peer}

@@ -4,3 +4,11 @@ pub mod Turns
 pub mod Hosts
 pub mod WholeRounds
 pub mod SetFirst
+pub mod Lists
+pub mod Sessions
+pub mod Acks
+pub mod SessionTurns
+pub mod Clients
+pub mod Camera
+pub mod Lines
+pub mod Apart

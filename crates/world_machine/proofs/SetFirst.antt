@@ -11,7 +11,7 @@ use Rattle.camera_machine.specs.Stream.{waiting_count}
 use Rattle.camera_machine.specs.Events as cameras
 use Rattle.camera_machine.specs.Sending.{IsSetFirst}
 use Rattle.camera_machine.proofs.Sending.{rows_first}
-use Rattle.control_session.specs.Schedule.{Act, at_camera, camera_events}
+use Rattle.world_machine.specs.Schedule.{Act, at_camera, camera_events}
 use Rattle.world_machine.specs.State.{Host, Run, World, image_shape, STORE_ROOM}
 use Rattle.world_machine.specs.ClientTurn.{End, client_peer, stream_peer, setup_commands, client_turn}
 use Rattle.world_machine.specs.CameraTurn.{obeys, looks, camera_turn, is_due, makes}

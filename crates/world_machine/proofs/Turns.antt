@@ -16,8 +16,8 @@ use Rattle.camera_machine.specs.Stream.{waiting_count, all_waiting, first_waitin
 use Rattle.camera_machine.specs.Events.{turn_of, frame_turn}
 use Rattle.camera_machine.specs.Events as cameras
 use Rattle.camera_machine.proofs.Order.{in_order}
-use Rattle.control_session.specs.Schedule.{Act, at_client, at_camera, IsSubmission, AllowedAtCamera, ack_of, submission_of, camera_events}
-use Rattle.control_session.proofs.Apart.{apart}
+use Rattle.world_machine.specs.Schedule.{Act, at_client, at_camera, IsSubmission, AllowedAtCamera, ack_of, submission_of, camera_events}
+use Rattle.world_machine.proofs.Apart.{apart}
 use Rattle.world_machine.specs.State.{Host, Run, World, image_shape, STORE_ROOM}
 use Rattle.world_machine.specs.Queues.{ack_to_host}
 use Rattle.world_machine.specs.ClientTurn.{End, client_peer, stream_peer, write_of, setup_commands, submits, begins, client_turn}

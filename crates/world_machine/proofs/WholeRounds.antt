@@ -7,8 +7,8 @@ use Rattle.lossy_queue.specs.declared.datagram.Channel.TheVariants.{Stream}
 use Rattle.lossy_queue.specs.declared.datagram.Datagram.{Datagram}
 use Rattle.client_machine.specs.Machine.{Client}
 use Rattle.camera_machine.specs.Camera.{Camera}
-use Rattle.control_session.specs.Schedule.{Act}
-use Rattle.control_session.proofs.Lines.{acts_once}
+use Rattle.world_machine.specs.Schedule.{Act}
+use Rattle.world_machine.proofs.Lines.{acts_once}
 use Rattle.world_machine.specs.State.{Host, Run, World, image_shape, STORE_ROOM}
 use Rattle.world_machine.specs.ClientTurn.{End, done, client_peer, client_turn}
 use Rattle.world_machine.specs.CameraTurn.{camera_turn, makes}

@@ -9,7 +9,7 @@ use Rattle.lossy_queue.specs.declared.datagram.Datagram.{Datagram}
 use Rattle.camera_machine.specs.Camera.{Camera}
 use Rattle.camera_machine.specs.Stream.{first_waiting}
 use Rattle.camera_machine.specs.Events as cameras
-use Rattle.control_session.specs.Schedule.{Act, at_client, at_camera, Line, with_last, after}
+use Rattle.world_machine.specs.Schedule.{Act, at_client, at_camera, Line, with_last, after}
 use Rattle.world_machine.specs.State.{Host, Run, World}
 use Rattle.world_machine.specs.ClientTurn.{End, client_turn}
 use Rattle.world_machine.specs.CameraTurn.{camera_turn, makes}

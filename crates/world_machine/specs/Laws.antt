@@ -5,8 +5,8 @@ use Rattle.gvcp_wire.specs.Reading.{command_reading}
 use Rattle.camera_machine.specs.Camera.{new_camera}
 use Rattle.camera_machine.specs.Events.{past}
 use Rattle.camera_machine.specs.Sending.{HaveRows, IsSetFirst}
-use Rattle.control_session.specs.Schedule.{Act, Line, new_line, after, IsNoAccess, IsSchedule, camera_events}
-use Rattle.control_session.specs.Laws.{ActOnce}
+use Rattle.world_machine.specs.Schedule.{Act, Line, new_line, after, IsNoAccess, IsSchedule, camera_events}
+use Rattle.world_machine.specs.SessionLaws.{ActOnce}
 use Rattle.world_machine.specs.State.{Host, Run, World, image_shape, STORE_ROOM}
 use Rattle.world_machine.specs.ClientTurn.{End, client_peer}
 use Rattle.world_machine.specs.Rounds.{round, world_after}

@@ -9,3 +9,7 @@ pub mod Acts
 pub mod HostActs
 pub mod Laws
 pub mod Rows
+pub mod Sessions
+pub mod Schedule
+pub mod SessionLaws
+pub mod SessionRows

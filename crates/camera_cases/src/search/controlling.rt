@@ -9,7 +9,7 @@ use camera_control::{NotTaken, RegisterWrite, StreamWish, Taken, let_go, take_ca
 use control_client::Client;
 use gev_links::{CountsFaults, MemoryClock, MemoryLink};
 use gev_types::Peer;
-use read_filters::RegisterReads;
+use link_filters::RegisterReads;
 use std::alloc::{AllocError, Global};
 use std::str::Split;
 use std::sync::Wait;

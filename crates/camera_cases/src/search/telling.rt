@@ -4,10 +4,10 @@ use super::fields::add_words;
 use super::printing::{print_lines, print_text};
 use anyhow::Result;
 use camera_description::location_in;
+use camera_search::{DiscoveryAck, add_camera, add_count, read_discovery};
 use camera_words::{
     Settings, address_in, read_description, read_discover, read_receive, read_simulate,
 };
-use gvcp_discovery::{DiscoveryAck, add_camera, add_count, read_discovery};
 use gvcp_wire::parse_ack;
 
 /// A word as an IPv4 address.

@@ -7,9 +7,8 @@ use crate::kept::Kept;
 use crate::messages::{copied, is_access, is_behind};
 use crate::received::Received;
 use gev_types::Peer;
-use gvcp_aux::read_resend;
 use gvcp_wire::codes::{DISCOVERY_CMD, MAX_BODY_SIZE, PACKETRESEND_CMD};
-use gvcp_wire::{Command, CommandHead, Status};
+use gvcp_wire::{Command, CommandHead, Status, read_resend};
 
 impl Camera {
     ghost use Rattle.std.specs.Prelude.{◌≡◌, ◌≤◌, ◌||◌, length, take, option_map};

@@ -3,9 +3,9 @@
 use crate::fields::Fields;
 use crate::printing::print_text;
 use anyhow::Result;
+use frame_writing::{BlockIds, ReceiveCounts, add_frame, add_receive};
 use gentl_types::BufferId;
 use gev_types::{Buf, ImageInfo, Record};
-use receive_lines::{BlockIds, ReceiveCounts, add_frame, add_receive};
 use std::alloc::Global;
 
 /// An image of so many columns and rows, with this pixel format in hex, that was taken at this time; `-` tells nothing.

@@ -3,7 +3,7 @@
 use crate::case::Case;
 use crate::links::{CAMERA, tape_of};
 use crate::printing::{print_takes, print_text};
-use acquisition_laws::Mark;
+use acquisition_machine::Mark;
 use anyhow::{Result, anyhow};
 use gev_links::{DiscardingLink, Link, MemorySink, MemorySource};
 use gev_record::{RecordEnd, Tape, write_script};

@@ -13,11 +13,11 @@ use crate::workers::controlling::new_client;
 use crate::workers::receivers::new_receiver;
 use acq_core::Acq;
 use anyhow::Result;
+use board_calls::Mode;
 use buffer_words::{Board, Pass};
 use gev_acq::{Turn, acquire, drain};
 use gev_control::AcqEnd;
 use gev_links::{Clock, CountsFaults, Link, MeetingGate, MemoryLink};
-use mode_calls::Mode;
 use std::sync::Wait;
 
 /// How many turns a reader makes at most.

@@ -11,12 +11,12 @@ use crate::case::Case;
 use crate::links::{CAMERA, MemoryHost, new_host};
 use acq_core::{Acq, AcqConfig, Ended};
 use anyhow::Result;
+use board_calls::Mode;
 use buffer_words::{Board, Pass};
 use control_client::Client;
 use gev_acq::{HostMoments, Lent, Moments, Paced, Turn, drain, turn_once};
 use gev_control::TurnEnd;
 use gev_links::OpenGate;
-use mode_calls::Mode;
 use std::sync::Wait;
 
 const MODE: Mode = Mode::OldestFirst;

@@ -13,12 +13,12 @@ use crate::printing::print_sent;
 use crate::workers::receivers::WIDE;
 use acq_core::Acq;
 use anyhow::Result;
+use board_calls::Mode;
 use buffer_words::{Board, Pass};
 use control_client::Client;
 use gev_acq::{Acquired, Reader, read};
 use gev_links::{MemoryClock, MemoryLink, OpenGate};
 use live_crew::Worked;
-use mode_calls::Mode;
 use std::alloc::Global;
 use std::sync::Wait;
 

@@ -11,10 +11,10 @@ use crate::case::Case;
 use crate::workers::receivers::NARROW;
 use acq_core::Acq;
 use anyhow::{Result, anyhow};
+use board_calls::Mode;
 use buffer_words::{Board, Pass};
 use gev_acq::{Heard, fill_all, receive, retire_all, serve_turn};
 use gev_links::OpenGate;
-use mode_calls::Mode;
 use output_queue::close;
 use std::sync::Wait;
 

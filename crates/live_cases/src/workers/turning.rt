@@ -12,12 +12,12 @@ use crate::links::{CAMERA, MemoryHost, new_host};
 use crate::printing::print_sent;
 use acq_core::{Acq, AcqConfig};
 use anyhow::Result;
+use board_calls::Mode;
 use buffer_words::{Board, Pass};
 use camera_reader::{ReaderWords, TurnsDone, read_camera, tell_begin};
 use control_client::Client;
 use gev_acq::drain;
 use gev_links::{Clock, OpenGate};
-use mode_calls::Mode;
 use packet_requests::IdMode;
 use std::sync::Wait;
 

@@ -96,6 +96,6 @@ fn add_ranges(kept: &Bitmap, refused: &Bitmap, top: u32, out: &mut String) -> Op
         return None;
     }
     let mut ranges = ArrayVec::new();
-    gap_requests::requests(kept, refused, top, &mut ranges);
+    acq_core::requests(kept, refused, top, &mut ranges);
     write!(out, " {:?}", ranges.as_slice()).ok()
 }

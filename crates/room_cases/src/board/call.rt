@@ -1,8 +1,8 @@
 //! The calls that rows make on a board.
 
 use super::words::{buffer_id, byte, long, number, word};
+use board_calls::Mode;
 use gentl_types::BufferId;
-use mode_calls::Mode;
 
 /// A call of GenTL on the stream, on a buffer or on the event.
 #[derive(Clone, Copy)]

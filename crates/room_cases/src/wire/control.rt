@@ -1,11 +1,10 @@
 //! The messages of the control channel, read and written.
 
 use super::words::{bytes, number, number16, number32};
-use gvcp_aux::{Resend, read_pending, read_resend, write_discovery, write_resend};
 use gvcp_wire::codes::{READMEM_CMD, READREG_CMD};
 use gvcp_wire::{
-    Ack, Command, CommandHead, Status, has_extended_ids, parse_ack, parse_command, write_ack,
-    write_command,
+    Ack, Command, CommandHead, Resend, Status, has_extended_ids, parse_ack, parse_command,
+    read_pending, read_resend, write_ack, write_command, write_discovery, write_resend,
 };
 use std::alloc::Global;
 use std::str::SplitWhitespace;

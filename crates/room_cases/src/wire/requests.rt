@@ -4,7 +4,7 @@ use super::control::asking;
 use super::words::number;
 use gev_links::MemoryLink;
 use gev_types::Peer;
-use gvcp_aux::write_resend;
+use gvcp_wire::write_resend;
 use packet_requests::{IdMode, send_control_request, write_control_request};
 use std::alloc::Global;
 use std::fmt::Write;

@@ -1,6 +1,6 @@
 //! Each law of the definitions is called.
 
-use mode_calls::laws;
+use board_calls::laws;
 
 /// Those of modes.
 fn laws_of_modes() {

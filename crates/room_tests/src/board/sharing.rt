@@ -2,10 +2,10 @@
 
 use board_model::PlainBoard;
 use buffer_words::{Board, board_is_shared, tokens_cross};
+use gentl_events::share_board;
 use gentl_stream::{ds_borrow, ds_buffer_info, ds_info, ds_return};
 use gentl_types::State;
 use gev_links::MemoryClock;
-use shared_calls::share_board;
 use std::test::Fail;
 
 // Two threads share a board with one buffer: then the pool is empty, and the buffer waits in the output or

@@ -1,19 +1,19 @@
 //! Each law of one block and of an acquisition is called once, so each can be.
 
-use block_reasons::Reasons;
+use missing_ranges::Reasons;
 
 /// Those of ids that are missing, and of why.
 fn laws_of_missing_ids() {
-    id_ranges::holes_are_maximal();
-    id_ranges::holes_begin_with_first();
-    id_ranges::holes_ask_within();
-    id_ranges::holes_are_worked();
+    missing_ranges::holes_are_maximal();
+    missing_ranges::holes_begin_with_first();
+    missing_ranges::holes_ask_within();
+    missing_ranges::holes_are_worked();
     missing_ranges::missing_is_maximal();
     missing_ranges::missing_is_worked();
-    block_reasons::reasons_are_reasons();
-    block_reasons::short_ones_spoil();
-    block_reasons::lost_ids_have_no_packet();
-    block_reasons::reasons_are_worked();
+    missing_ranges::reasons_are_reasons();
+    missing_ranges::short_ones_spoil();
+    missing_ranges::lost_ids_have_no_packet();
+    missing_ranges::reasons_are_worked();
 }
 
 /// Those of which packets are kept.
@@ -83,14 +83,14 @@ fn laws_of_fills() {
 
 /// Those of what an acquisition reads and notes.
 fn laws_of_notes() {
-    acquisition_laws::places_are_not_read();
-    acquisition_laws::counts_are_not_read();
-    acquisition_laws::runs_agree();
-    acquisition_notes::counts_are_accounted();
-    acquisition_notes::blocks_are_accounted();
-    acquisition_notes::opened_are_accounted();
-    acquisition_notes::notes_are_reasoned();
-    acquisition_notes::notes_are_worked();
+    acquisition_machine::places_are_not_read();
+    acquisition_machine::counts_are_not_read();
+    acquisition_machine::runs_agree();
+    script_trace::counts_are_accounted();
+    script_trace::blocks_are_accounted();
+    script_trace::opened_are_accounted();
+    script_trace::notes_are_reasoned();
+    script_trace::notes_are_worked();
     acq_core::receivers_show_their_inputs();
 }
 

@@ -61,14 +61,14 @@ fn laws_of_rows() {
 
 /// Those of a camera's scripts.
 fn laws_of_scripts() {
-    camera_trace::lines_are_judged();
-    camera_trace::lines_are_in_place();
-    camera_trace::report_is_one();
-    camera_trace::turns_give_all();
-    camera_trace::lines_are_events();
-    camera_trace::reports_are_told();
-    camera_trace::scripts_are_worked();
-    camera_trace::scripts_tell();
+    camera_replay::lines_are_judged();
+    camera_replay::lines_are_in_place();
+    camera_replay::report_is_one();
+    camera_replay::turns_give_all();
+    camera_replay::lines_are_events();
+    camera_replay::reports_are_told();
+    camera_replay::scripts_are_worked();
+    camera_replay::scripts_tell();
 }
 
 /// Those of the client, and of a client and a camera together.
@@ -79,10 +79,10 @@ fn laws_of_clients() {
     client_machine::a_client_keeps_its_limit();
     client_machine::no_answer_comes_after_three_sends();
     client_machine::outcomes_that_end_a_command_are_exact();
-    control_session::commands_act_once();
-    control_session::acked_commands_were_executed();
-    control_session::a_line_is_its_client_and_its_camera();
-    control_session::worked_schedule_holds();
+    world_machine::commands_act_once();
+    world_machine::acked_commands_were_executed();
+    world_machine::a_line_is_its_client_and_its_camera();
+    world_machine::worked_schedule_holds();
 }
 
 #[test]

@@ -1,16 +1,15 @@
 //! Each law of scripts, reports and captures is a function with nothing to do, and is called once. Behind them:
 //! what readers do behind a read that fails.
 
+use capture_script::laws as captured;
 use capture_streams::{packets_are_counted, streams_are_within};
-use captured_scripts::laws as captured;
 use gev_capture::{CaptureEnd, Reader, captures_are_one, packets_have_bytes, pieces_tell};
 use gev_links::MemorySource;
 use gev_script::laws::{kinds_of_lines, read_is_spelled, spelled_is_read};
 use gev_script::{LineEnd, Lines};
 use note_report::ended_words_are_outcomes;
-use note_tape::tallies_are_counted;
+use note_tape::{rounds_are_told, tallies_are_counted};
 use script_image::laws::{pictures_show_blocks, taken_buffers_are_handed_so, takes_are_counted};
-use script_tape::rounds_are_told;
 use std::test::Fail;
 
 #[test]
@@ -50,15 +49,15 @@ fn laws_of_traces_can_be_called(_rt: HostRuntime) {
     script_trace::trace_is_one();
     script_trace::report_is_one();
     script_trace::scripts_are_worked();
-    script_notes::explanations_hold_reports();
-    script_notes::explanation_is_one();
-    script_notes::scripts_are_accounted();
-    script_notes::explanations_are_judged();
-    script_notes::drops_are_worked();
-    run_promises::traces_keep_headline();
-    run_promises::runs_keep_headline();
-    run_promises::blocks_hold_frames();
-    standard_scripts::laws::narrowed_scripts_run_alike();
+    script_trace::explanations_hold_reports();
+    script_trace::explanation_is_one();
+    script_trace::scripts_are_accounted();
+    script_trace::explanations_are_judged();
+    script_trace::drops_are_worked();
+    live_promises::traces_keep_headline();
+    live_promises::runs_keep_headline();
+    live_promises::blocks_hold_frames();
+    script_trace::laws::narrowed_scripts_run_alike();
 }
 
 /// Lines give a fault again at each further call, and read nothing.

@@ -43,12 +43,12 @@ fn laws_of_worlds() {
 
 /// Those of soak runs, of their ends and of their hosts.
 fn laws_of_soaks() {
-    soak_ends::setup_ends::<u8>();
-    soak_ends::commands_are_few::<u8>();
-    soak_ends::soak_run_ends();
-    soak_ends::soak_run_has_a_text();
-    soak_ends::soak_commands_act_once();
-    soak_ends::soak_packets_are_of_its_frames();
+    world_laws::setup_ends::<u8>();
+    world_laws::commands_are_few::<u8>();
+    world_laws::soak_run_ends();
+    world_laws::soak_run_has_a_text();
+    world_laws::soak_commands_act_once();
+    world_laws::soak_packets_are_of_its_frames();
     soak_receiver::hosts_keep_promises();
     soak_receiver::inputs_are_heard();
 }

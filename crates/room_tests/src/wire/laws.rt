@@ -32,11 +32,11 @@ fn laws_of_messages() {
 
 /// Those of the messages beside them, and of requests among commands.
 fn laws_of_requests() {
-    gvcp_aux::resend_reading_is_the_relation();
-    gvcp_aux::written_resend_is_read();
-    gvcp_aux::written_discovery_is_read();
-    gvcp_aux::pending_reading_is_the_relation();
-    gvcp_aux::written_pending_is_read();
+    gvcp_wire::resend_reading_is_the_relation();
+    gvcp_wire::written_resend_is_read();
+    gvcp_wire::written_discovery_is_read();
+    gvcp_wire::pending_reading_is_the_relation();
+    gvcp_wire::written_pending_is_read();
     packet_requests::laws::numbers_have_the_bit();
     packet_requests::laws::requests_ask_the_same();
     packet_requests::laws::early_commands_are_apart();

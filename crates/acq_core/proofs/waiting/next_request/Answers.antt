@@ -1,6 +1,6 @@
 use Rattle.std.proofs.Common.{◌≡◌, ◌<◌, ◌∷◌, length, subst, sym, arith, List}
 use Rattle.acq_core.specs.declared.asked.Asked.{Asked}
-use Rattle.gvcp_aux.specs.declared.resend.Resend.{Resend}
+use Rattle.gvcp_wire.specs.declared.resend.Resend.{Resend}
 use Rattle.acq_core.proofs.FirstOnes.{resends, resend_taken}
 use Rattle.acq_core.proofs.Wanting.{some_slots}
 use Rattle.acq_core.proofs.waiting.next_request.Goals as goal

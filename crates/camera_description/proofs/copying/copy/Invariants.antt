@@ -1,7 +1,7 @@
 use Rattle.std.proofs.Common.{◌≡◌, ℕ, ◌-◌, ◌≤◌, List}
 use Rattle.client_machine.specs.Machine.{IsIdle}
 use Rattle.gev_links.specs.Told.{Appends}
-use Rattle.read_filters.specs.Reads.{told_count}
+use Rattle.link_filters.specs.Reads.{told_count}
 use Rattle.camera_description.specs.Describing.{HasCopied}
 use Rattle.camera_description.proofs.copying.copy.Given as goal
 

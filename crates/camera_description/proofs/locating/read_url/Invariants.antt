@@ -1,4 +1,4 @@
-use Rattle.read_filters.specs.Reads.{told_count}
+use Rattle.link_filters.specs.Reads.{told_count}
 use Rattle.camera_description.proofs.locating.read_url.Given as goal
 
 abbrev pub ghosts-read_memory : goal.ghosts-read_memory

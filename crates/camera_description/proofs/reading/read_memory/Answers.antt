@@ -1,5 +1,5 @@
 use Rattle.std.proofs.Common.{sym, option_map}
-use Rattle.read_filters.specs.Reads.{with_memory, heard_since}
+use Rattle.link_filters.specs.Reads.{with_memory, heard_since}
 use Rattle.camera_description.proofs.Pieces.{same_heard, reads_as}
 use Rattle.camera_description.proofs.reading.read_memory.Goals as goal
 

@@ -1,6 +1,6 @@
 -- The last line tells as many cameras as were found.
 use Rattle.std.proofs.Common.{ℕ, List, Option, Some}
-use Rattle.gvcp_discovery.specs.CameraLine.{count_line}
+use Rattle.camera_search.specs.CameraLine.{count_line}
 use Rattle.camera_search.specs.declared.search_end.SearchEnd.{SearchEnd}
 use Rattle.camera_search.specs.declared.search_end.SearchEnd.TheVariants.{Done, LinkFault, WriteFault, NoMemory}
 use Rattle.camera_search.specs.Writing.{WroteText, WroteLast}

@@ -1,6 +1,6 @@
 -- The search begins, each turn goes on or ends it, and it ends by its time.
 use Rattle.std.proofs.Common.{ℕ, false, ◌++◌, [], ◌∷◌, refl, subst, sym, ◌∙◌}
-use Rattle.gvcp_discovery.specs.CameraLine.{count_line}
+use Rattle.camera_search.specs.CameraLine.{count_line}
 use Rattle.camera_search.specs.Writing.{WroteLast}
 use Rattle.camera_search.specs.Searched.{Searching, turned}
 use Rattle.camera_search.proofs.Runs.{told_from, added_to, search_begins, search_goes_on, search_over, search_lacks, search_unsent, search_lost, search_deaf, search_untold}

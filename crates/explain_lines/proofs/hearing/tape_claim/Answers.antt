@@ -1,6 +1,6 @@
 use Rattle.std.proofs.Common.{[], ◌∷◌, None, refl, sym, subst, Option}
 use Rattle.note_tape.specs.declared.told.Told.TheVariants.{Opened}
-use Rattle.script_tape.specs.Tells.{Tells}
+use Rattle.note_tape.specs.Tells.{Tells}
 use Rattle.script_replay.specs.declared.got.Got.{Got}
 use Rattle.explain_lines.specs.Hearing.{way_notes, claim_notes}
 use Rattle.explain_lines.proofs.Tapes.{tells_opened}

@@ -1,6 +1,6 @@
 use Rattle.std.proofs.Common.{◌≡◌, map, drop, List}
 use Rattle.board_machine.specs.Machine.{Board, Item}
-use Rattle.buffer_modes.specs.Gone.{gone_of}
+use Rattle.board_model.specs.Gone.{gone_of}
 use Rattle.explain_lines.specs.Marks.{KeepsMarks}
 use Rattle.explain_lines.proofs.Tapes.{GoneOn}
 use Rattle.explain_lines.proofs.retired.tape_gone.Given as goal

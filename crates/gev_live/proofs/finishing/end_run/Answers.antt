@@ -1,6 +1,6 @@
 use Rattle.std.proofs.Common.{sym, subst}
-use Rattle.live_answers.specs.Endings.{IsAnswer}
-use Rattle.live_answers.proofs.Statuses.{all_answers}
+use Rattle.gev_live.specs.Endings.{IsAnswer}
+use Rattle.gev_live.proofs.Statuses.{all_answers}
 use Rattle.gev_live.proofs.Telling.{ends_as}
 use Rattle.gev_live.proofs.finishing.end_run.Goals as goal
 

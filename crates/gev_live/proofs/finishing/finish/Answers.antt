@@ -1,7 +1,7 @@
 -- What was told isn't written.
 use Rattle.std.proofs.Common.{◌++◌, subst}
 use Rattle.gev_report.specs.LiveLine.{live_line}
-use Rattle.live_answers.specs.Endings.{EndsSo}
+use Rattle.gev_live.specs.Endings.{EndsSo}
 use Rattle.gev_live.proofs.finishing.finish.Goals as goal
 
 pub returns : goal.returns

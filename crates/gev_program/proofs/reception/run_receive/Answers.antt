@@ -1,5 +1,5 @@
 use Rattle.std.proofs.Common.{arith}
-use Rattle.receive_promises.proofs.Over.{receives_so}
+use Rattle.live_promises.proofs.Over.{receives_so}
 use Rattle.gev_program.proofs.Received.{receive_says, receive_ends}
 use Rattle.gev_program.proofs.reception.run_receive.Goals as goal
 

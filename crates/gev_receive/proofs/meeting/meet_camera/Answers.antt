@@ -1,5 +1,5 @@
 use Rattle.std.proofs.Common.{ap, ◌∙◌}
-use Rattle.receive_answers.specs.Answers.{stream_end}
+use Rattle.gev_receive.specs.Answers.{stream_end}
 use Rattle.gev_receive.proofs.MeetingLaws.{none_seen, meets_not, meets_streams}
 use Rattle.gev_receive.proofs.meeting.meet_camera.Goals as goal
 

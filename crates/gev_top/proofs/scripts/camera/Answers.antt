@@ -1,5 +1,5 @@
 use Rattle.std.proofs.Common.{refl}
-use Rattle.camera_trace.specs.Standing as plain
+use Rattle.camera_replay.specs.Standing as plain
 use Rattle.gev_top.proofs.Kept.{serves}
 use Rattle.gev_top.proofs.scripts.camera.Goals as goal
 

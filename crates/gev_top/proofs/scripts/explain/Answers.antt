@@ -1,5 +1,5 @@
 use Rattle.std.proofs.Common.{◌≡◌, Option, None, refl, sym, subst}
-use Rattle.script_notes.specs.Explaining.{untold}
+use Rattle.script_trace.specs.Explaining.{untold}
 use Rattle.script_explain.specs.declared.explained.Explained.{Explained}
 use Rattle.script_explain.specs.Explains.{StandsFor}
 use Rattle.gev_top.proofs.ExplainedRuns.{explains, explain_unbegun}

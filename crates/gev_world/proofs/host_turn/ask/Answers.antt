@@ -1,5 +1,5 @@
 use Rattle.std.proofs.Common.{◌∙◌}
-use Rattle.soak_host.specs.Receiver.{soak_host}
+use Rattle.world_laws.specs.Receiver.{soak_host}
 use Rattle.gev_world.proofs.Steps.{on_ok}
 use Rattle.gev_world.proofs.Asking.{asked, told_all}
 use Rattle.gev_world.proofs.host_turn.ask.Goals as goal

@@ -1,7 +1,7 @@
 use Rattle.std.proofs.Common.{List, ℕ, subst}
 use Rattle.std.proofs.lemmas.Result.{err_from_is_err_and}
 use Rattle.gev_links.specs.Told.{Appends, WritesFront}
-use Rattle.soak_host.specs.Receiver.{waiting}
+use Rattle.world_laws.specs.Receiver.{waiting}
 use Rattle.soak_receiver.specs.Standing.{HostTakes}
 use Rattle.gev_world.proofs.Taking.{take_written, take_stopped}
 use Rattle.gev_world.proofs.takes.write_take.Goals as goal

@@ -1,7 +1,7 @@
 -- The mark has what the entry of the journal tells.
 use Rattle.std.proofs.Common.{◌≡◌, Bool, List, [], ◌∷◌, ◌++◌, ap, ◌∙◌}
 use Rattle.std.specs.Prelude.{is_some}
-use Rattle.acquisition_laws.specs.declared.mark.Mark.{Mark}
+use Rattle.acquisition_machine.specs.declared.mark.Mark.{Mark}
 use Rattle.gev_acq.specs.declared.turn.Turn.{Turn}
 use Rattle.live_recording.specs.Marks.{mark_of}
 use Rattle.live_recording.proofs.marks.add_mark.Goals as goal

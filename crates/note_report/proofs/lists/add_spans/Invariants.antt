@@ -1,5 +1,5 @@
 use Rattle.std.proofs.Common.{take, map}
-use Rattle.acquisition_notes.specs.Texts.{span_text}
+use Rattle.script_trace.specs.Texts.{span_text}
 use Rattle.note_report.proofs.Joined.{StandsSo}
 use Rattle.note_report.proofs.lists.add_spans.Given as goal
 

@@ -1,5 +1,5 @@
 use Rattle.std.proofs.Common.{drop, List}
-use Rattle.acquisition_notes.specs.Notes.{Note}
+use Rattle.script_trace.specs.Notes.{Note}
 use Rattle.note_tape.specs.Telling.{AreNoted}
 use Rattle.note_tape.proofs.Prints.{PrintsOn}
 use Rattle.note_tape.proofs.printing.print.Given as goal

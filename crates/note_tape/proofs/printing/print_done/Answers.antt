@@ -1,6 +1,6 @@
 use Rattle.std.proofs.Common.{◌++◌, ap, ◌∙◌}
 use Rattle.std.proofs.lemmas.Result.{on_ok_weaker}
-use Rattle.acquisition_notes.specs.Texts.{words_line}
+use Rattle.script_trace.specs.Texts.{words_line}
 use Rattle.note_tape.proofs.Ends.{done_words, unbuffered_is}
 use Rattle.note_tape.proofs.printing.print_done.Goals as goal
 

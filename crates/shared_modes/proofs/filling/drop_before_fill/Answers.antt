@@ -1,8 +1,8 @@
 -- With OldestFirstOverwrite nothing is dropped before a fill.
 use Rattle.std.proofs.Common.{sym, subst}
 use Rattle.buffer_words.specs.Several.{EntersOf}
-use Rattle.buffer_modes.specs.Steps.{Drops}
-use Rattle.mode_calls.specs.declared.mode.Mode.{Mode}
+use Rattle.board_model.specs.Steps.{Drops}
+use Rattle.board_calls.specs.declared.mode.Mode.{Mode}
 use Rattle.shared_modes.proofs.Parts.{drops_nothing_too}
 use Rattle.shared_modes.proofs.filling.drop_before_fill.Goals as goal
 

@@ -1,7 +1,7 @@
 use Rattle.std.proofs.Common.{refl}
 use Rattle.std.proofs.lemmas.Result.{on_ok_weaker}
 use Rattle.gev_script.specs.Lines as script_line
-use Rattle.soak_host.specs.Receiver.{SOAK_BUFFER_SIZE}
+use Rattle.world_laws.specs.Receiver.{SOAK_BUFFER_SIZE}
 use Rattle.script_replay.proofs.Replaying.{call_goes}
 use Rattle.soak_receiver.proofs.Announcing.{announced_one}
 use Rattle.soak_receiver.proofs.starting.announce_buffer.Goals as goal

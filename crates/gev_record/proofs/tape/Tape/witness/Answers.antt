@@ -1,6 +1,6 @@
 use Rattle.std.proofs.Common.{subst}
 use Rattle.std.specs.List.{AllByRecursion}
-use Rattle.recorded_runs.specs.Marks.{IsReceived}
+use Rattle.gev_record.specs.Marks.{IsReceived}
 use Rattle.gev_record.specs.Taped.{TapeState, KeepsFront}
 use Rattle.gev_record.proofs.Front.{all_received}
 use Rattle.gev_record.proofs.tape.Tape.witness.Goals as goal

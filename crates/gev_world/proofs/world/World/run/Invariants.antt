@@ -1,5 +1,5 @@
 use Rattle.std.proofs.Common.{◌-◌, ◌*◌, suc}
-use Rattle.soak_ends.specs.Ending.{most_rounds}
+use Rattle.world_laws.specs.Ending.{most_rounds}
 use Rattle.gev_world.specs.Seen.{run_of}
 use Rattle.gev_world.proofs.Looping.{Going}
 use Rattle.gev_world.proofs.world.World.run.Given as goal

@@ -1,5 +1,0 @@
-pub mod Bare
-pub mod BareTurns
-pub mod Uncounted
-pub mod Lists
-pub mod Agreeing

@@ -1,3 +1,0 @@
-pub mod Erased
-pub mod Turns
-pub mod Laws

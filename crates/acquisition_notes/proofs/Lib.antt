@@ -1,6 +1,0 @@
-pub mod Counts
-pub mod Opened
-pub mod Spans
-pub mod Reasoned
-pub mod Rows
-pub mod OfInputs

@@ -1,4 +1,0 @@
-pub mod Reasons
-pub mod Lost
-pub mod Laws
-pub mod Worked

@@ -1,6 +1,0 @@
-use Rattle.buffer_modes.proofs.Parts.{fills}
-use Rattle.buffer_modes.proofs.plain.plain_fill_for.Goals as goal
-
-pub returns-clause-entries : goal.returns-clause-entries
-returns-clause-entries c =
-    fills _ _ _ _ c.drop_before_fill-dropped.result c.args.place c.args.mode c.args.buf _ c.drop_before_fill-dropped.ensures.entries c.fill.ensures.step

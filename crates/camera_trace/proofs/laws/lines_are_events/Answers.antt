@@ -1,5 +1,0 @@
-use Rattle.camera_trace.proofs.Telling.{lines_events}
-use Rattle.camera_trace.proofs.laws.lines_are_events.Goals as goal
-
-pub returns : goal.returns
-returns c = lines_events

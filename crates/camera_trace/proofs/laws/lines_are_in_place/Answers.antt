@@ -1,5 +1,0 @@
-use Rattle.camera_trace.proofs.InPlace.{in_place}
-use Rattle.camera_trace.proofs.laws.lines_are_in_place.Goals as goal
-
-pub returns : goal.returns
-returns c = in_place

@@ -1,5 +1,0 @@
-use Rattle.camera_trace.proofs.OneReport.{report_one}
-use Rattle.camera_trace.proofs.laws.report_is_one.Goals as goal
-
-pub returns : goal.returns
-returns c = report_one

@@ -1,5 +1,0 @@
-use Rattle.camera_trace.proofs.Telling.{reports_told}
-use Rattle.camera_trace.proofs.laws.reports_are_told.Goals as goal
-
-pub returns : goal.returns
-returns c = reports_told

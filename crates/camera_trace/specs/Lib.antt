@@ -1,5 +1,0 @@
-pub mod Serving
-pub mod Standing
-pub mod Printing
-pub mod Laws
-pub mod Worked

@@ -1,3 +1,0 @@
-pub mod Datagrams
-pub mod Laws
-pub mod Traces

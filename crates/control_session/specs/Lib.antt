@@ -1,4 +1,0 @@
-pub mod Sessions
-pub mod Schedule
-pub mod Laws
-pub mod Rows

@@ -1,3 +1,0 @@
-pub mod Resends
-pub mod Pendings
-pub mod Written

@@ -1,6 +1,0 @@
-use Rattle.std.proofs.Common.{arith}
-use Rattle.gvcp_aux.proofs.Written.{writes_resend}
-use Rattle.gvcp_aux.proofs.writing.write_resend.Goals as goal
-
-pub returns-clause-read_again : goal.returns-clause-read_again
-returns-clause-read_again c = writes_resend c.args.req c.args.resend c.requires (omega arith) c.body_of-body.ensures.fits

@@ -1,4 +1,0 @@
-pub mod Discovery
-pub mod CameraLine
-pub mod Pieces
-pub mod Laws

@@ -1,8 +1,0 @@
-//! Laws of the definitions. These functions do nothing: their contracts are the laws.
-
-ghost use Rattle.gvcp_discovery.specs.Laws.{RegistersAreTold};
-
-/// What is read of a camera's answer to DISCOVERY are its bootstrap registers.
-pub fn the_registers_are_told()
-    ensures { RegistersAreTold }
-{}

@@ -1,2 +1,0 @@
-pub mod HoleLemmas
-pub mod FirstLemmas

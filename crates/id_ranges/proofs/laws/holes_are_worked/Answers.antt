@@ -1,5 +1,0 @@
-use Rattle.std.proofs.Common.{refl}
-use Rattle.id_ranges.proofs.laws.holes_are_worked.Goals as goal
-
-pub returns : goal.returns
-returns c = record { within = refl; cut = refl; single = refl; whole = refl; none = refl; ends = refl }

@@ -1,5 +1,0 @@
-use Rattle.id_ranges.proofs.FirstLemmas.{holes_begin_with_first}
-use Rattle.id_ranges.proofs.laws.holes_begin_with_first.Goals as goal
-
-pub returns : goal.returns
-returns c = holes_begin_with_first

@@ -1,4 +1,0 @@
-pub mod Splits
-pub mod Claimed
-pub mod Alone
-pub mod Among

@@ -1,5 +1,0 @@
-use Rattle.mode_calls.proofs.Splits.{split}
-use Rattle.mode_calls.proofs.laws.each_removed_is_one.Goals as goal
-
-pub returns : goal.returns
-returns c = split

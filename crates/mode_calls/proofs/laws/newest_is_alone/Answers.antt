@@ -1,5 +1,0 @@
-use Rattle.mode_calls.proofs.Alone.{newest}
-use Rattle.mode_calls.proofs.laws.newest_is_alone.Goals as goal
-
-pub returns : goal.returns
-returns c = newest

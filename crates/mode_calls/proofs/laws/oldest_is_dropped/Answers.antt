@@ -1,5 +1,0 @@
-use Rattle.mode_calls.proofs.Claimed.{oldest}
-use Rattle.mode_calls.proofs.laws.oldest_is_dropped.Goals as goal
-
-pub returns : goal.returns
-returns c = oldest

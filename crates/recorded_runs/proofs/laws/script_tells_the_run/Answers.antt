@@ -1,5 +1,0 @@
-use Rattle.recorded_runs.proofs.Telling.{script_tells_the_run}
-use Rattle.recorded_runs.proofs.laws.script_tells_the_run.Goals as goal
-
-pub returns : goal.returns
-returns c = script_tells_the_run

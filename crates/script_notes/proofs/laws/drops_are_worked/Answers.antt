@@ -1,5 +1,0 @@
-use Rattle.script_notes.proofs.Worked.{drops_are_worked}
-use Rattle.script_notes.proofs.laws.drops_are_worked.Goals as goal
-
-pub returns : goal.returns
-returns c = drops_are_worked

@@ -1,2 +1,0 @@
-pub mod Retired
-pub mod Rounds

@@ -1,5 +1,0 @@
-use Rattle.script_tape.proofs.Rounds.{rounds_are_told}
-use Rattle.script_tape.proofs.laws.rounds_are_told.Goals as goal
-
-pub returns : goal.returns
-returns c = rounds_are_told

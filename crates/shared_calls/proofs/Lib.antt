@@ -1,3 +1,0 @@
-pub mod Preparing
-pub mod Acting
-pub mod Sharing
