@@ -1,5 +1,5 @@
 -- What an assembly stands for after one more packet.
-use Rattle.std.proofs.Common.{◌≡◌, ◌⊎◌, inl, inr, ℕ, ◌<◌, Bool, true, false, List, [], ◌∷◌, ◌++◌, length, set, replicate, None, refl, ap, sym, ◌∙◌, arith, subst}
+use Rattle.std.proofs.Common.{◌≡◌, ◌⊎◌, inl, inr, ℕ, ◌+◌, ◌<◌, Bool, true, false, List, [], ◌∷◌, ◌++◌, length, set, replicate, None, refl, ap, sym, ◌∙◌, arith, subst}
 use Rattle.std.specs.Prelude.{◌==◌, ◌||◌, ◌&&◌, not, nat_le, if◌then◌else◌}
 use Rattle.std.proofs.lemmas.Bool.{false≢true, leb-true, leb-false, eq-eqb, ne_eqb, and_parts, and_cases, and_left, and_right}
 use Rattle.std.proofs.lemmas.List.{length-set, length-replicate}
@@ -12,7 +12,7 @@ use Rattle.block_image.specs.Kept.{takes, kept, fits}
 use Rattle.block_image.specs.Sizes.{IsPayloadSize, IsBufferSize}
 use Rattle.block_image.proofs.Bools.{and_false, or_false}
 use Rattle.block_image.proofs.KeptLemmas.{kept-push, keep-taken, keep-left}
-use Rattle.block_image.proofs.ImageLemmas.{length-image_bytes}
+use Rattle.stream_packets.specs.FramePackets.{payload_count}
 use Rattle.block_image.proofs.CountLemmas.{placed_count-le, placed_end-le}
 use Rattle.missing_ranges.specs.Missing.{is_gone, has_gone}
 use Rattle.packet_bitmap.specs.Bits.{has}
@@ -23,6 +23,8 @@ use Rattle.block_assembly.specs.declared.verdict.Verdict.TheVariants.{Kept, Repe
 use Rattle.block_assembly.specs.Assembly.{IsAssembly, AssemblyStands, StandsForSome, IsSound}
 use Rattle.block_assembly.specs.Steps.{with_packet, noted, acted}
 use Rattle.block_assembly.specs.Verdicts.{IsRead, is_new, verdict_in, verdict_of}
+use Rattle.block_assembly.specs.Zeroed.{Zeroes}
+use Rattle.block_assembly.proofs.Zeros.{image_left}
 use Rattle.block_assembly.proofs.Marks.{has-set, has-clear, has_gone-push}
 use Rattle.block_assembly.proofs.Keeps.{leader_kept, trailer_kept, payload_kept, nothing_kept}
 
@@ -48,6 +50,7 @@ with_refused a r ks s = record {
   are_kept = s.are_kept;
   numbered = s.numbered;
   leaders = s.leaders;
+  buffer = s.buffer;
   bytes = s.bytes;
   wide = s.wide;
   ids = s.ids;
@@ -206,7 +209,7 @@ sound a some =
       wide = s.wide;
       wide_refused = some.stands.wide;
       told = s.told;
-      buffer = ap length s.bytes ∙ length-image_bytes a.payload_size ks a.size;
+      buffer = s.buffer;
       placed = omega (arith, s.placed, placed_count-le a.payload_size ks a.size);
       end = omega (arith, s.end, placed_end-le a.payload_size ks a.size);
     }
@@ -227,13 +230,13 @@ acts_for_some a new v x told done read of_block some = record {
 }
 
 -- an assembly that has taken nothing
-pub started : (a : Progress) → IsPayloadSize a.payload_size → IsBufferSize a.size → a.buf.bytes ≡ replicate a.size 0 → a.kept ≡ replicate packet_ids false → a.refused ≡ replicate packet_ids false
+pub started : (a : Progress) → IsPayloadSize a.payload_size → IsBufferSize a.size → length a.buf.bytes ≡ a.size → a.kept ≡ replicate packet_ids false → a.refused ≡ replicate packet_ids false
     → a.leader ≡ None → a.trailer ≡ None → a.count ≡ 0 → a.highest ≡ None → a.shortest ≡ None → a.placed ≡ 0 → a.end ≡ 0 → a.past ≡ false → AssemblyStands a a.payload_size a.block a.size []
-started a p n zeros clear none lead trail count high short placed end past = record {
+started a p n buffer clear none lead trail count high short placed end past = record {
   payload_size = refl;
   block = refl;
   buffer_size = refl;
-  assembly = nothing_kept a p n zeros clear lead trail count high short placed end past;
+  assembly = nothing_kept a p n buffer clear lead trail count high short placed end past;
   wide = ap length none ∙ length-replicate packet_ids false;
   gone = λ k low. ap (λ bits. has bits k) none ∙ has-clear packet_ids k;
 }
@@ -242,10 +245,13 @@ abbrev same_filling : List ℕ → Record → Filling
 same_filling bs r = record { bytes = bs; rec = r }
 
 -- the buffer in the end
-pub finished : (a : Progress) (f : Filling) (rec : Record) (p b size : ℕ) (heard : List StreamPacket) → AssemblyStands a p b size heard → f.bytes ≡ a.buf.bytes → f.rec ≡ rec
+pub finished : (a : Progress) (f : Filling) (rec : Record) (p b size : ℕ) (heard : List StreamPacket) → AssemblyStands a p b size heard
+    → Zeroes (has a.kept) a.payload_size (payload_count a.payload_size (length a.buf.bytes) + 1) a.buf.bytes f.bytes → f.rec ≡ rec
     → rec ≡ record_of a.payload_size a.block a.size (kept a.payload_size a.block heard) → f ≡ image p b size heard
-finished a f rec p b size heard s bytes same is_record =
-    ap (λ (bs : List ℕ). same_filling bs f.rec) (bytes ∙ s.assembly.bytes)
+finished a f rec p b size heard s zeroed same is_record =
+    let k = s.assembly in
+    ap (λ (bs : List ℕ). same_filling bs f.rec)
+    (image_left a.payload_size a.block a.size (kept a.payload_size a.block heard) a.buf.bytes f.bytes (has a.kept) k.payload_size k.are_kept k.numbered k.ids k.buffer k.bytes zeroed)
     ∙ ap (λ (r : Record). same_filling (image_bytes a.payload_size (kept a.payload_size a.block heard) a.size) r) (same ∙ is_record)
     ∙ ap (λ q. image q a.block a.size heard) s.payload_size
     ∙ ap (λ c. image p c a.size heard) s.block

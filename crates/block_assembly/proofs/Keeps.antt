@@ -1,6 +1,6 @@
 -- What an assembly keeps along stays right with one more kept packet.
 use Rattle.std.proofs.Common.{◌≡◌, ℕ, ◌+◌, ◌-◌, ◌<◌, ◌≤◌, true, false, min, max, List, [], ◌∷◌, ◌++◌, length, take, drop, replicate, set, Some, None, refl, ap, sym, ◌∙◌, arith, subst}
-use Rattle.std.specs.Prelude.{◌==◌, ◌||◌, nat_lt, is_some}
+use Rattle.std.specs.Prelude.{◌==◌, ◌||◌, nat_le, nat_lt, Bool, is_some}
 use Rattle.std.proofs.lemmas.Bool.{leb-true}
 use Rattle.std.proofs.lemmas.List.{append-nil, take-append-drop, length-set, length-replicate}
 use Rattle.std.proofs.Math.ListN.{drop_of_length-le}
@@ -19,7 +19,7 @@ use Rattle.block_image.proofs.FewerLines.{lines_in-push_leader, lines_in-push_pa
 use Rattle.block_image.proofs.Bools.{or_false}
 use Rattle.block_image.proofs.KeptLemmas.{has_id-push, has_trailer-push, has_trailer_at-push, reaches_past-push, reaches_past-append, leader_in-push_first, leader_in-push_payload, leader_in-push_trailer, leader_in-none}
 use Rattle.block_image.proofs.IsKept.{AllByRecursion-push, IsKept-push, IsKept-nil, takes_parts, may_keep_parts}
-use Rattle.block_image.proofs.ImageLemmas.{length-image_bytes, image_bytes-nil, image_bytes-push_payload, image_bytes-push_leader, image_bytes-push_trailer}
+use Rattle.block_image.proofs.ImageLemmas.{fresh}
 use Rattle.block_image.proofs.CountLemmas.{placed_count-nil, placed_end-nil, placed_count-push_payload, placed_count-push_leader, placed_count-push_trailer, placed_end-push_payload, placed_end-push_leader, placed_end-push_trailer}
 use Rattle.missing_ranges.specs.Missing.{higher}
 use Rattle.packet_bitmap.specs.Bits.{has}
@@ -27,8 +27,9 @@ use Rattle.block_assembly.specs.declared.progress.Progress.{Progress}
 use Rattle.block_assembly.specs.PacketIds.{packet_ids}
 use Rattle.block_assembly.specs.Shortest.{IsShortest}
 use Rattle.block_assembly.specs.Assembly.{IsAssembly, is_trailer_id, lines_of}
-use Rattle.block_assembly.specs.Steps.{with_leader, with_trailer, with_payload, end_inside}
+use Rattle.block_assembly.specs.Steps.{with_leader, with_trailer, with_payload, zeros_put, emptied_in, end_inside}
 use Rattle.block_assembly.specs.Verdicts.{IsRead}
+use Rattle.block_assembly.proofs.Zeros.{length-zeros_put, length-placed_in, places_none, places_leader, places_trailer, places_payload}
 use Rattle.block_assembly.proofs.Marks.{has-set, has-clear, count-push, highest-push}
 use Rattle.block_assembly.proofs.Shorts.{shortest-push_full, shortest-push}
 
@@ -77,7 +78,8 @@ leader_kept a ks h i s t read =
       are_kept = IsKept-push p a.block ks x s.are_kept t;
       numbered = AllByRecursion-push IsNumbered ks x s.numbered tt;
       leaders = AllByRecursion-push IsLeaderFirst ks x s.leaders read.0;
-      bytes = s.bytes ∙ sym (image_bytes-push_leader p ks h i a.size);
+      buffer = s.buffer;
+      bytes = places_leader p a.size ks h i a.buf.bytes read.0 s.bytes;
       wide = length-set a.kept h.id true ∙ s.wide;
       ids = λ k. ids-push a ks x k s t;
       leader = sym (leader_in-push_first ks h i none);
@@ -93,6 +95,10 @@ leader_kept a ks h i s t read =
       past = past_stays a ks x s refl;
     }
 
+emptied_length : (bytes : List ℕ) (p k size : ℕ) (has_place : Bool) → nat_le 1 k ≡ has_place → length (emptied_in bytes p k size) ≡ length bytes
+emptied_length bytes p k size true is = rw is (length-zeros_put bytes (payload_start p k) p size)
+emptied_length bytes p k size false is = rw is refl
+
 pub trailer_kept : (a : Progress) (ks : List StreamPacket) (h : Head) (y : ℕ) → IsAssembly a ks → takes a.payload_size a.block ks (trailer h y) ≡ true
     → IsAssembly (with_trailer a h y) (ks ++ trailer h y ∷ [])
 trailer_kept a ks h y s t =
@@ -105,7 +111,8 @@ trailer_kept a ks h y s t =
       are_kept = IsKept-push p a.block ks x s.are_kept t;
       numbered = AllByRecursion-push IsNumbered ks x s.numbered tt;
       leaders = AllByRecursion-push IsLeaderFirst ks x s.leaders tt;
-      bytes = s.bytes ∙ sym (image_bytes-push_trailer p ks h y a.size);
+      buffer = emptied_length a.buf.bytes p h.id a.size (nat_le 1 h.id) refl ∙ s.buffer;
+      bytes = places_trailer p a.block a.size ks h y a.buf.bytes s.are_kept s.numbered (takes_parts p a.block ks x t).new_id s.buffer s.bytes;
       wide = length-set a.kept h.id true ∙ s.wide;
       ids = λ k. ids-push a ks x k s t;
       leader = s.leader ∙ sym (leader_in-push_trailer ks h y);
@@ -121,34 +128,6 @@ trailer_kept a ks h y s t =
       past = past_stays a ks x s refl;
     }
 
-min_low : (at n : ℕ) → at ≤ n → min at n ≡ at
-min_low at n h = omega arith
-
-min_high : (at n : ℕ) → n ≤ at → min at n ≡ n
-min_high at n h = omega arith
-
-take_whole : (xs : List ℕ) (n : ℕ) → length xs ≤ n → take n xs ≡ xs
-take_whole xs n h =
-    sym (append-nil (take n xs)) ∙ ap (λ l. take n xs ++ l) (sym (drop_of_length-le xs h)) ∙ take-append-drop n xs
-
--- a piece that begins past the buffer changes nothing
-put_at-past : (bytes : List ℕ) (at : ℕ) (piece : List ℕ) → length bytes ≤ at → put_at bytes at piece ≡ bytes
-put_at-past bytes at piece h =
-    let none : length bytes - at ≡ 0 = omega arith in
-    let before : take at bytes ≡ bytes = take_whole bytes at h in
-    let after : drop (at + length piece) bytes ≡ [] = drop_of_length-le bytes (omega arith) in
-    rw (before, none, after, append-nil (bytes ++ take 0 piece), append-nil bytes) refl
-
--- so it doesn't matter where past it
-put_at-min : (bytes : List ℕ) (at size : ℕ) (piece : List ℕ) → length bytes ≡ size → put_at bytes (min at size) piece ≡ put_at bytes at piece
-put_at-min bytes at size piece e =
-    elim (dec_le at size) [
-      | yes low ↦ ap (λ k. put_at bytes k piece) (min_low at size low)
-      | no high ↦
-          ap (λ k. put_at bytes k piece) (min_high at size (omega arith))
-          ∙ put_at-past bytes size piece (omega arith) ∙ sym (put_at-past bytes at piece (omega arith))
-    ]
-
 pub payload_kept : (a : Progress) (ks : List StreamPacket) (h : Head) (d : List ℕ) → IsAssembly a ks → takes a.payload_size a.block ks (payload h d) ≡ true
     → IsRead (payload h d) → IsAssembly (with_payload a h d) (ks ++ payload h d ∷ [])
 payload_kept a ks h d s t read =
@@ -161,10 +140,8 @@ payload_kept a ks h d s t read =
       are_kept = IsKept-push p a.block ks x s.are_kept t;
       numbered = AllByRecursion-push IsNumbered ks x s.numbered read.0;
       leaders = AllByRecursion-push IsLeaderFirst ks x s.leaders tt;
-      bytes =
-          put_at-min a.buf.bytes start a.size d (ap length s.bytes ∙ length-image_bytes p ks a.size)
-          ∙ ap (λ l. put_at l start d) s.bytes
-          ∙ sym (image_bytes-push_payload p a.block ks h d a.size s.are_kept s.numbered read.0 t);
+      buffer = length-placed_in a.buf.bytes p a.size start d ∙ s.buffer;
+      bytes = places_payload p a.block a.size ks h d a.buf.bytes (fresh p a.block ks h d s.are_kept s.numbered read.0 t) s.buffer s.bytes;
       wide = length-set a.kept h.id true ∙ s.wide;
       ids = λ k. ids-push a ks x k s t;
       leader = s.leader ∙ sym (leader_in-push_payload ks h d);
@@ -186,16 +163,17 @@ payload_kept a ks h d s t read =
           ∙ sym (reaches_past-push p a.size ks h d);
     }
 
--- nothing kept, over a buffer of zeros
-pub nothing_kept : (a : Progress) → IsPayloadSize a.payload_size → IsBufferSize a.size → a.buf.bytes ≡ replicate a.size 0 → a.kept ≡ replicate packet_ids false
+-- nothing kept, whatever lies in the buffer
+pub nothing_kept : (a : Progress) → IsPayloadSize a.payload_size → IsBufferSize a.size → length a.buf.bytes ≡ a.size → a.kept ≡ replicate packet_ids false
     → a.leader ≡ None → a.trailer ≡ None → a.count ≡ 0 → a.highest ≡ None → a.shortest ≡ None → a.placed ≡ 0 → a.end ≡ 0 → a.past ≡ false → IsAssembly a []
-nothing_kept a p n zeros clear lead trail count high short placed end past = record {
+nothing_kept a p n buffer clear lead trail count high short placed end past = record {
   payload_size = p;
   size = n;
   are_kept = IsKept-nil a.payload_size a.block;
   numbered = tt;
   leaders = tt;
-  bytes = zeros ∙ sym (image_bytes-nil a.payload_size a.size);
+  buffer = buffer;
+  bytes = places_none a.payload_size a.size a.buf.bytes;
   wide = ap length clear ∙ length-replicate packet_ids false;
   ids = λ k. ap (λ bits. has bits k) clear ∙ has-clear packet_ids k;
   leader = lead;

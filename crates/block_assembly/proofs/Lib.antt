@@ -1,5 +1,6 @@
 pub mod Marks
 pub mod Shorts
+pub mod Zeros
 pub mod Keeps
 pub mod Counts
 pub mod Covers

@@ -1,9 +1,10 @@
 -- What the assembly of a block stands for: the packets of the block that it took, in order of arrival.
-use Rattle.std.specs.Prelude.{◌≡◌, ℕ, ◌-◌, ◌≤◌, ◌<◌, ◌^◌, min, ◌==◌, ◌&&◌, nat_le, List, length, Bool, false, Option, Some, None, is_some}
+use Rattle.std.specs.Prelude.{◌≡◌, ℕ, ◌-◌, ◌≤◌, ◌<◌, ◌^◌, ◌+◌, min, ◌==◌, ◌&&◌, nat_le, List, length, slice_index_or, Bool, true, false, Option, Some, None, is_some, unwrap_or}
 use Rattle.stream_packets.specs.Packets.{StreamPacket}
 use Rattle.block_image.specs.Kept.{kept, has_id, has_trailer}
 use Rattle.block_image.specs.KeptFacts.{IsKept, ArePayloadsNumbered, AreLeadersFirst}
-use Rattle.block_image.specs.Image.{image_bytes, placed_count, placed_end, reaches_past, leader_in, lines_in, has_trailer_at}
+use Rattle.stream_packets.specs.FramePackets.{payload_start}
+use Rattle.block_image.specs.Image.{placed, placed_count, placed_end, reaches_past, leader_in, lines_in, has_trailer_at}
 use Rattle.block_image.specs.Extent.{TellsSizeIfLeader}
 use Rattle.block_image.specs.Sizes.{IsPayloadSize, IsBufferSize}
 use Rattle.missing_ranges.specs.Missing.{has_gone, highest}
@@ -28,6 +29,13 @@ abbrev pub lines_of : Option Ending → Option ℕ
 lines_of None = None
 lines_of (Some ending) = Some ending.lines
 
+-- In the place of each kept packet lies what it placed there, and zeros elsewhere. Of the other places nothing is said: what lies there is of
+-- an earlier block, until the block retires.
+abbrev pub HasPlaces : ℕ → ℕ → List StreamPacket → List ℕ → Type 0
+HasPlaces p size ks bytes =
+    (k j : ℕ) → 1 ≤ k → has_id k ks ≡ true → payload_start p k ≤ j → j < payload_start p k + p → j < size
+    → slice_index_or bytes j 0 ≡ unwrap_or (placed p ks j) 0
+
 -- The assembly after just these packets were kept: each of its fields is what they give.
 pub record IsAssembly (a : Progress) (ks : List StreamPacket) : Type 0 where
   pub payload_size : IsPayloadSize a.payload_size
@@ -35,7 +43,8 @@ pub record IsAssembly (a : Progress) (ks : List StreamPacket) : Type 0 where
   pub are_kept : IsKept a.payload_size a.block ks
   pub numbered : ArePayloadsNumbered ks
   pub leaders : AreLeadersFirst ks
-  pub bytes : a.buf.bytes ≡ image_bytes a.payload_size ks a.size
+  pub buffer : length a.buf.bytes ≡ a.size
+  pub bytes : HasPlaces a.payload_size a.size ks a.buf.bytes
   pub wide : length a.kept ≡ packet_ids
   pub ids : (k : ℕ) → has a.kept k ≡ has_id k ks
   pub leader : a.leader ≡ leader_in ks

@@ -6,3 +6,4 @@ pub mod Steps
 pub mod Losing
 pub mod Accounts
 pub mod Laws
+pub mod Zeroed

@@ -1,5 +1,5 @@
 -- What a packet changes of an assembly.
-use Rattle.std.specs.Prelude.{ℕ, ◌+◌, ◌-◌, ◌^◌, min, max, ◌==◌, ◌&&◌, ◌||◌, not, nat_le, nat_lt, List, length, slice_set, true, Some, if◌then◌else◌}
+use Rattle.std.specs.Prelude.{ℕ, ◌+◌, ◌-◌, ◌^◌, min, max, ◌==◌, ◌&&◌, ◌||◌, not, nat_le, nat_lt, List, length, replicate, slice_set, true, Some, if◌then◌else◌}
 use Rattle.gev_types.specs.Limits.{max_packet_id}
 use Rattle.gev_types.specs.Placing.{put_at}
 use Rattle.stream_packets.specs.declared.fields.Head.{Head}
@@ -31,14 +31,30 @@ marked a id = record a {
 abbrev pub with_leader : Progress → Head → LeaderInfo → Progress
 with_leader a h i = record (marked a h.id) { leader = Some i }
 
+-- count zeros from a position on, in a buffer of this size
+abbrev pub zeros_put : List ℕ → ℕ → ℕ → ℕ → List ℕ
+zeros_put bytes at count size = put_at bytes (min at size) (replicate count 0)
+
+-- Zeros in the place of the payload with this id. The id 0 has no place.
+abbrev pub emptied_in : List ℕ → ℕ → ℕ → ℕ → List ℕ
+emptied_in bytes p k size = if nat_le 1 k then zeros_put bytes (payload_start p k) p size else bytes
+
+abbrev pub emptied : Progress → ℕ → Progress
+emptied a k = record a { buf = record a.buf { bytes = emptied_in a.buf.bytes a.payload_size k a.size } }
+
+-- a trailer with the id of a payload stands in its place, and has no bytes
 abbrev pub with_trailer : Progress → Head → ℕ → Progress
-with_trailer a h y = record (marked a h.id) { trailer = Some (record { id = h.id; lines = y }) }
+with_trailer a h y = record (marked (emptied a h.id) h.id) { trailer = Some (record { id = h.id; lines = y }) }
+
+-- The bytes of a payload in its place, and zeros in what it leaves of that.
+abbrev pub placed_in : List ℕ → ℕ → ℕ → ℕ → List ℕ → List ℕ
+placed_in bytes p size start d = zeros_put (put_at bytes (min start size) d) (start + length d) (p - length d) size
 
 abbrev pub with_payload : Progress → Head → List ℕ → Progress
 with_payload a h d =
     let start = payload_start a.payload_size h.id in
     record (marked a h.id) {
-      buf = record a.buf { bytes = put_at a.buf.bytes (min start a.size) d };
+      buf = record a.buf { bytes = placed_in a.buf.bytes a.payload_size a.size start d };
       shortest = shortest_with a.payload_size (record { id = h.id; len = length d }) a.shortest;
       placed = a.placed + count_inside start (length d) a.size;
       end = max a.end (end_inside start (length d) a.size);

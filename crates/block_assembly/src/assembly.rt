@@ -18,6 +18,7 @@ use crate::keeping::act;
 use crate::progress::Progress;
 use crate::recording::record;
 use crate::verdict::Verdict;
+use crate::zeroing::zero_missing;
 use gev_types::Buf;
 use gvsp_wire::Packet;
 use packet_bitmap::Bitmap;
@@ -43,8 +44,8 @@ impl Model for Assembly {
 }
 
 impl Assembly {
-    /// An assembly of this block that has taken nothing, over a buffer and two bitmaps, which it clears.
-    /// `payload_size` is the most bytes of a payload packet.
+    /// An assembly of this block that has taken nothing, over a buffer, whatever lies in it, and two bitmaps, which it
+    /// clears. `payload_size` is the most bytes of a payload packet.
     pub fn start(buf: Buf, kept: Bitmap, refused: Bitmap, block: u64, payload_size: u32) -> Assembly
         requires payload_size { IsPayloadSize payload_size }
         requires kept { length kept ≡ packet_ids }
@@ -52,11 +53,9 @@ impl Assembly {
         ensures stands { AssemblyStands result payload_size block (length buf.bytes) [] }
         ensures of_block { block_of result ≡ block }
     {
-        let mut buf = buf;
         let mut kept = kept;
         let mut refused = refused;
         let size = buf.bytes().len() as u32;
-        buf.clear();
         kept.reset();
         refused.reset();
         let progress = Progress {
@@ -148,6 +147,7 @@ impl Assembly {
         let Assembly { progress } = self;
         let rec = record(&progress);
         let mut buf = progress.buf;
+        zero_missing(&mut buf, &progress.kept, progress.payload_size);
         buf.set_rec(rec);
         (buf, progress.kept, progress.refused)
     }

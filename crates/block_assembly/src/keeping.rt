@@ -8,11 +8,12 @@ ghost use Rattle.block_assembly.specs.PacketIds.{packet_ids};
 ghost use Rattle.block_assembly.specs.Shortest.{lower_short, shortest_with};
 ghost use Rattle.block_assembly.specs.Assembly.{IsSound};
 ghost use Rattle.block_assembly.specs.Verdicts.{IsRead};
-ghost use Rattle.block_assembly.specs.Steps.{marked, with_leader, with_trailer, with_payload, with_packet, noted, acted};
+ghost use Rattle.block_assembly.specs.Steps.{emptied, marked, with_leader, with_trailer, with_payload, with_packet, noted, acted};
 
 use crate::progress::{Ending, Progress, Short};
 use crate::span::span_of;
 use crate::verdict::Verdict;
+use block_image::start_of_payload;
 use gev_types::MAX_PACKET_ID;
 use gvsp_wire::{Head, LeaderInfo, Packet};
 
@@ -48,11 +49,25 @@ fn keep_leader(assembly: &mut Progress, head: Head, info: LeaderInfo)
     assembly.leader = Some(info);
 }
 
+/// Makes the place of a payload zero.
+fn empty(assembly: &mut Progress, id: u32)
+    requires { IsSound assembly.old }
+    ensures { assembly.new ≡ emptied assembly.old id }
+{
+    if id >= 1 {
+        let start = start_of_payload(assembly.payload_size, id);
+        let start = start.min(u64::from(assembly.size)) as u32;
+        assembly.buf.zero(start, assembly.payload_size);
+    }
+}
+
 /// Keeps a trailer.
 fn keep_trailer(assembly: &mut Progress, head: Head, lines: u32)
-    requires { head.id < length assembly.old.kept }
+    requires sound { IsSound assembly.old }
+    requires id { head.id < length assembly.old.kept }
     ensures { assembly.new ≡ with_trailer assembly.old head lines }
 {
+    empty(assembly, head.id);
     mark(assembly, head.id);
     assembly.trailer = Some(Ending { id: head.id, lines });
 }
@@ -85,7 +100,7 @@ fn either(before: bool, past: bool) -> bool
     before || past
 }
 
-/// Keeps a payload, and puts its bytes into the buffer.
+/// Keeps a payload: puts its bytes into its place, and zeros behind them there.
 fn keep_payload(assembly: &mut Progress, head: Head, bytes: &[u8])
     requires sound { IsSound assembly.old }
     requires id { head.id < length assembly.old.kept }
@@ -95,14 +110,13 @@ fn keep_payload(assembly: &mut Progress, head: Head, bytes: &[u8])
 {
     let payload_size = assembly.payload_size;
     let span = span_of(payload_size, assembly.size, head.id, bytes.len());
+    let len = bytes.len() as u32;
     assembly.buf.put(span.start, bytes);
+    assembly.buf.zero(span.rest, payload_size - len);
     assembly.placed += span.count;
     assembly.end = assembly.end.max(span.end);
     assembly.past = either(assembly.past, span.past);
-    let new = Short {
-        id: head.id,
-        len: bytes.len() as u32,
-    };
+    let new = Short { id: head.id, len };
     assembly.shortest = shortest_with(payload_size, new, assembly.shortest);
     mark(assembly, head.id);
 }

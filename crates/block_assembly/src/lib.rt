@@ -16,6 +16,7 @@ mod progress; // what is known of the kept packets
 mod recording; // the record of a block
 mod span; // where a payload lies in the buffer
 mod verdict; // the answer to a packet
+mod zeroing; // zeros where nothing came
 
 pub use account::Account;
 pub use assembly::Assembly;

@@ -14,6 +14,8 @@ pub(crate) struct Span {
     pub count: u32,
     /// The end of these bytes, 0 if none lie there.
     pub end: u32,
+    /// Where its place goes on behind it, the buffer's size where that is past the buffer.
+    pub rest: u32,
     /// Whether the payload reaches past the buffer.
     pub past: bool,
 }
@@ -27,6 +29,7 @@ pub(crate) fn span_of(payload_size: u32, size: u32, id: u32, len: usize) -> Span
     ensures start { result.start ≡ min (payload_start payload_size id) size }
     ensures count { result.count ≡ count_inside (payload_start payload_size id) len size }
     ensures end { result.end ≡ end_inside (payload_start payload_size id) len size }
+    ensures rest { result.rest ≡ min (payload_start payload_size id + len) size }
     ensures past { result.past ≡ nat_lt size (payload_start payload_size id + len) }
 {
     let start = start_of_payload(payload_size, id);
@@ -38,6 +41,7 @@ pub(crate) fn span_of(payload_size: u32, size: u32, id: u32, len: usize) -> Span
         start: first,
         count: last - first,
         end: if first < size { last } else { 0 },
+        rest: last,
         past: limit < stop,
     }
 }

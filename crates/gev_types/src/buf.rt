@@ -75,6 +75,14 @@ impl Buf {
         self.bytes[start..start + count].copy_from_slice(&piece[..count]);
     }
 
+    /// Makes `count` bytes from position `at` on zero, as far as the buffer goes. The record stays.
+    pub fn zero(&mut self, at: u32, count: u32)
+        ensures bytes { self.new.bytes ≡ put_at self.old.bytes at (replicate count 0) }
+        ensures rec { self.new.rec ≡ self.old.rec }
+    {
+        zero_some(self.bytes.as_mut_slice(), at as usize, count as usize);
+    }
+
     /// Makes every byte zero and the record empty.
     pub fn clear(&mut self)
         ensures bytes { self.new.bytes ≡ replicate (length self.old.bytes) 0 }
@@ -93,4 +101,22 @@ impl Buf {
     {
         self.rec = rec;
     }
+}
+
+/// Makes `count` bytes from position `at` on zero, as far as these bytes go.
+fn zero_some(bytes: &mut [u8], at: usize, count: usize)
+    ensures { bytes.new ≡ put_at bytes.old at (replicate count 0) }
+{
+    if at >= bytes.len() {
+        return;
+    }
+    let count = (bytes.len() - at).min(count);
+    zero_all(&mut bytes[at..at + count]);
+}
+
+/// Makes each of these bytes zero.
+fn zero_all(bytes: &mut [u8])
+    ensures { bytes.new ≡ replicate (length bytes.old) 0 }
+{
+    bytes.fill(0);
 }

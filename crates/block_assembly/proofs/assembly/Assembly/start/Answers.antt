@@ -11,7 +11,7 @@ made c = record {
   payload_size = c.args.payload_size;
   block = c.args.block;
   size = length c.bytes.result.now;
-  buf = c.clear.new.self;
+  buf = c.args.buf;
   kept = c.reset.new.self;
   refused = c.reset-2.new.self;
   leader = None;
@@ -30,7 +30,7 @@ stands c =
     let fits : IsBufferSize (length c.bytes.result.now) = record { some = omega (arith, size, c.bytes.ensures.some); in_limits = omega (arith, size, c.bytes.ensures.in_limits) } in
     subst (λ (n : ℕ). AssemblyStands (made c) c.args.payload_size c.args.block n []) size
     (started (made c) c.requires.payload_size fits
-    (c.clear.ensures.bytes ∙ ap (λ (n : ℕ). replicate n 0) (sym size))
+    (sym size)
     (c.reset.ensures.bits ∙ ap (λ (n : ℕ). replicate n false) c.requires.kept)
     (c.reset-2.ensures.bits ∙ ap (λ (n : ℕ). replicate n false) c.requires.refused)
     refl refl refl refl refl refl refl refl)
