@@ -6,54 +6,7 @@ use std::io;
 pub(crate) const HELP: &str = "\
 gevacq: images of a GigE Vision camera from its datagrams, in GenTL buffers
 
-gevacq replay
-    Runs a script of buffer calls, datagrams and moments: reads it from standard
-    input and writes its report, line by line, to standard output.
-
-gevacq explain
-    Runs the same script, and writes before the report of each line what it tells
-    of lost frames and of datagrams that are in no image: why each incomplete
-    image is as it is, in lines that begin with `# `.
-
-gevacq image <k|all>
-    Runs the same script up to the k-th buffer that its `take` lines get, and
-    writes a picture of that one in place of the report: a PGM or PPM file. With
-    `all` it writes the pictures of all of them that have one, one after the
-    other.
-
-gevacq streams
-    Lists the image streams in a capture: reads a pcap or pcapng file from standard
-    input and writes a line for each stream.
-
-gevacq capture <port> <p> <bytes>
-    Makes a replay script of the datagrams to this port in a capture, which it reads
-    in the same way: payloads of at most <p> bytes, and buffers of so many bytes.
-
-gevacq camera
-    Runs a script of control messages on a simulated camera: reads it from
-    standard input and writes what the camera answers and sends.
-
-gevacq make <seed> <frames> <loss> <repeat> <swap>
-    Writes a replay script of so many test images behind a network that loses,
-    repeats and swaps so many packets of a thousand. Reads nothing.
-
-gevacq soak <seed> <frames> <loss> <repeat> <swap> [short]
-    Runs a camera, such a network, a client and a receiver as one machine, and
-    writes a line for each buffer that is taken, and at last what was counted.
-    Reads nothing. With `short` the image of block b lacks its last b mod 8
-    lines.
-
-gevacq live <seed> <frames> <buffers> <lanes> <turns> [<mode>]
-    Runs a camera and its host as threads over UDP on 127.0.0.1, and writes a
-    line for each of so many images that were handed out, and a last line. The
-    host ends after so many turns at most. Reads nothing. With mode 1 a new
-    image for which there is no buffer has that of the oldest image that waits,
-    with mode 2 a new image drops all that wait; else nothing is dropped.
-
-gevacq record <seed> <frames> <buffers> <turns>
-    Runs the same with one lane and mode 0, and writes in place of the lines a
-    replay script of what the host heard: replayed, it takes the images that the
-    run filled.
+With a camera on the network:
 
 gevacq discover [<address>]
     Looks for cameras on the network: asks at the address, or at all addresses of
@@ -74,7 +27,8 @@ gevacq receive <camera> <frames> [<word>..]
       packet=<n>      packet size in bytes, 576 to 9000, else 1500
       buffers=<n>     how many buffers, 1 to 15, else 8
       bytes=<n>       bytes of each, 1 to 67108864, else those of the first image
-      mode=<n>        0 to 2, else 0: what gives way where buffers are few, as in `live`
+      mode=<n>        0 to 2, else 0: what gives way where buffers are few: with 1
+                      the oldest image that waits, with 2 all that wait, else none
       window=<n>      open blocks at once, 1 to 4, else 4
       timeout=<ms>    1 to 60000, else 200: a block of which nothing came for so
                       long is given up
@@ -88,6 +42,39 @@ gevacq receive <camera> <frames> [<word>..]
                       such lines
     At most 64 registers are written, none that the program writes itself.
 
+With a capture of a network:
+
+gevacq streams
+    Lists the image streams in a capture: reads a pcap or pcapng file from standard
+    input and writes a line for each stream.
+
+gevacq capture <port> <p> <bytes>
+    Makes a replay script of the datagrams to this port in a capture, which it reads
+    in the same way: payloads of at most <p> bytes, and buffers of so many bytes.
+
+With a script:
+
+gevacq replay
+    Runs a script of buffer calls, datagrams and moments: reads it from standard
+    input and writes its report, line by line, to standard output.
+
+gevacq explain
+    Runs the same script, and writes before the report of each line what it tells
+    of lost frames and of datagrams that are in no image: why each incomplete
+    image is as it is, in lines that begin with `# `.
+
+gevacq image <k|all>
+    Runs the same script up to the k-th buffer that its `take` lines get, and
+    writes a picture of that one in place of the report: a PGM or PPM file. With
+    `all` it writes the pictures of all of them that have one, one after the
+    other.
+
+gevacq camera
+    Runs a script of control messages on a simulated camera: reads it from
+    standard input and writes what the camera answers and sends.
+
+To try it without a camera:
+
 gevacq simulate <address> [<word>..]
     Simulates a camera at this address of the machine: it answers a command a
     turn, sends an image a turn while its stream is open, and writes at last how
@@ -95,6 +82,32 @@ gevacq simulate <address> [<word>..]
     images, else 1; rate=<n>, 4 to 1000 turns a second, else 20; turns=<n>, 1 to
     4294967295, else the most; until=stdin to end where standard input has ended,
     else until=turns.
+
+gevacq make <seed> <frames> <loss> <repeat> <swap>
+    Writes a replay script of so many test images behind a network that loses,
+    repeats and swaps so many packets of a thousand. Reads nothing.
+
+gevacq soak <seed> <frames> <loss> <repeat> <swap> [short]
+    Runs a camera, such a network, a client and a receiver as one machine, and
+    writes a line for each buffer that is taken, and at last what was counted.
+    Reads nothing. With `short` the image of block b lacks its last b mod 8
+    lines.
+
+gevacq live <seed> <frames> <buffers> <lanes> <turns> [<mode>]
+    Runs a simulated camera and its host as threads over UDP on 127.0.0.1, and
+    writes a line for each of so many images that were handed out, and a last
+    line. The host ends after so many turns at most. Reads nothing, and meets no
+    camera of a network: `receive` does. With mode 1 a new image for which there
+    is no buffer has that of the oldest image that waits, with mode 2 a new image
+    drops all that wait; else nothing is dropped.
+
+gevacq record <seed> <frames> <buffers> <turns>
+    Runs what `live` runs, with one lane and mode 0, and writes in place of the
+    lines a replay script of what the host heard: replayed, it takes the images
+    that the run filled. It records no camera of a network: a capture does, which
+    `capture` makes such a script of.
+
+The program itself:
 
 gevacq --help, gevacq -h, gevacq help
     Prints this text; behind a command, as in `gevacq capture --help`, its part
