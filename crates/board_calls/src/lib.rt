@@ -7,11 +7,11 @@
 //! history, and `specs/Laws.antt` what holds of both.
 #![tactic(auto)]
 
-mod ends;
-pub mod laws;
-mod loans;
-mod mode;
-mod refusals;
+mod ends; // how a fill ended
+pub mod laws; // laws of modes and dropped buffers, as contracts
+mod loans; // the information of a buffer that is a loan
+mod mode; // the buffer handling modes
+mod refusals; // answers that follow from what was found
 
 pub use board_machine::TakeEnd;
 pub use ends::FillEnd;

@@ -1,4 +1,4 @@
--- The laws of control sessions, which `src/laws.rt` proves: the commands of a session act once, and an acknowledged command was executed.
+-- The laws of control sessions, which `src/session_laws.rt` proves: the commands of a session act once, and an acknowledged command was executed.
 use Rattle.std.specs.Prelude.{◌≡◌, ◌≢◌, ℕ, ◌<◌, List, [], ◌∷◌, ◌++◌, length, All, Some}
 use Rattle.std.specs.List.{Contains, AllPairs}
 use Rattle.gev_types.specs.declared.frame.Shape.{Shape}
