@@ -1,3 +1,4 @@
 pub mod Held
 pub mod Values
 pub mod Drawn
+pub mod PlainRows

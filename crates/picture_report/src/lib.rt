@@ -5,6 +5,7 @@
 
 mod head; // the picture's head
 mod pixels; // one pixel
+mod plain; // an image whose bytes are its pixels
 mod rows; // rows of pixels, to a sink
 mod stop; // why it wasn't written
 mod writing; // the whole picture

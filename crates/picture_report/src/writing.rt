@@ -6,6 +6,7 @@ ghost use Rattle.frame_pictures.specs.Pictures.{head_text, drawing, picture};
 ghost use Rattle.picture_report.specs.Writing.{DrawsBy};
 
 use crate::head::add_head;
+use crate::plain::{plain_pixels, write_both};
 use crate::rows::{PIECE, write_rows};
 use crate::stop::PictureStop;
 use frame_pictures::{NoPicture, Samples, fills_bytes, samples_of};
@@ -38,6 +39,9 @@ fn write_drawing<K: Sink>(
     ensures front { OnErr result (WritesFront (K.written sink.old) (K.written sink.new) (drawing samples info image.now)) }
     ensures failed { OnErr result (Rose (K.faults sink.old) (K.faults sink.new)) }
 {
+    if let Some(pixels) = plain_pixels(samples, info, image) {
+        return write_both(piece.as_slice(), pixels, sink);
+    }
     write_rows(samples, info, image, piece, sink)?;
     write_all(sink, piece.as_slice())
 }
