@@ -16,7 +16,7 @@ use std::time::Clock;
 use std::{env, io};
 
 /// The program's name and version.
-const VERSION: &str = "gevacq 0.3.0\n";
+const VERSION: &str = "gevacq 0.4.0\n";
 
 fn main(rt: HostRuntime) -> ExitCode {
     let status = match words(&rt) {
