@@ -1,4 +1,4 @@
--- The acquisition that a captured script plays: a window of two blocks over three buffers that go back at once. It
+-- The acquisition that a captured script plays: a window of four blocks over buffers that go back at once. It
 -- says behind which line of the script how many buffers are filled.
 use Rattle.std.specs.Prelude.{ℕ, ◌^◌, ◌&&◌, not, max, nat_lt, nat_le, List, [], ◌∷◌, ◌++◌, length, slice_index, Bool, Option, Some, None, Result, Ok, Err, if◌then◌else◌}
 use Rattle.gvsp_wire.specs.Reading.{is_extended}
@@ -11,9 +11,13 @@ use Rattle.acquisition_machine.specs.Blocks.{fills}
 use Rattle.acquisition_machine.specs.Machine.{Input, datagram, claimed, tick, stop}
 use Rattle.acquisition_machine.specs.Runs.{After, turn, retired_from}
 
+-- how many blocks may be open
+abbrev pub open_blocks : ℕ
+open_blocks = 4
+
 -- the numbers of the script's header: a block is old after 200 ms, and nothing is asked for
 abbrev pub config : ℕ → AcqConfig
-config p = record { p = p; window = 2; timeout = 200; age = 20; rounds = 0 }
+config p = record { p = p; window = open_blocks; timeout = 200; age = 20; rounds = 0 }
 
 pub record Played : Type 0 where
   -- what the acquisition was told, first in first

@@ -1,5 +1,5 @@
 -- The replay script of the datagrams to one port of a capture, as a function of the capture's packets.
-use Rattle.std.specs.Prelude.{ℕ, ◌==◌, ◌&&◌, ◌||◌, nat_lt, nat_le, List, [], ◌∷◌, ◌++◌, length, Bool, false, if◌then◌else◌}
+use Rattle.std.specs.Prelude.{ℕ, ◌==◌, ◌&&◌, ◌||◌, nat_lt, nat_le, List, [], ◌∷◌, ◌++◌, length, replicate, Bool, false, if◌then◌else◌}
 use Rattle.hex.specs.Hex.{encode_lower}
 use Rattle.gev_script.specs.Lines as line
 use Rattle.gev_script.specs.Lines.{ScriptLine}
@@ -7,16 +7,23 @@ use Rattle.gev_capture.specs.Contents.{Seen, other, fragment, cut, datagram, los
 use Rattle.gev_capture.specs.Sightings.{Sighting}
 use Rattle.capture_runs.specs.Texts.{Texts}
 pub use Rattle.take_lines.specs.Texts.{text_of, take_lines}
-use Rattle.capture_script.specs.Playing.{Played, Line, nothing_played, heard, ticked, stopped}
+use Rattle.capture_script.specs.Playing.{open_blocks, Played, Line, nothing_played, heard, ticked, stopped}
 
 abbrev pub header_line : ℕ → ScriptLine
-header_line p = line.header (record { version = 2; p = p; window = 2; timeout = 200; age = 20; rounds = 0 })
+header_line p = line.header (record { version = 2; p = p; window = open_blocks; timeout = 200; age = 20; rounds = 0 })
 
--- a receiver whose payloads have at most p bytes, with three buffers of this size
+-- a buffer for each open block, and one that is in the pool whatever comes
+abbrev pub script_buffers : ℕ
+script_buffers = 5
+
+-- a line for each of so many buffers of this size
+abbrev pub announce_lines : ℕ → ℕ → List ScriptLine
+announce_lines n size = replicate n (line.announce size)
+
+-- a receiver whose payloads have at most p bytes, with its buffers of this size
 abbrev pub opening_lines : ℕ → ℕ → List ScriptLine
 opening_lines p size =
-    header_line p ∷ line.announce size ∷ line.announce size ∷ line.announce size
-    ∷ line.flush 3 ∷ line.start ∷ []
+    header_line p ∷ announce_lines script_buffers size ++ line.flush 3 ∷ line.start ∷ []
 
 -- Each buffer that was filled is taken, and they go back.
 abbrev pub taking : ℕ → List ScriptLine

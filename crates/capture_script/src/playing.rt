@@ -52,7 +52,7 @@ impl Playing {
     {
         let config = AcqConfig {
             p,
-            window: 2,
+            window: 4,
             timeout: 200,
             age: 20,
             rounds: 0,

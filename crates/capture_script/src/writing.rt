@@ -4,7 +4,7 @@ ghost use Rattle.std.specs.Prelude.{◌≡◌, ◌≤◌, ◌<◌, ◌++◌, ◌
 ghost use Rattle.hex.specs.Hex.{encode_lower};
 ghost use Rattle.gev_script.specs.Lines as script_line;
 ghost use Rattle.gev_script.specs.Spelling.{IsDatagram};
-ghost use Rattle.capture_script.specs.Script.{text_of, header_line, opening_lines, taking};
+ghost use Rattle.capture_script.specs.Script.{text_of, header_line, announce_lines, opening_lines, taking};
 
 use gev_script::Line;
 use gev_types::NoMemory;
@@ -13,6 +13,9 @@ use take_lines::add_line;
 
 /// The GenTL number of the operation that queues each buffer that isn't.
 const UNQUEUED_TO_INPUT: u32 = 3;
+
+/// How many buffers a script announces: one more than blocks may be open.
+const BUFFERS: usize = 5;
 
 /// Adds the header of a script whose payloads have at most `p` bytes.
 fn add_header(alloc: Global, p: u32, out: &mut Vec<u8>) -> Result<(), NoMemory>
@@ -23,7 +26,7 @@ fn add_header(alloc: Global, p: u32, out: &mut Vec<u8>) -> Result<(), NoMemory>
     let header = Line::Header {
         version: 2,
         p,
-        window: 2,
+        window: 4,
         timeout: 200,
         age: 20,
         rounds: 0,
@@ -41,7 +44,20 @@ fn add_flush(alloc: Global, out: &mut Vec<u8>) -> Result<(), NoMemory>
     add_line(alloc, &flush, out)
 }
 
-/// Adds what stands before the first datagram: a receiver's numbers, three buffers, and the start.
+/// Adds a line for each of so many buffers of this size.
+fn add_announces(alloc: Global, count: usize, size: u32, out: &mut Vec<u8>) -> Result<(), NoMemory>
+    ensures { OnOk result (out.new.items ≡ out.old.items ++ text_of (announce_lines count size)) }
+{
+    let announce = Line::Announce {
+        size: u64::from(size),
+    };
+    for _ in 0..count {
+        add_line(alloc, &announce, out)?;
+    }
+    Ok(())
+}
+
+/// Adds what stands before the first datagram: a receiver's numbers, five buffers, and the start.
 pub(crate) fn add_opening(
     alloc: Global,
     p: u32,
@@ -52,13 +68,8 @@ pub(crate) fn add_opening(
     requires p_most { p ≤ 8964 }
     ensures { OnOk result (out.new.items ≡ out.old.items ++ text_of (opening_lines p size)) }
 {
-    let announce = Line::Announce {
-        size: u64::from(size),
-    };
     add_header(alloc, p, out)?;
-    add_line(alloc, &announce, out)?;
-    add_line(alloc, &announce, out)?;
-    add_line(alloc, &announce, out)?;
+    add_announces(alloc, BUFFERS, size, out)?;
     add_flush(alloc, out)?;
     add_line(alloc, &Line::Start, out)
 }

@@ -7,8 +7,9 @@ use Rattle.stream_packets.specs.declared.fields.LeaderInfo.{LeaderInfo}
 use Rattle.gev_capture.specs.Contents.{Seen, Carried, other, fragment, cut, datagram, lost}
 use Rattle.gev_capture.specs.Sightings.{Sighting}
 use Rattle.capture_streams.specs.declared.counts.Counts.{Counts}
+use Rattle.capture_streams.specs.declared.sign.Kind.{Kind}
+use Rattle.capture_streams.specs.declared.sign.Kind.TheVariants.{Leader, Payload, Other}
 use Rattle.capture_streams.specs.declared.sign.Sign.{Sign}
-use Rattle.capture_streams.specs.declared.sign.Sign.TheVariants.{Leader, Payload, Other}
 use Rattle.capture_streams.specs.declared.stream.Stream.{Stream}
 use Rattle.capture_streams.specs.Signs.{sign}
 
@@ -45,14 +46,20 @@ with_leader extended block info s = record s {
   last = block;
 }
 
-abbrev pub with_sign : Sign → Stream → Stream
-with_sign (Leader extended block info) s = with_leader extended block info s
-with_sign (Payload n) s = record s { payload = max s.payload n }
-with_sign Other s = s
+abbrev pub with_kind : Kind → Stream → Stream
+with_kind (Leader extended block info) s = with_leader extended block info s
+with_kind (Payload n) s = record s { payload = max s.payload n }
+with_kind Other s = s
+
+-- so many packets were sent again, and one more where this is one
+abbrev pub with_resent : Bool → ℕ → ℕ
+with_resent true n = one_more n
+with_resent false n = n
 
 -- one more datagram of a stream, at this moment
 abbrev pub with_one_more : ℕ → Sign → Stream → Stream
-with_one_more moment found s = with_sign found (record s { datagrams = one_more s.datagrams; ended = moment })
+with_one_more moment found s =
+    with_kind found.kind (record s { datagrams = one_more s.datagrams; resent = with_resent found.resent s.resent; ended = moment })
 
 -- a stream whose first leader, of this block, comes at this moment, before it's counted
 abbrev pub blank : Peer → Peer → ℕ → ℕ → Stream
@@ -63,6 +70,7 @@ blank sender receiver moment block = record {
   standard = false;
   datagrams = 0;
   payload = 0;
+  resent = 0;
   leaders = 0;
   width = 0;
   height = 0;
@@ -74,8 +82,9 @@ blank sender receiver moment block = record {
   ended = moment;
 }
 
-abbrev pub begun : Peer → Peer → ℕ → Bool → ℕ → LeaderInfo → Stream
-begun sender receiver moment extended block info = with_one_more moment (Leader extended block info) (blank sender receiver moment block)
+-- a stream with its first leader, which is of this block
+abbrev pub begun : Peer → Peer → ℕ → ℕ → Sign → Stream
+begun sender receiver moment block found = with_one_more moment found (blank sender receiver moment block)
 
 -- ---- the table
 
@@ -89,12 +98,15 @@ abbrev pub with_unlisted : Counts → Counts
 with_unlisted counts = record counts { unlisted = one_more counts.unlisted }
 
 -- A datagram of a pair that is no stream yet: a leader begins one, of which at most 256 are listed.
-abbrev pub with_new : Peer → Peer → ℕ → Sign → TableState → TableState
-with_new sender receiver moment (Leader extended block info) t =
-    if nat_lt (length t.streams) 256 then record { streams = t.streams ++ begun sender receiver moment extended block info ∷ []; counts = t.counts }
+abbrev pub with_new_by : Kind → Peer → Peer → ℕ → Sign → TableState → TableState
+with_new_by (Leader extended block info) sender receiver moment found t =
+    if nat_lt (length t.streams) 256 then record { streams = t.streams ++ begun sender receiver moment block found ∷ []; counts = t.counts }
     else record { streams = t.streams; counts = with_unlisted t.counts }
-with_new sender receiver moment (Payload n) t = t
-with_new sender receiver moment Other t = t
+with_new_by (Payload n) sender receiver moment found t = t
+with_new_by Other sender receiver moment found t = t
+
+abbrev pub with_new : Peer → Peer → ℕ → Sign → TableState → TableState
+with_new sender receiver moment found t = with_new_by found.kind sender receiver moment found t
 
 -- by the place of the pair's stream, if there is one
 abbrev pub with_datagram : Option ℕ → Peer → Peer → ℕ → Sign → TableState → TableState

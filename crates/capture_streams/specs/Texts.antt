@@ -36,6 +36,7 @@ stream_text s ms = concat (
     ∷ codes " ids=" ∷ ids_text s.extended s.standard
     ∷ codes " datagrams=" ∷ decimal s.datagrams
     ∷ codes " payload=" ∷ decimal s.payload
+    ∷ codes " resent=" ∷ decimal s.resent
     ∷ codes " leaders=" ∷ decimal s.leaders
     ∷ codes " width=" ∷ decimal s.width
     ∷ codes " height=" ∷ decimal s.height

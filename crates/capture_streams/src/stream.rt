@@ -1,8 +1,8 @@
 ghost use Rattle.std.specs.Prelude.{◌≡◌, ◌&&◌, ◌||◌, not, max};
 ghost use Rattle.gev_links.specs.Given.{one_more};
-ghost use Rattle.capture_streams.specs.Streams.{same_peer, is_between, with_leader, with_sign, with_one_more, blank, begun};
+ghost use Rattle.capture_streams.specs.Streams.{same_peer, is_between, with_leader, with_kind, with_resent, with_one_more, blank, begun};
 
-use crate::sign::Sign;
+use crate::sign::{Kind, Sign};
 use gev_types::Peer;
 use stream_packets::LeaderInfo;
 
@@ -21,6 +21,8 @@ pub(crate) struct Stream {
     pub datagrams: u64,
     /// The most bytes of a payload.
     pub payload: u64,
+    /// How many packets came that were sent again.
+    pub resent: u64,
     /// How many leaders came.
     pub leaders: u64,
     /// Pixels in a line, by the last leader.
@@ -46,6 +48,13 @@ pub(crate) fn one_more(count: u64) -> u64
     ensures { result ≡ one_more count }
 {
     count.saturating_add(1)
+}
+
+/// How many packets were sent again, where it's known whether this one was.
+fn with_resent(resent: bool, count: u64) -> u64
+    ensures { result ≡ with_resent resent count }
+{
+    if resent { one_more(count) } else { count }
 }
 
 /// Whether these are one address and port.
@@ -74,6 +83,7 @@ impl Stream {
             standard: false,
             datagrams: 0,
             payload: 0,
+            resent: 0,
             leaders: 0,
             width: 0,
             height: 0,
@@ -104,16 +114,16 @@ impl Stream {
     }
 
     /// The stream behind a datagram that is counted.
-    fn with_sign(self, sign: Sign) -> Stream
-        ensures { result ≡ with_sign sign self }
+    fn with_kind(self, kind: Kind) -> Stream
+        ensures { result ≡ with_kind kind self }
     {
-        match sign {
-            Sign::Leader(extended, block, info) => self.with_leader(extended, block, info),
-            Sign::Payload(count) => Stream {
+        match kind {
+            Kind::Leader(extended, block, info) => self.with_leader(extended, block, info),
+            Kind::Payload(count) => Stream {
                 payload: self.payload.max(count),
                 ..self
             },
-            Sign::Other => self,
+            Kind::Other => self,
         }
     }
 
@@ -123,26 +133,23 @@ impl Stream {
     {
         let counted = Stream {
             datagrams: one_more(self.datagrams),
+            resent: with_resent(sign.resent, self.resent),
             ended: moment,
             ..self
         };
-        counted.with_sign(sign)
+        counted.with_kind(sign.kind)
     }
 
-    /// The stream that this leader begins.
+    /// The stream that this leader begins, which is of this block.
     pub(crate) fn begun(
         sender: Peer,
         receiver: Peer,
         moment: u64,
-        extended: bool,
         block: u64,
-        info: LeaderInfo,
+        leader: Sign,
     ) -> Stream
-        ensures { result ≡ begun sender receiver moment extended block info }
+        ensures { result ≡ begun sender receiver moment block leader }
     {
-        Stream::blank(sender, receiver, moment, block).with_one_more(
-            moment,
-            Sign::Leader(extended, block, info),
-        )
+        Stream::blank(sender, receiver, moment, block).with_one_more(moment, leader)
     }
 }

@@ -119,6 +119,8 @@ pub(crate) fn add_stream(out: &mut Vec<u8>, stream: &Stream) -> Result<(), NoMem
             Piece::Number(stream.datagrams),
             Piece::Text(b" payload="),
             Piece::Number(stream.payload),
+            Piece::Text(b" resent="),
+            Piece::Number(stream.resent),
             Piece::Text(b" leaders="),
             Piece::Number(stream.leaders),
             Piece::Text(b" width="),

@@ -5,7 +5,7 @@ ghost use Rattle.capture_streams.specs.Signs.{sign};
 ghost use Rattle.capture_streams.specs.Streams.{is_between, with_one_more_at, with_new, with_carried, empty_table, counted};
 
 use crate::counts::Counts;
-use crate::sign::Sign;
+use crate::sign::{Kind, Sign};
 use crate::signing::sign;
 use crate::stream::Stream;
 use gev_capture::Content;
@@ -89,11 +89,11 @@ impl Table {
     fn count_new(&mut self, sender: Peer, receiver: Peer, moment: u64, sign: Sign)
         ensures { self.new ≡ with_new sender receiver moment sign self.old }
     {
-        let Sign::Leader(extended, block, info) = sign else {
+        let Kind::Leader(_extended, block, _info) = sign.kind else {
             return;
         };
         if self.streams.len() < MOST_STREAMS {
-            let stream = Stream::begun(sender, receiver, moment, extended, block, info);
+            let stream = Stream::begun(sender, receiver, moment, block, sign);
             self.streams.push_reserved(stream);
         } else {
             self.counts = self.counts.with_unlisted();
