@@ -1,5 +1,5 @@
 -- Lines that are added to the text.
-use Rattle.std.proofs.Common.{◌≡◌, ℕ, ◌≤◌, Bool, List, [], ◌∷◌, ◌++◌, ap, sym, ◌∙◌, subst, arith}
+use Rattle.std.proofs.Common.{◌≡◌, ℕ, zero, suc, ◌+◌, ◌≤◌, Bool, List, [], ◌∷◌, ◌++◌, refl, ap, sym, ◌∙◌, subst, arith, add-one}
 use Rattle.std.specs.Prelude.{◌||◌, if◌then◌else◌}
 use Rattle.std.proofs.lemmas.Bool.{ne_eqb}
 use Rattle.std.proofs.lemmas.List.{append-nil}
@@ -10,9 +10,17 @@ use Rattle.gev_capture.specs.Sightings.{Sighting}
 use Rattle.capture_runs.specs.Texts.{Tells}
 use Rattle.capture_script.specs.Playing.{Played, Line, heard, ticked, stopped}
 use Rattle.capture_script.specs.Standing.{PlayingState, StandsAt, PlaysLine}
-use Rattle.capture_script.specs.Script.{Scripted, Written, stands_in, Lines, text_of, take_lines, taking, with_takes, no_lines, both, goes_on, ticks, carries, sighted, script_texts, closing_lines}
+use Rattle.capture_script.specs.Script.{Scripted, Written, stands_in, Lines, text_of, take_lines, announce_lines, taking, with_takes, no_lines, both, goes_on, ticks, carries, sighted, script_texts, closing_lines}
 use Rattle.capture_script.specs.Scripting.{ScriptingState, StandsFor, AddsLines, IsWritten}
 use Rattle.take_lines.proofs.Texts.{added_both}
+
+one_announce : (n size : ℕ) → announce_lines n size ++ line.announce size ∷ [] ≡ announce_lines (n + 1) size
+one_announce zero size = refl
+one_announce (suc n) size = rw add-one (ap (λ (ls : List ScriptLine). line.announce size ∷ ls) (one_announce n size ∙ rw add-one refl))
+
+-- one more buffer
+pub announced_one : (n size : ℕ) (t0 t1 t2 : List ℕ) → t1 ≡ t0 ++ text_of (announce_lines n size) → t2 ≡ t1 ++ text_of (line.announce size ∷ []) → t2 ≡ t0 ++ text_of (announce_lines (n + 1) size)
+announced_one n size t0 t1 t2 e f = added_both (announce_lines n size) (line.announce size ∷ []) t0 t1 t2 e f ∙ ap (λ (ls : List ScriptLine). t0 ++ text_of ls) (one_announce n size)
 
 -- a line and the takes behind it
 added_line : (l : ScriptLine) (filled n : ℕ) (t0 t1 t2 : List ℕ) → filled ≡ n → t1 ≡ t0 ++ text_of (l ∷ []) → t2 ≡ t1 ++ text_of (taking filled) → t2 ≡ t0 ++ text_of (l ∷ taking n)

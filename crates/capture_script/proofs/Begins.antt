@@ -1,4 +1,4 @@
--- The first lines of a captured script: three buffers, which are pooled, and the start.
+-- The first lines of a captured script: five buffers, which are pooled, and the start.
 use Rattle.std.proofs.Common.{◌≤◌, ◌≡◌, ◌≢◌, ℕ, false, List, [], ◌∷◌, ◌++◌, replicate, refl, lit<, lit≤}
 use Rattle.std.specs.Prelude.{Some, None, Ok, Err, codes}
 use Rattle.gentl_types.specs.declared.errors.GcError.TheVariants.{OutOfMemory}
@@ -18,6 +18,7 @@ use Rattle.capture_script.proofs.Desk.{desk, live_word, Done}
 use Rattle.capture_script.proofs.Stages.{On, GoesTo, Goes, line_on, to_both}
 use Rattle.capture_script.proofs.StageLines.{flush_goes}
 use Rattle.gev_script.specs.Lines.{ScriptLine}
+use Rattle.capture_script.specs.Script.{script_buffers, announce_lines}
 
 -- board_before the start, with these words
 abbrev board_before : List Word → Board
@@ -46,6 +47,12 @@ board_two pp ss = board_before (free_word pp ss ∷ (free_word pp ss) ∷ replic
 abbrev board_three : (pp ss : ℕ) → Board
 board_three pp ss = board_before (free_word pp ss ∷ (free_word pp ss) ∷ (free_word pp ss) ∷ replicate 12 vacant)
 
+abbrev board_four : (pp ss : ℕ) → Board
+board_four pp ss = board_before (free_word pp ss ∷ (free_word pp ss) ∷ (free_word pp ss) ∷ (free_word pp ss) ∷ replicate 11 vacant)
+
+abbrev board_five : (pp ss : ℕ) → Board
+board_five pp ss = board_before (free_word pp ss ∷ (free_word pp ss) ∷ (free_word pp ss) ∷ (free_word pp ss) ∷ (free_word pp ss) ∷ replicate 10 vacant)
+
 abbrev first_events : (pp ss : ℕ) → List Event
 first_events pp ss = LookOut [] false ∷ Enrol 0 ss (Ok 1) ∷ Lay 0 ∷ []
 
@@ -55,9 +62,15 @@ second_events pp ss = LookOut [] false ∷ Enrol 0 ss (Err (free_word pp ss)) �
 abbrev third_events : (pp ss : ℕ) → List Event
 third_events pp ss = LookOut [] false ∷ Enrol 0 ss (Err (free_word pp ss)) ∷ Enrol 1 ss (Err (free_word pp ss)) ∷ Enrol 2 ss (Ok 1) ∷ Lay 2 ∷ []
 
--- all three places
+abbrev fourth_events : (pp ss : ℕ) → List Event
+fourth_events pp ss = LookOut [] false ∷ Enrol 0 ss (Err (free_word pp ss)) ∷ Enrol 1 ss (Err (free_word pp ss)) ∷ Enrol 2 ss (Err (free_word pp ss)) ∷ Enrol 3 ss (Ok 1) ∷ Lay 3 ∷ []
+
+abbrev fifth_events : (pp ss : ℕ) → List Event
+fifth_events pp ss = LookOut [] false ∷ Enrol 0 ss (Err (free_word pp ss)) ∷ Enrol 1 ss (Err (free_word pp ss)) ∷ Enrol 2 ss (Err (free_word pp ss)) ∷ Enrol 3 ss (Err (free_word pp ss)) ∷ Enrol 4 ss (Ok 1) ∷ Lay 4 ∷ []
+
+-- all five places
 abbrev pub all_pooled : List ℕ
-all_pooled = 0 ∷ 1 ∷ 2 ∷ []
+all_pooled = 0 ∷ 1 ∷ 2 ∷ 3 ∷ 4 ∷ []
 
 is_held : Held ≡ Vacant → ⊥
 is_held e = cc
@@ -70,46 +83,31 @@ has_one i e = cc
 
 first_done : (pp ss : ℕ) → 1 ≤ ss → ss ≤ 67108864 → Done board_none (entries_of caller (first_events pp ss)) (board_one pp ss)
 first_done pp ss lo hi = record {
-  runs = (
-    record { actor = is_empty; meets = (refl, refl) },
-    (
-      record { actor = is_empty; meets = (lit< tt, lo, hi, (refl, lit< tt), refl) },
-      (record { actor = has_one 0; meets = lit≤ tt }, tt),
-    ),
-  );
+  runs = (record { actor = is_empty; meets = (refl, refl) }, (record { actor = is_empty; meets = (lit< tt, lo, hi, (refl, lit< tt), refl) }, (record { actor = has_one 0; meets = lit≤ tt }, tt)));
   after = refl;
 }
 
 second_done : (pp ss : ℕ) → 1 ≤ ss → ss ≤ 67108864 → Done (board_one pp ss) (entries_of caller (second_events pp ss)) (board_two pp ss)
 second_done pp ss lo hi = record {
-  runs = (
-    record { actor = is_empty; meets = (refl, refl) },
-    (
-      record { actor = is_empty; meets = (lit< tt, lo, hi, refl, λ can. is_held can.0) },
-      (
-        record { actor = is_empty; meets = (lit< tt, lo, hi, (refl, lit< tt), refl) },
-        (record { actor = has_one 1; meets = lit≤ tt }, tt),
-      ),
-    ),
-  );
+  runs = (record { actor = is_empty; meets = (refl, refl) }, (record { actor = is_empty; meets = (lit< tt, lo, hi, refl, λ can. is_held can.0) }, (record { actor = is_empty; meets = (lit< tt, lo, hi, (refl, lit< tt), refl) }, (record { actor = has_one 1; meets = lit≤ tt }, tt))));
   after = refl;
 }
 
 third_done : (pp ss : ℕ) → 1 ≤ ss → ss ≤ 67108864 → Done (board_two pp ss) (entries_of caller (third_events pp ss)) (board_three pp ss)
 third_done pp ss lo hi = record {
-  runs = (
-    record { actor = is_empty; meets = (refl, refl) },
-    (
-      record { actor = is_empty; meets = (lit< tt, lo, hi, refl, λ can. is_held can.0) },
-      (
-        record { actor = is_empty; meets = (lit< tt, lo, hi, refl, λ can. is_held can.0) },
-        (
-          record { actor = is_empty; meets = (lit< tt, lo, hi, (refl, lit< tt), refl) },
-          (record { actor = has_one 2; meets = lit≤ tt }, tt),
-        ),
-      ),
-    ),
-  );
+  runs = (record { actor = is_empty; meets = (refl, refl) }, (record { actor = is_empty; meets = (lit< tt, lo, hi, refl, λ can. is_held can.0) }, (record { actor = is_empty; meets = (lit< tt, lo, hi, refl, λ can. is_held can.0) }, (record { actor = is_empty; meets = (lit< tt, lo, hi, (refl, lit< tt), refl) }, (record { actor = has_one 2; meets = lit≤ tt }, tt)))));
+  after = refl;
+}
+
+fourth_done : (pp ss : ℕ) → 1 ≤ ss → ss ≤ 67108864 → Done (board_three pp ss) (entries_of caller (fourth_events pp ss)) (board_four pp ss)
+fourth_done pp ss lo hi = record {
+  runs = (record { actor = is_empty; meets = (refl, refl) }, (record { actor = is_empty; meets = (lit< tt, lo, hi, refl, λ can. is_held can.0) }, (record { actor = is_empty; meets = (lit< tt, lo, hi, refl, λ can. is_held can.0) }, (record { actor = is_empty; meets = (lit< tt, lo, hi, refl, λ can. is_held can.0) }, (record { actor = is_empty; meets = (lit< tt, lo, hi, (refl, lit< tt), refl) }, (record { actor = has_one 3; meets = lit≤ tt }, tt))))));
+  after = refl;
+}
+
+fifth_done : (pp ss : ℕ) → 1 ≤ ss → ss ≤ 67108864 → Done (board_four pp ss) (entries_of caller (fifth_events pp ss)) (board_five pp ss)
+fifth_done pp ss lo hi = record {
+  runs = (record { actor = is_empty; meets = (refl, refl) }, (record { actor = is_empty; meets = (lit< tt, lo, hi, refl, λ can. is_held can.0) }, (record { actor = is_empty; meets = (lit< tt, lo, hi, refl, λ can. is_held can.0) }, (record { actor = is_empty; meets = (lit< tt, lo, hi, refl, λ can. is_held can.0) }, (record { actor = is_empty; meets = (lit< tt, lo, hi, refl, λ can. is_held can.0) }, (record { actor = is_empty; meets = (lit< tt, lo, hi, (refl, lit< tt), refl) }, (record { actor = has_one 4; meets = lit≤ tt }, tt)))))));
   after = refl;
 }
 
@@ -143,24 +141,40 @@ three_goes pp ss lo hi t s =
     (Ok (buffer 2 1), not_memory 2, record { events = (third_events pp ss); kind = ((lo, hi), (free_word pp ss ∷ (free_word pp ss) ∷ [], refl, record { output = []; is = refl })); is = refl })
     (third_done pp ss lo hi) (tt, (tt, (tt, (tt, (tt, tt)))))
 
+four_goes : (pp ss : ℕ) → 1 ≤ ss → ss ≤ 67108864 → (t : Trace) → On t (board_three pp ss) → GoesTo pp ss t (line.announce ss ∷ []) [] (board_four pp ss)
+four_goes pp ss lo hi t s =
+    (line_on pp ss) t (line.announce ss) (entries_of caller (fourth_events pp ss)) [] (id_text (codes "announce") (Ok (buffer 3 1))) (board_three pp ss) (board_four pp ss) s
+    (Ok (buffer 3 1), not_memory 3, record { events = (fourth_events pp ss); kind = ((lo, hi), (free_word pp ss ∷ (free_word pp ss) ∷ (free_word pp ss) ∷ [], refl, record { output = []; is = refl })); is = refl })
+    (fourth_done pp ss lo hi) (tt, (tt, (tt, (tt, (tt, (tt, tt))))))
+
+five_goes : (pp ss : ℕ) → 1 ≤ ss → ss ≤ 67108864 → (t : Trace) → On t (board_four pp ss) → GoesTo pp ss t (line.announce ss ∷ []) [] (board_five pp ss)
+five_goes pp ss lo hi t s =
+    (line_on pp ss) t (line.announce ss) (entries_of caller (fifth_events pp ss)) [] (id_text (codes "announce") (Ok (buffer 4 1))) (board_four pp ss) (board_five pp ss) s
+    (Ok (buffer 4 1), not_memory 4, record { events = (fifth_events pp ss); kind = ((lo, hi), (free_word pp ss ∷ (free_word pp ss) ∷ (free_word pp ss) ∷ (free_word pp ss) ∷ [], refl, record { output = []; is = refl })); is = refl })
+    (fifth_done pp ss lo hi) (tt, (tt, (tt, (tt, (tt, (tt, (tt, tt)))))))
+
 start_goes : (pp ss : ℕ) → (t : Trace) → On t (desk pp ss 0 [] [] all_pooled) → GoesTo pp ss t (line.start ∷ []) (restart ∷ []) (desk pp ss 1 [] [] all_pooled)
 start_goes pp ss t s =
     line_on pp ss t line.start (entries_of caller (LookOut [] false ∷ Start (Ok tt) ∷ []) ++ []) (restart ∷ []) (done_text (codes "start")) (desk pp ss 0 [] [] all_pooled) (desk pp ss 1 [] [] all_pooled) s
     (Ok tt, LookOut [] false ∷ Start (Ok tt) ∷ [], record { output = []; is = refl }, refl)
     (start_done pp ss) (tt, (tt, tt))
 
--- three buffers, the flush, and the start
+-- five buffers, the flush, and the start
 abbrev pub first_lines : ℕ → List ScriptLine
-first_lines ss = line.announce ss ∷ line.announce ss ∷ line.announce ss ∷ line.flush 3 ∷ line.start ∷ []
+first_lines ss = announce_lines script_buffers ss ++ line.flush 3 ∷ line.start ∷ []
 
 pub begins : (pp ss : ℕ) → 1 ≤ ss → ss ≤ 67108864 → Goes pp ss opening (first_lines ss) (restart ∷ []) 1 [] [] all_pooled
 begins pp ss lo hi =
     let a = one_goes pp ss lo hi in
     let b = two_goes pp ss lo hi a.to a.stage in
     let c = three_goes pp ss lo hi b.to b.stage in
-    let d = flush_goes pp ss c.to 0 [] [] c.stage in
-    let e = start_goes pp ss d.to d.stage in
-    to_both pp ss opening (line.announce ss ∷ []) (line.announce ss ∷ line.announce ss ∷ line.flush 3 ∷ line.start ∷ []) [] (restart ∷ []) (board_one pp ss) (desk pp ss 1 [] [] all_pooled) a
-    (to_both pp ss a.to (line.announce ss ∷ []) (line.announce ss ∷ line.flush 3 ∷ line.start ∷ []) [] (restart ∷ []) (board_two pp ss) (desk pp ss 1 [] [] all_pooled) b
-    (to_both pp ss b.to (line.announce ss ∷ []) (line.flush 3 ∷ line.start ∷ []) [] (restart ∷ []) (board_three pp ss) (desk pp ss 1 [] [] all_pooled) c
-    (to_both pp ss c.to (line.flush 3 ∷ []) (line.start ∷ []) [] (restart ∷ []) (desk pp ss 0 [] [] all_pooled) (desk pp ss 1 [] [] all_pooled) d e)))
+    let d = four_goes pp ss lo hi c.to c.stage in
+    let e = five_goes pp ss lo hi d.to d.stage in
+    let f = flush_goes pp ss e.to 0 [] [] e.stage in
+    let g = start_goes pp ss f.to f.stage in
+    to_both pp ss opening (line.announce ss ∷ []) (announce_lines 4 ss ++ line.flush 3 ∷ line.start ∷ []) [] (restart ∷ []) (board_one pp ss) (desk pp ss 1 [] [] all_pooled) a
+    (to_both pp ss a.to (line.announce ss ∷ []) (announce_lines 3 ss ++ line.flush 3 ∷ line.start ∷ []) [] (restart ∷ []) (board_two pp ss) (desk pp ss 1 [] [] all_pooled) b
+    (to_both pp ss b.to (line.announce ss ∷ []) (announce_lines 2 ss ++ line.flush 3 ∷ line.start ∷ []) [] (restart ∷ []) (board_three pp ss) (desk pp ss 1 [] [] all_pooled) c
+    (to_both pp ss c.to (line.announce ss ∷ []) (announce_lines 1 ss ++ line.flush 3 ∷ line.start ∷ []) [] (restart ∷ []) (board_four pp ss) (desk pp ss 1 [] [] all_pooled) d
+    (to_both pp ss d.to (line.announce ss ∷ []) (announce_lines 0 ss ++ line.flush 3 ∷ line.start ∷ []) [] (restart ∷ []) (board_five pp ss) (desk pp ss 1 [] [] all_pooled) e
+    (to_both pp ss e.to (line.flush 3 ∷ []) (line.start ∷ []) [] (restart ∷ []) (desk pp ss 0 [] [] all_pooled) (desk pp ss 1 [] [] all_pooled) f g)))))

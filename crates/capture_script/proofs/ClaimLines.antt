@@ -49,7 +49,7 @@ record Claims (pp ss : ℕ) (p : ℕ) (out : List Item) (qs : List ℕ) (s new :
   done : Done (desk pp ss 1 (held_places s) out (p ∷ qs)) (entries_of acquirer (Claim (Some p) ∷ [])) (desk pp ss 1 (held_places new) out qs)
   counts : (k : ℕ) → times k (held_places new) ≡ times k (held_places s) + same k p
 
-claim_leaves : (pp ss : ℕ) → (p b : ℕ) (out : List Item) (qs : List ℕ) (s : State) → Live pp ss s → p < 3 → times p (held_places s) ≡ 0 → s.asked ≡ Some b
+claim_leaves : (pp ss : ℕ) → (p b : ℕ) (out : List Item) (qs : List ℕ) (s : State) → Live pp ss s → p < 5 → times p (held_places s) ≡ 0 → s.asked ≡ Some b
     → Claims pp ss p out qs s (step (config pp) s (claimed (outcome_at pp ss p))).after
 claim_leaves pp ss p b out qs s live low free asked =
     let more : HoldsMore pp ss p s (step (config pp) s (claimed (outcome_at pp ss p))).after = one_given pp ss p b s live low free asked in
@@ -79,10 +79,10 @@ asking_parts : (xs : List Retired) (p : ℕ) (ys : List Retired)
     ≡ entries_of acquirer (fill_events xs) ++ (entries_of acquirer (Claim (Some p) ∷ []) ++ entries_of acquirer (fill_events ys))
 asking_parts xs p ys = entries_of-append acquirer (fill_events xs) (Claim (Some p) ∷ [] ++ fill_events ys)
 
-outcome_is : (pp ss : ℕ) → (t : Trace) (p : ℕ) (his pool : List ℕ) → Stage pp ss t 1 his [] pool → p < 3 → outcome (board t) (Some p) ≡ outcome_at pp ss p
+outcome_is : (pp ss : ℕ) → (t : Trace) (p : ℕ) (his pool : List ℕ) → Stage pp ss t 1 his [] pool → p < 5 → outcome (board t) (Some p) ≡ outcome_at pp ss p
 outcome_is pp ss t p his pool s low =
     ap (λ (b : Board). Some (record { place = p; size = (word_at b p).size })) s.is
-    ∙ ap (λ (n : ℕ). Some (record { place = p; size = n })) (is_sized pp ss 1 (uses his [] pool 0) (uses his [] pool 1) (uses his [] pool 2) [] pool (put_all his []) p low)
+    ∙ ap (λ (n : ℕ). Some (record { place = p; size = n })) (is_sized pp ss 1 (λ i. uses his [] pool i) [] pool (put_all his []) p low)
 
 claims_for : (m : Mode) (p : ℕ) → m ≡ OldestFirst → ClaimsFor m (Some (p, false)) (Claim (Some p) ∷ [])
 claims_for m p e = subst (λ n. ClaimsFor n (Some (p, false)) (Claim (Some p) ∷ [])) (sym e) refl
@@ -98,7 +98,7 @@ abbrev pub twice : List ℕ → Option Given → List Input
 twice bytes given = datagram bytes ∷ claimed given ∷ datagram bytes ∷ []
 
 -- what is retired when the datagram is told again
-again_is : (pp ss : ℕ) → (t : Trace) (bytes : List ℕ) (p : ℕ) (his pool : List ℕ) → Stage pp ss t 1 his [] pool → p < 3
+again_is : (pp ss : ℕ) → (t : Trace) (bytes : List ℕ) (p : ℕ) (his pool : List ℕ) → Stage pp ss t 1 his [] pool → p < 5
     → retired_by (config pp) (t.inputs ++ datagram bytes ∷ claimed (outcome (board t) (Some p)) ∷ []) (datagram bytes)
     ≡ came_back pp ss (given_state pp ss (state_of pp ss t) bytes p) (datagram bytes)
 again_is pp ss t bytes p his pool s low =
@@ -106,7 +106,7 @@ again_is pp ss t bytes p his pool s low =
     (after_from-append (config pp) first_state t.inputs (datagram bytes ∷ claimed (outcome (board t) (Some p)) ∷ [])
     ∙ ap (λ o. (step (config pp) (asked_state pp ss (state_of pp ss t) bytes) (claimed o)).after) (outcome_is pp ss t p his pool s low))
 
-heard_again : (pp ss : ℕ) → (t : Trace) (bytes : List ℕ) (p : ℕ) (his pool : List ℕ) → Stage pp ss t 1 his [] pool → p < 3
+heard_again : (pp ss : ℕ) → (t : Trace) (bytes : List ℕ) (p : ℕ) (his pool : List ℕ) → Stage pp ss t 1 his [] pool → p < 5
     → HeardAgain (config pp) t bytes
     (adds t (entries_of acquirer (asking (came_back pp ss (state_of pp ss t) (datagram bytes)) p (came_back pp ss (given_state pp ss (state_of pp ss t) bytes p) (datagram bytes))))
     (told_twice t bytes (Some p)) [])
@@ -127,7 +127,7 @@ given-append : (xs ys : List Retired) → map given_of (xs ++ ys) ≡ map given_
 given-append [] ys = refl
 given-append (x ∷ xs) ys = ap (λ l. given_of x ∷ l) (given-append xs ys)
 
--- The datagram is told, with the outcome of the claim, and once more. A buffer waits, since two blocks at most hold
+-- The datagram is told, with the outcome of the claim, and once more. A buffer waits, since four blocks at most hold
 -- one.
 pub asks_goes : (pp ss : ℕ) → (t : Trace) (bytes : List ℕ) (p b : ℕ) (qs : List ℕ) → Stage pp ss t 1 (held_places (state_of pp ss t)) [] (p ∷ qs) → IsFull (held_places (state_of pp ss t)) (p ∷ qs) → Live pp ss (state_of pp ss t)
     → decode_of (encode_lower bytes) ≡ Ok bytes → asked_by (step (config pp) (state_of pp ss t) (datagram bytes)).need ≡ Some b
@@ -136,7 +136,7 @@ pub asks_goes : (pp ss : ℕ) → (t : Trace) (bytes : List ℕ) (p b : ℕ) (qs
     (twice bytes (outcome_at pp ss p)) 1 (held_places (asked_state pp ss (given_state pp ss (state_of pp ss t) bytes p) bytes))
 asks_goes pp ss t bytes p b qs stage full live decoded asked =
     let s : State = state_of pp ss t in
-    let low : p < 3 = full.low.0 in
+    let low : p < 5 = full.low.0 in
     let d : Input = datagram bytes in
     let xs : List Retired = came_back pp ss s d in
     let s1 : State = asked_state pp ss s bytes in
@@ -180,7 +180,7 @@ asks_goes pp ss t bytes p b qs stage full live decoded asked =
     subst (λ o. Goes pp ss t (line.datagram (encode_lower bytes) ∷ []) (twice bytes (outcome_at pp ss p)) 1 his o qs) (sym (items-append xs ys))
     (subst (λ q. Goes pp ss t (line.datagram (encode_lower bytes) ∷ []) q 1 his out qs) same_told
     (one_line pp ss t (line.datagram (encode_lower bytes)) es told [] 1 1 his (held_places s) out [] qs (p ∷ qs) stage spells done recorded)) in
-    let each : (k : ℕ) → k < 3 → uses his (map item_of (xs ++ ys)) qs k ≡ 1 =
+    let each : (k : ℕ) → k < 5 → uses his (map item_of (xs ++ ys)) qs k ≡ 1 =
     λ k small. (let waits : times k (places (map item_of (xs ++ ys))) ≡ times k gone + times k (places_in (map given_of ys)) =
     ap (times k) (places-items (xs ++ ys) ∙ ap places_in (given-append xs ys) ∙ places_in-append (map given_of xs) (map given_of ys))
     ∙ times-append k gone (places_in (map given_of ys)) in
@@ -196,7 +196,7 @@ asks_goes pp ss t bytes p b qs stage full live decoded asked =
     }
 
 -- no two blocks share a place after that
-pub asks_live : (pp ss : ℕ) → (s : State) (bytes : List ℕ) (p b : ℕ) → Live pp ss s → p < 3 → times p (held_places s) ≡ 0
+pub asks_live : (pp ss : ℕ) → (s : State) (bytes : List ℕ) (p b : ℕ) → Live pp ss s → p < 5 → times p (held_places s) ≡ 0
     → asked_by (step (config pp) s (datagram bytes)).need ≡ Some b → Live pp ss (asked_state pp ss (given_state pp ss s bytes p) bytes)
 asks_live pp ss s bytes p b live low free asked =
     let first = settled_datagram pp ss s bytes live in

@@ -1,4 +1,4 @@
--- The board of a captured script, told by whose each of its three places is, and the acts on it.
+-- The board of a captured script, told by whose each of its five places is, and the acts on it.
 use Rattle.std.proofs.Common.{◌≡◌, ◌≢◌, ℕ, zero, suc, ◌+◌, ◌<◌, ◌≤◌, ◌==◌, nat_le, Bool, true, false, cond, List, [], ◌∷◌, ◌++◌, length, replicate, if◌then◌else◌, refl, sym, ap, subst, ◌∙◌, arith, eq-eqb, eqb-true, leb-false, leb-true, lit≤, lit<, ap₂}
 use Rattle.std.specs.Prelude.{Some, None, Ok}
 use Rattle.std.specs.List.{AllByRecursion}
@@ -27,9 +27,9 @@ abbrev pub live_word : (pp ss : ℕ) → ℕ → Word
 live_word pp ss n = record { state = if n == 0 then Held else Away; size = ss; generation = 1 }
 
 -- by the run word, how often each place is in use, what waits, what is pooled, and the acquisition's hands
-abbrev pub desk_by : (pp ss : ℕ) → ℕ → ℕ → ℕ → ℕ → List Item → List ℕ → List ℕ → Board
-desk_by pp ss r a b c out pool his = record {
-  words = live_word pp ss a ∷ (live_word pp ss) b ∷ (live_word pp ss) c ∷ replicate 12 vacant;
+abbrev pub desk_by : (pp ss : ℕ) → ℕ → ℕ → ℕ → ℕ → ℕ → ℕ → List Item → List ℕ → List ℕ → Board
+desk_by pp ss r a b c d e out pool his = record {
+  words = live_word pp ss a ∷ (live_word pp ss) b ∷ (live_word pp ss) c ∷ (live_word pp ss) d ∷ (live_word pp ss) e ∷ replicate 10 vacant;
   pool = pool;
   out = out;
   hands = Some [] ∷ empty_hands ∷ empty_hands ∷ empty_hands ∷ empty_hands ∷ Some his ∷ [];
@@ -38,20 +38,26 @@ desk_by pp ss r a b c out pool his = record {
   run = r;
 }
 
+-- the same, where a function tells how often each place is in use
+abbrev pub desk_of : (pp ss : ℕ) → ℕ → (ℕ → ℕ) → List Item → List ℕ → List ℕ → Board
+desk_of pp ss r u out pool his = desk_by pp ss r (u 0) (u 1) (u 2) (u 3) (u 4) out pool his
+
 -- how often a place is in use
 abbrev pub uses : List ℕ → List Item → List ℕ → ℕ → ℕ
 uses his out pool i = times i his + times i (places out) + times i pool
 
 -- by the run word, the places of the open blocks, lowest block first, what waits in the output, and what is pooled
 abbrev pub desk : (pp ss : ℕ) → ℕ → List ℕ → List Item → List ℕ → Board
-desk pp ss r his out pool = desk_by pp ss r (uses his out pool 0) (uses his out pool 1) (uses his out pool 2) out pool (put_all his [])
+desk pp ss r his out pool = desk_of pp ss r (λ i. uses his out pool i) out pool (put_all his [])
 
-same_parts : (pp ss : ℕ) → (r : ℕ) (a b c d e f : ℕ) (out : List Item) (pool h k : List ℕ) → a ≡ d → b ≡ e → c ≡ f → h ≡ k → desk_by pp ss r a b c out pool h ≡ (desk_by pp ss) r d e f out pool k
-same_parts pp ss r a b c d e f out pool h k p q u s =
-    ap (λ x. (desk_by pp ss) r x b c out pool h) p
-    ∙ (ap (λ x. (desk_by pp ss) r d x c out pool h) q
-    ∙ (ap (λ x. (desk_by pp ss) r d e x out pool h) u
-    ∙ ap (λ x. (desk_by pp ss) r d e f out pool x) s))
+same_parts : (pp ss : ℕ) → (r : ℕ) (u v : ℕ → ℕ) (out : List Item) (pool h k : List ℕ) → ((i : ℕ) → i < 5 → u i ≡ v i) → h ≡ k → desk_of pp ss r u out pool h ≡ desk_of pp ss r v out pool k
+same_parts pp ss r u v out pool h k same s =
+    ap (λ x. desk_by pp ss r x (u 1) (u 2) (u 3) (u 4) out pool h) (same 0 (lit< tt))
+    ∙ (ap (λ x. desk_by pp ss r (v 0) x (u 2) (u 3) (u 4) out pool h) (same 1 (lit< tt))
+    ∙ (ap (λ x. desk_by pp ss r (v 0) (v 1) x (u 3) (u 4) out pool h) (same 2 (lit< tt))
+    ∙ (ap (λ x. desk_by pp ss r (v 0) (v 1) (v 2) x (u 4) out pool h) (same 3 (lit< tt))
+    ∙ (ap (λ x. desk_by pp ss r (v 0) (v 1) (v 2) (v 3) x out pool h) (same 4 (lit< tt))
+    ∙ ap (λ x. desk_of pp ss r v out pool x) s))))
 
 -- ---- entries that can be made, and the board after them
 
@@ -74,12 +80,14 @@ done_none b = record { runs = tt; after = refl }
 some_not : (is : List ℕ) → Some is ≡ None → ⊥
 some_not is e = cc
 
--- what holds of the three places holds of each place below three
-pub of_three : (P : ℕ → Type 0) (p : ℕ) → p < 3 → P 0 → P 1 → P 2 → P p
-of_three P zero h a b c = a
-of_three P (suc zero) h a b c = b
-of_three P (suc (suc zero)) h a b c = c
-of_three P (suc (suc (suc n))) h a b c = absurd (omega arith)
+-- what holds of the five places holds of each place below five
+pub of_five : (P : ℕ → Type 0) (p : ℕ) → p < 5 → P 0 → P 1 → P 2 → P 3 → P 4 → P p
+of_five P zero h a b c d e = a
+of_five P (suc zero) h a b c d e = b
+of_five P (suc (suc zero)) h a b c d e = c
+of_five P (suc (suc (suc zero))) h a b c d e = d
+of_five P (suc (suc (suc (suc zero)))) h a b c d e = e
+of_five P (suc (suc (suc (suc (suc n))))) h a b c d e = absurd (omega arith)
 
 -- ---- lists of places
 
@@ -123,8 +131,8 @@ put_middle p (q ∷ front) back = put_swap p q (put_all (front ++ back) []) ∙ 
 
 -- ---- the acquisition's acts
 
-pub is_sized : (pp ss : ℕ) → (r : ℕ) (a b c : ℕ) (out : List Item) (pool his : List ℕ) (p : ℕ) → p < 3 → (word_at (desk_by pp ss r a b c out pool his) p).size ≡ ss
-is_sized pp ss r a b c out pool his p h = of_three (λ i. (word_at (desk_by pp ss r a b c out pool his) i).size ≡ ss) p h refl refl refl
+pub is_sized : (pp ss : ℕ) → (r : ℕ) (u : ℕ → ℕ) (out : List Item) (pool his : List ℕ) (p : ℕ) → p < 5 → (word_at (desk_of pp ss r u out pool his) p).size ≡ ss
+is_sized pp ss r u out pool his p h = of_five (λ i. (word_at (desk_of pp ss r u out pool his) i).size ≡ ss) p h refl refl refl refl refl
 
 uses_fill : (p : ℕ) (f : Filling) (his : List ℕ) (out : List Item) (pool : List ℕ) (i : ℕ) → uses (p ∷ his) out pool i ≡ uses his (out ++ item p f ∷ []) pool i
 uses_fill p f his out pool i =
@@ -132,7 +140,7 @@ uses_fill p f his out pool i =
     ap (times i) (places-append out (item p f ∷ [])) ∙ times-append i (places out) (p ∷ []) in
     omega (arith, parts)
 
-pub fill_done : (pp ss : ℕ) → (r : ℕ) (p : ℕ) (f : Filling) (his : List ℕ) (out : List Item) (pool : List ℕ) → p < 3 → length f.bytes ≡ ss
+pub fill_done : (pp ss : ℕ) → (r : ℕ) (p : ℕ) (f : Filling) (his : List ℕ) (out : List Item) (pool : List ℕ) → p < 5 → length f.bytes ≡ ss
     → Done (desk pp ss r (p ∷ his) out pool) (entries_of 5 (Fill p f true ∷ [])) (desk pp ss r his (out ++ item p f ∷ []) pool)
 fill_done pp ss r p f his out pool low sized =
     let mine : 1 ≤ times p (put_all (p ∷ his) []) = (let t = times-put p p (put_all his []) in let s = same_self p in omega (arith, t, s)) in
@@ -141,13 +149,12 @@ fill_done pp ss r p f his out pool low sized =
       runs = (
         record {
           actor = some_not (put_all (p ∷ his) []);
-          meets = (mine, sized ∙ sym (is_sized pp ss r (uses (p ∷ his) out pool 0) (uses (p ∷ his) out pool 1) (uses (p ∷ his) out pool 2) out pool (put_all (p ∷ his) []) p low), refl);
+          meets = (mine, sized ∙ sym (is_sized pp ss r (λ i. uses (p ∷ his) out pool i) out pool (put_all (p ∷ his) []) p low), refl);
         },
         tt,
       );
-      after = same_parts pp ss r (uses (p ∷ his) out pool 0) (uses (p ∷ his) out pool 1) (uses (p ∷ his) out pool 2)
-          (uses his more pool 0) (uses his more pool 1) (uses his more pool 2) more pool (without p (put_all (p ∷ his) [])) (put_all his [])
-          (uses_fill p f his out pool 0) (uses_fill p f his out pool 1) (uses_fill p f his out pool 2) (without-put p (put_all his []));
+      after = same_parts pp ss r (λ i. uses (p ∷ his) out pool i) (λ i. uses his more pool i) more pool (without p (put_all (p ∷ his) [])) (put_all his [])
+          (λ i small. uses_fill p f his out pool i) (without-put p (put_all his []));
     }
 
 pub claim_done : (pp ss : ℕ) → (r : ℕ) (p : ℕ) (his : List ℕ) (out : List Item) (ps : List ℕ) → (Done (desk pp ss r his out (p ∷ ps)) (entries_of 5 (Claim (Some p) ∷ [])) (desk pp ss r (p ∷ his) out ps))
@@ -155,9 +162,7 @@ claim_done pp ss r p his out ps =
     let moved : (i : ℕ) → uses his out (p ∷ ps) i ≡ uses (p ∷ his) out ps i = λ i. omega arith in
     record {
       runs = (record { actor = some_not (put_all his []); meets = (ps, refl) }, tt);
-      after = same_parts pp ss r (uses his out (p ∷ ps) 0) (uses his out (p ∷ ps) 1) (uses his out (p ∷ ps) 2)
-          (uses (p ∷ his) out ps 0) (uses (p ∷ his) out ps 1) (uses (p ∷ his) out ps 2) out ps (put_all (p ∷ his) []) (put_all (p ∷ his) [])
-          (moved 0) (moved 1) (moved 2) refl;
+      after = same_parts pp ss r (λ i. uses his out (p ∷ ps) i) (λ i. uses (p ∷ his) out ps i) out ps (put_all (p ∷ his) []) (put_all (p ∷ his) []) (λ i small. moved i) refl;
     }
 
 -- the claimed place belongs to a block somewhere among the others
@@ -165,9 +170,8 @@ pub desk_middle : (pp ss : ℕ) → (r : ℕ) (p : ℕ) (front back : List ℕ) 
 desk_middle pp ss r p front back out pool =
     let moved : (i : ℕ) → uses (p ∷ (front ++ back)) out pool i ≡ uses (front ++ p ∷ back) out pool i =
     λ i. (let x = times-append i front back in let y = times-append i front (p ∷ back) in omega (arith, x, y)) in
-    (same_parts pp ss) r (uses (p ∷ (front ++ back)) out pool 0) (uses (p ∷ (front ++ back)) out pool 1) (uses (p ∷ (front ++ back)) out pool 2)
-    (uses (front ++ p ∷ back) out pool 0) (uses (front ++ p ∷ back) out pool 1) (uses (front ++ p ∷ back) out pool 2) out pool
-    (put_all (p ∷ (front ++ back)) []) (put_all (front ++ p ∷ back) []) (moved 0) (moved 1) (moved 2) (put_middle p front back)
+    same_parts pp ss r (λ i. uses (p ∷ (front ++ back)) out pool i) (λ i. uses (front ++ p ∷ back) out pool i) out pool
+    (put_all (p ∷ (front ++ back)) []) (put_all (front ++ p ∷ back) []) (λ i small. moved i) (put_middle p front back)
 
 -- ---- the application's acts
 
@@ -179,23 +183,32 @@ cleared_is : (p i n m : ℕ) → (i ≡ p → m ≡ 0) → (i ≢ p → n ≡ m)
 cleared_is p i n m same_place other =
     cond_both (i == p) 0 n (λ x. x ≡ m) (λ e. sym (same_place (eqb-true i p e))) (λ e. other (eqb-false i p e))
 
-take_by : (pp ss : ℕ) → (r : ℕ) (p : ℕ) (f : Filling) (a b c : ℕ) (out : List Item) (pool his : List ℕ) → p < 3
-    → Done (desk_by pp ss r a b c (item p f ∷ out) pool his) (entries_of 0 (Take (Taken p) ∷ Lay p ∷ [])) (desk_by pp ss r (cleared p 0 a) (cleared p 1 b) (cleared p 2 c) out pool his)
-take_by pp ss r zero f a b c out pool his low = record {
+take_by : (pp ss : ℕ) → (r : ℕ) (p : ℕ) (f : Filling) (a b c d e : ℕ) (out : List Item) (pool his : List ℕ) → p < 5
+    → Done (desk_by pp ss r a b c d e (item p f ∷ out) pool his) (entries_of 0 (Take (Taken p) ∷ Lay p ∷ []))
+    (desk_by pp ss r (cleared p 0 a) (cleared p 1 b) (cleared p 2 c) (cleared p 3 d) (cleared p 4 e) out pool his)
+take_by pp ss r zero f a b c d e out pool his low = record {
   runs = (record { actor = some_not []; meets = (refl, (f, out, refl)) }, (record { actor = some_not (0 ∷ []); meets = lit≤ tt }, tt));
   after = refl;
 }
-take_by pp ss r (suc zero) f a b c out pool his low = record {
+take_by pp ss r (suc zero) f a b c d e out pool his low = record {
   runs = (record { actor = some_not []; meets = (refl, (f, out, refl)) }, (record { actor = some_not (1 ∷ []); meets = lit≤ tt }, tt));
   after = refl;
 }
-take_by pp ss r (suc (suc zero)) f a b c out pool his low = record {
+take_by pp ss r (suc (suc zero)) f a b c d e out pool his low = record {
   runs = (record { actor = some_not []; meets = (refl, (f, out, refl)) }, (record { actor = some_not (2 ∷ []); meets = lit≤ tt }, tt));
   after = refl;
 }
-take_by pp ss r (suc (suc (suc n))) f a b c out pool his low = absurd (omega arith)
+take_by pp ss r (suc (suc (suc zero))) f a b c d e out pool his low = record {
+  runs = (record { actor = some_not []; meets = (refl, (f, out, refl)) }, (record { actor = some_not (3 ∷ []); meets = lit≤ tt }, tt));
+  after = refl;
+}
+take_by pp ss r (suc (suc (suc (suc zero)))) f a b c d e out pool his low = record {
+  runs = (record { actor = some_not []; meets = (refl, (f, out, refl)) }, (record { actor = some_not (4 ∷ []); meets = lit≤ tt }, tt));
+  after = refl;
+}
+take_by pp ss r (suc (suc (suc (suc (suc n))))) f a b c d e out pool his low = absurd (omega arith)
 
-pub take_done : (pp ss : ℕ) → (r : ℕ) (p : ℕ) (f : Filling) (his : List ℕ) (out : List Item) (ps : List ℕ) → p < 3 → uses his (item p f ∷ out) ps p ≤ 1
+pub take_done : (pp ss : ℕ) → (r : ℕ) (p : ℕ) (f : Filling) (his : List ℕ) (out : List Item) (ps : List ℕ) → p < 5 → uses his (item p f ∷ out) ps p ≤ 1
     → Done (desk pp ss r his (item p f ∷ out) ps) (entries_of 0 (Take (Taken p) ∷ Lay p ∷ [])) (desk pp ss r his out ps)
 take_done pp ss r p f his out ps low once =
     let all : List Item = item p f ∷ out in
@@ -203,11 +216,10 @@ take_done pp ss r p f his out ps low once =
     λ i. cleared_is p i (uses his all ps i) (uses his out ps i)
     (λ e. (let s = same_self p in let there : uses his out ps p ≡ 0 = omega (arith, s, once) in subst (λ j. uses his out ps j ≡ 0) (sym e) there))
     (λ e. (let s = same_other i p e in omega (arith, s))) in
-    done_to (desk pp ss r his all ps) (desk_by pp ss r (cleared p 0 (uses his all ps 0)) (cleared p 1 (uses his all ps 1)) (cleared p 2 (uses his all ps 2)) out ps (put_all his []))
+    done_to (desk pp ss r his all ps) (desk_of pp ss r (λ i. cleared p i (uses his all ps i)) out ps (put_all his []))
     (desk pp ss r his out ps) (entries_of 0 (Take (Taken p) ∷ Lay p ∷ []))
-    (take_by pp ss r p f (uses his all ps 0) (uses his all ps 1) (uses his all ps 2) out ps (put_all his []) low)
-    (same_parts pp ss r (cleared p 0 (uses his all ps 0)) (cleared p 1 (uses his all ps 1)) (cleared p 2 (uses his all ps 2))
-    (uses his out ps 0) (uses his out ps 1) (uses his out ps 2) out ps (put_all his []) (put_all his []) (clears 0) (clears 1) (clears 2) refl)
+    (take_by pp ss r p f (uses his all ps 0) (uses his all ps 1) (uses his all ps 2) (uses his all ps 3) (uses his all ps 4) out ps (put_all his []) low)
+    (same_parts pp ss r (λ i. cleared p i (uses his all ps i)) (λ i. uses his out ps i) out ps (put_all his []) (put_all his []) (λ i small. clears i) refl)
 
 -- ---- a flush
 
@@ -216,7 +228,7 @@ abbrev pub with_free : ℕ → ℕ → List ℕ → List ℕ
 with_free i zero ps = put_in i ps
 with_free i (suc n) ps = ps
 
--- what a flush finds at one of the three places
+-- what a flush finds at one of the five places
 abbrev pub seen_at : ℕ → ℕ → Seen
 seen_at ss zero = record { word = record { state = Held; size = ss; generation = 1 }; grab = Some (Ok tt) }
 seen_at ss (suc n) = record { word = live_word 0 ss (suc n); grab = None }
@@ -229,32 +241,52 @@ abbrev pub used_then : ℕ → ℕ
 used_then zero = 1
 used_then (suc n) = suc n
 
-look_0 : (pp ss : ℕ) → (r a b c : ℕ) (ps his : List ℕ) → Done (desk_by pp ss r a b c [] ps his) (entries_of 0 (looked ss 0 a)) (desk_by pp ss r (used_then a) b c [] (with_free 0 a ps) his)
-look_0 pp ss r zero b c ps his = record {
+look_0 : (pp ss : ℕ) → (r a b c d e : ℕ) (ps his : List ℕ) → Done (desk_by pp ss r a b c d e [] ps his) (entries_of 0 (looked ss 0 a)) (desk_by pp ss r (used_then a) b c d e [] (with_free 0 a ps) his)
+look_0 pp ss r zero b c d e ps his = record {
   runs = (record { actor = some_not []; meets = (lit< tt, refl) }, (record { actor = some_not []; meets = (lit< tt, (refl, refl)) }, (record { actor = some_not (0 ∷ []); meets = lit≤ tt }, tt)));
   after = refl;
 }
-look_0 pp ss r (suc n) b c ps his = record {
+look_0 pp ss r (suc n) b c d e ps his = record {
   runs = (record { actor = some_not []; meets = (lit< tt, refl) }, tt);
   after = refl;
 }
 
-look_1 : (pp ss : ℕ) → (r a b c : ℕ) (ps his : List ℕ) → Done (desk_by pp ss r a b c [] ps his) (entries_of 0 (looked ss 1 b)) (desk_by pp ss r a (used_then b) c [] (with_free 1 b ps) his)
-look_1 pp ss r a zero c ps his = record {
+look_1 : (pp ss : ℕ) → (r a b c d e : ℕ) (ps his : List ℕ) → Done (desk_by pp ss r a b c d e [] ps his) (entries_of 0 (looked ss 1 b)) (desk_by pp ss r a (used_then b) c d e [] (with_free 1 b ps) his)
+look_1 pp ss r a zero c d e ps his = record {
   runs = (record { actor = some_not []; meets = (lit< tt, refl) }, (record { actor = some_not []; meets = (lit< tt, (refl, refl)) }, (record { actor = some_not (1 ∷ []); meets = lit≤ tt }, tt)));
   after = refl;
 }
-look_1 pp ss r a (suc n) c ps his = record {
+look_1 pp ss r a (suc n) c d e ps his = record {
   runs = (record { actor = some_not []; meets = (lit< tt, refl) }, tt);
   after = refl;
 }
 
-look_2 : (pp ss : ℕ) → (r a b c : ℕ) (ps his : List ℕ) → Done (desk_by pp ss r a b c [] ps his) (entries_of 0 (looked ss 2 c)) (desk_by pp ss r a b (used_then c) [] (with_free 2 c ps) his)
-look_2 pp ss r a b zero ps his = record {
+look_2 : (pp ss : ℕ) → (r a b c d e : ℕ) (ps his : List ℕ) → Done (desk_by pp ss r a b c d e [] ps his) (entries_of 0 (looked ss 2 c)) (desk_by pp ss r a b (used_then c) d e [] (with_free 2 c ps) his)
+look_2 pp ss r a b zero d e ps his = record {
   runs = (record { actor = some_not []; meets = (lit< tt, refl) }, (record { actor = some_not []; meets = (lit< tt, (refl, refl)) }, (record { actor = some_not (2 ∷ []); meets = lit≤ tt }, tt)));
   after = refl;
 }
-look_2 pp ss r a b (suc n) ps his = record {
+look_2 pp ss r a b (suc n) d e ps his = record {
+  runs = (record { actor = some_not []; meets = (lit< tt, refl) }, tt);
+  after = refl;
+}
+
+look_3 : (pp ss : ℕ) → (r a b c d e : ℕ) (ps his : List ℕ) → Done (desk_by pp ss r a b c d e [] ps his) (entries_of 0 (looked ss 3 d)) (desk_by pp ss r a b c (used_then d) e [] (with_free 3 d ps) his)
+look_3 pp ss r a b c zero e ps his = record {
+  runs = (record { actor = some_not []; meets = (lit< tt, refl) }, (record { actor = some_not []; meets = (lit< tt, (refl, refl)) }, (record { actor = some_not (3 ∷ []); meets = lit≤ tt }, tt)));
+  after = refl;
+}
+look_3 pp ss r a b c (suc n) e ps his = record {
+  runs = (record { actor = some_not []; meets = (lit< tt, refl) }, tt);
+  after = refl;
+}
+
+look_4 : (pp ss : ℕ) → (r a b c d e : ℕ) (ps his : List ℕ) → Done (desk_by pp ss r a b c d e [] ps his) (entries_of 0 (looked ss 4 e)) (desk_by pp ss r a b c d (used_then e) [] (with_free 4 e ps) his)
+look_4 pp ss r a b c d zero ps his = record {
+  runs = (record { actor = some_not []; meets = (lit< tt, refl) }, (record { actor = some_not []; meets = (lit< tt, (refl, refl)) }, (record { actor = some_not (4 ∷ []); meets = lit≤ tt }, tt)));
+  after = refl;
+}
+look_4 pp ss r a b c d (suc n) ps his = record {
   runs = (record { actor = some_not []; meets = (lit< tt, refl) }, tt);
   after = refl;
 }
@@ -263,79 +295,75 @@ abbrev pub vacant_seen : Seen
 vacant_seen = record { word = vacant; grab = None }
 
 abbrev pub vacants : List Event
-vacants = pools_from 3 (replicate 12 vacant_seen)
+vacants = pools_from 5 (replicate 10 vacant_seen)
 
-look_vacants : (pp ss : ℕ) → (r a b c : ℕ) (ps his : List ℕ) → Done (desk_by pp ss r a b c [] ps his) (entries_of 0 vacants) (desk_by pp ss r a b c [] ps his)
-look_vacants pp ss r a b c ps his =
+look_vacants : (pp ss : ℕ) → (r a b c d e : ℕ) (ps his : List ℕ) → Done (desk_by pp ss r a b c d e [] ps his) (entries_of 0 vacants) (desk_by pp ss r a b c d e [] ps his)
+look_vacants pp ss r a b c d e ps his =
     let w = some_not [] in
     record {
-      runs = (
-        record { actor = w; meets = (lit< tt, refl) },
-        (
-          record { actor = w; meets = (lit< tt, refl) },
-          (
-            record { actor = w; meets = (lit< tt, refl) },
-            (
-              record { actor = w; meets = (lit< tt, refl) },
-              (
-                record { actor = w; meets = (lit< tt, refl) },
-                (
-                  record { actor = w; meets = (lit< tt, refl) },
-                  (
-                    record { actor = w; meets = (lit< tt, refl) },
-                    (
-                      record { actor = w; meets = (lit< tt, refl) },
-                      (
-                        record { actor = w; meets = (lit< tt, refl) },
-                        (
-                          record { actor = w; meets = (lit< tt, refl) },
-                          (
-                            record { actor = w; meets = (lit< tt, refl) },
-                            (record { actor = w; meets = (lit< tt, refl) }, tt),
-                          ),
-                        ),
-                      ),
-                    ),
-                  ),
-                ),
-              ),
-            ),
-          ),
-        ),
-      );
+      runs = (record { actor = w; meets = (lit< tt, refl) }, (record { actor = w; meets = (lit< tt, refl) }, (record { actor = w; meets = (lit< tt, refl) }, (record { actor = w; meets = (lit< tt, refl) }, (record { actor = w; meets = (lit< tt, refl) }, (record { actor = w; meets = (lit< tt, refl) }, (record { actor = w; meets = (lit< tt, refl) }, (record { actor = w; meets = (lit< tt, refl) }, (record { actor = w; meets = (lit< tt, refl) }, (record { actor = w; meets = (lit< tt, refl) }, tt))))))))));
       after = refl;
     }
 
 -- what a flush sees, and what it does
-abbrev pub flush_seen : ℕ → ℕ → ℕ → ℕ → List Seen
-flush_seen ss a b c = seen_at ss a ∷ seen_at ss b ∷ seen_at ss c ∷ replicate 12 vacant_seen
+abbrev pub flush_seen : ℕ → (ℕ → ℕ) → List Seen
+flush_seen ss u = seen_at ss (u 0) ∷ seen_at ss (u 1) ∷ seen_at ss (u 2) ∷ seen_at ss (u 3) ∷ seen_at ss (u 4) ∷ replicate 10 vacant_seen
 
-abbrev pub flush_events : ℕ → ℕ → ℕ → ℕ → List Event
-flush_events ss a b c = pools_from 0 (flush_seen ss a b c)
+abbrev pub flush_events : ℕ → (ℕ → ℕ) → List Event
+flush_events ss u = pools_from 0 (flush_seen ss u)
 
-pub flush_parts : (ss a b c : ℕ)
-    → entries_of 0 (flush_events ss a b c) ≡ entries_of 0 (looked ss 0 a) ++ (entries_of 0 (looked ss 1 b) ++ (entries_of 0 (looked ss 2 c) ++ entries_of 0 vacants))
-flush_parts ss a b c =
-    entries_of-append 0 (looked ss 0 a) (looked ss 1 b ++ (looked ss 2 c ++ vacants))
-    ∙ ap (λ (es : List Entry). entries_of 0 (looked ss 0 a) ++ es)
-    (entries_of-append 0 (looked ss 1 b) (looked ss 2 c ++ vacants)
-    ∙ ap (λ (es : List Entry). entries_of 0 (looked ss 1 b) ++ es) (entries_of-append 0 (looked ss 2 c) vacants))
+-- the entries of a look at a place
+abbrev pub look_entries : ℕ → ℕ → (ℕ → ℕ) → List Entry
+look_entries ss i u = entries_of 0 (looked ss i (u i))
 
-abbrev pub pooled_then : ℕ → ℕ → ℕ → List ℕ → List ℕ
-pooled_then a b c ps = with_free 2 c (with_free 1 b (with_free 0 a ps))
+-- those of the looks from a place on
+abbrev pub last_looks : List Entry
+last_looks = entries_of 0 vacants
 
-flush_by : (pp ss : ℕ) → (r a b c : ℕ) (ps his : List ℕ) → Done (desk_by pp ss r a b c [] ps his) (entries_of 0 (flush_events ss a b c))
-    (desk_by pp ss r (used_then a) (used_then b) (used_then c) [] (pooled_then a b c ps) his)
-flush_by pp ss r a b c ps his =
-    let d0 = desk_by pp ss r a b c [] ps his in
-    let d1 = desk_by pp ss r (used_then a) b c [] (with_free 0 a ps) his in
-    let d2 = desk_by pp ss r (used_then a) (used_then b) c [] (with_free 1 b (with_free 0 a ps)) his in
-    let d3 = desk_by pp ss r (used_then a) (used_then b) (used_then c) [] (pooled_then a b c ps) his in
-    subst (λ (es : List Entry). Done d0 es d3) (sym (flush_parts ss a b c))
-    (done_both d0 d1 d3 (entries_of 0 (looked ss 0 a)) (entries_of 0 (looked ss 1 b) ++ (entries_of 0 (looked ss 2 c) ++ entries_of 0 vacants)) (look_0 pp ss r a b c ps his)
-    (done_both d1 d2 d3 (entries_of 0 (looked ss 1 b)) (entries_of 0 (looked ss 2 c) ++ entries_of 0 vacants) (look_1 pp ss r (used_then a) b c (with_free 0 a ps) his)
-    (done_both d2 d3 d3 (entries_of 0 (looked ss 2 c)) (entries_of 0 vacants) (look_2 pp ss r (used_then a) (used_then b) c (with_free 1 b (with_free 0 a ps)) his)
-    (look_vacants pp ss r (used_then a) (used_then b) (used_then c) (pooled_then a b c ps) his))))
+abbrev pub looks_from_4 : ℕ → (ℕ → ℕ) → List Entry
+looks_from_4 ss u = look_entries ss 4 u ++ last_looks
+
+abbrev pub looks_from_3 : ℕ → (ℕ → ℕ) → List Entry
+looks_from_3 ss u = look_entries ss 3 u ++ looks_from_4 ss u
+
+abbrev pub looks_from_2 : ℕ → (ℕ → ℕ) → List Entry
+looks_from_2 ss u = look_entries ss 2 u ++ looks_from_3 ss u
+
+abbrev pub looks_from_1 : ℕ → (ℕ → ℕ) → List Entry
+looks_from_1 ss u = look_entries ss 1 u ++ looks_from_2 ss u
+
+pub flush_parts : (ss : ℕ) (u : ℕ → ℕ) → entries_of 0 (flush_events ss u) ≡ look_entries ss 0 u ++ looks_from_1 ss u
+flush_parts ss u =
+    entries_of-append 0 (looked ss 0 (u 0)) (looked ss 1 (u 1) ++ (looked ss 2 (u 2) ++ (looked ss 3 (u 3) ++ (looked ss 4 (u 4) ++ vacants))))
+    ∙ ap (λ (es : List Entry). look_entries ss 0 u ++ es)
+    (entries_of-append 0 (looked ss 1 (u 1)) (looked ss 2 (u 2) ++ (looked ss 3 (u 3) ++ (looked ss 4 (u 4) ++ vacants)))
+    ∙ ap (λ (es : List Entry). look_entries ss 1 u ++ es)
+    (entries_of-append 0 (looked ss 2 (u 2)) (looked ss 3 (u 3) ++ (looked ss 4 (u 4) ++ vacants))
+    ∙ ap (λ (es : List Entry). look_entries ss 2 u ++ es)
+    (entries_of-append 0 (looked ss 3 (u 3)) (looked ss 4 (u 4) ++ vacants)
+    ∙ ap (λ (es : List Entry). look_entries ss 3 u ++ es) (entries_of-append 0 (looked ss 4 (u 4)) vacants))))
+
+-- the pool behind looks at so many places
+abbrev pub pooled_then : ℕ → (ℕ → ℕ) → List ℕ → List ℕ
+pooled_then zero u ps = ps
+pooled_then (suc k) u ps = with_free k (u k) (pooled_then k u ps)
+
+flush_by : (pp ss : ℕ) → (r : ℕ) (u : ℕ → ℕ) (ps his : List ℕ) → Done (desk_of pp ss r u [] ps his) (entries_of 0 (flush_events ss u))
+    (desk_of pp ss r (λ i. used_then (u i)) [] (pooled_then 5 u ps) his)
+flush_by pp ss r u ps his =
+    let d0 = desk_by pp ss r (u 0) (u 1) (u 2) (u 3) (u 4) [] (pooled_then 0 u ps) his in
+    let d1 = desk_by pp ss r (used_then (u 0)) (u 1) (u 2) (u 3) (u 4) [] (pooled_then 1 u ps) his in
+    let d2 = desk_by pp ss r (used_then (u 0)) (used_then (u 1)) (u 2) (u 3) (u 4) [] (pooled_then 2 u ps) his in
+    let d3 = desk_by pp ss r (used_then (u 0)) (used_then (u 1)) (used_then (u 2)) (u 3) (u 4) [] (pooled_then 3 u ps) his in
+    let d4 = desk_by pp ss r (used_then (u 0)) (used_then (u 1)) (used_then (u 2)) (used_then (u 3)) (u 4) [] (pooled_then 4 u ps) his in
+    let d5 = desk_by pp ss r (used_then (u 0)) (used_then (u 1)) (used_then (u 2)) (used_then (u 3)) (used_then (u 4)) [] (pooled_then 5 u ps) his in
+    subst (λ (es : List Entry). Done d0 es d5) (sym (flush_parts ss u))
+    (done_both d0 d1 d5 (look_entries ss 0 u) (looks_from_1 ss u) (look_0 pp ss r (u 0) (u 1) (u 2) (u 3) (u 4) (pooled_then 0 u ps) his)
+    (done_both d1 d2 d5 (look_entries ss 1 u) (looks_from_2 ss u) (look_1 pp ss r (used_then (u 0)) (u 1) (u 2) (u 3) (u 4) (pooled_then 1 u ps) his)
+    (done_both d2 d3 d5 (look_entries ss 2 u) (looks_from_3 ss u) (look_2 pp ss r (used_then (u 0)) (used_then (u 1)) (u 2) (u 3) (u 4) (pooled_then 2 u ps) his)
+    (done_both d3 d4 d5 (look_entries ss 3 u) (looks_from_4 ss u) (look_3 pp ss r (used_then (u 0)) (used_then (u 1)) (used_then (u 2)) (u 3) (u 4) (pooled_then 3 u ps) his)
+    (done_both d4 d5 d5 (look_entries ss 4 u) last_looks (look_4 pp ss r (used_then (u 0)) (used_then (u 1)) (used_then (u 2)) (used_then (u 3)) (u 4) (pooled_then 4 u ps) his)
+    (look_vacants pp ss r (used_then (u 0)) (used_then (u 1)) (used_then (u 2)) (used_then (u 3)) (used_then (u 4)) (pooled_then 5 u ps) his))))))
 
 times_with : (i j n : ℕ) (ps : List ℕ) → i ≢ j → times i (with_free j n ps) ≡ times i ps
 times_with i j zero ps e = let t = times-put i j ps in let s = same_other i j e in omega (arith, t, s)
@@ -345,71 +373,68 @@ here : (i n : ℕ) (ps : List ℕ) (m : ℕ) → n ≡ m + times i ps → m + ti
 here i zero ps m e = let t = times-put i i ps in let s = same_self i in omega (arith, t, s, e)
 here i (suc n) ps m e = sym e
 
-abbrev pub flushed : List ℕ → List ℕ → List ℕ
-flushed his ps = pooled_then (uses his [] ps 0) (uses his [] ps 1) (uses his [] ps 2) ps
+-- a place that wasn't looked at yet
+not_looked : (k i : ℕ) (u : ℕ → ℕ) (ps : List ℕ) → k ≤ i → times i (pooled_then k u ps) ≡ times i ps
+not_looked zero i u ps above = refl
+not_looked (suc k) i u ps above = times_with i k (u k) (pooled_then k u ps) (λ e. absurd (omega (arith, e, above))) ∙ not_looked k i u ps (omega (arith, above))
 
-flushed_uses : (his ps : List ℕ)
-    → (used_then (uses his [] ps 0) ≡ uses his [] (flushed his ps) 0)
-    × ((used_then (uses his [] ps 1) ≡ uses his [] (flushed his ps) 1) × (used_then (uses his [] ps 2) ≡ uses his [] (flushed his ps) 2))
-flushed_uses his ps =
-    let a = uses his [] ps 0 in
-    let b = uses his [] ps 1 in
-    let c = uses his [] ps 2 in (
-      (let x = here 0 a ps (times 0 his) (omega arith) in
-          let y = times_with 0 1 b (with_free 0 a ps) (λ e. absurd (omega arith)) in
-          let z = times_with 0 2 c (with_free 1 b (with_free 0 a ps)) (λ e. absurd (omega arith)) in omega (arith, x, y, z)),
-      (
-        (let x = times_with 1 0 a ps (λ e. absurd (omega arith)) in
-            let y = here 1 b (with_free 0 a ps) (times 1 his) (omega (arith, x)) in
-            let z = times_with 1 2 c (with_free 1 b (with_free 0 a ps)) (λ e. absurd (omega arith)) in omega (arith, x, y, z)),
-        (let x = times_with 2 0 a ps (λ e. absurd (omega arith)) in
-            let y = times_with 2 1 b (with_free 0 a ps) (λ e. absurd (omega arith)) in
-            let z = here 2 c (with_free 1 b (with_free 0 a ps)) (times 2 his) (omega (arith, x, y)) in omega (arith, x, y, z)),
-      ),
-    )
+-- a place that was looked at
+looked_at : (k i : ℕ) (u : ℕ → ℕ) (ps : List ℕ) (m : ℕ) → i < k → u i ≡ m + times i ps → m + times i (pooled_then k u ps) ≡ used_then (u i)
+looked_at zero i u ps m below e = absurd (omega (arith, below))
+looked_at (suc k) i u ps m below e = go (nat_le k i) refl (λ lower. looked_at k i u ps m lower e) where
+  go : (b : Bool) → nat_le k i ≡ b → (i < k → m + times i (pooled_then k u ps) ≡ used_then (u i)) → m + times i (pooled_then (suc k) u ps) ≡ used_then (u i)
+  go true at rest =
+      let same : i ≡ k = (let l = leb-true k i at in omega (arith, l, below)) in
+      subst (λ j. m + times i (with_free j (u j) (pooled_then k u ps)) ≡ used_then (u i)) same
+      (here i (u i) (pooled_then k u ps) m (let n = not_looked k i u ps (omega (arith, same)) in omega (arith, e, n)))
+  go false at rest =
+      let lower : i < k = leb-false k i at in
+      let t = times_with i k (u k) (pooled_then k u ps) (λ same. absurd (omega (arith, same, lower))) in
+      let r = rest lower in
+      omega (arith, t, r)
+
+abbrev pub flushed : List ℕ → List ℕ → List ℕ
+flushed his ps = pooled_then 5 (λ i. uses his [] ps i) ps
+
+flushed_uses : (his ps : List ℕ) (i : ℕ) → i < 5 → used_then (uses his [] ps i) ≡ uses his [] (flushed his ps) i
+flushed_uses his ps i low =
+    let e = looked_at 5 i (λ j. uses his [] ps j) ps (times i his) low (omega arith) in omega (arith, e)
 
 pub flush_done : (pp ss : ℕ) → (r : ℕ) (his ps : List ℕ)
-    → Done (desk pp ss r his [] ps) (entries_of 0 (flush_events ss (uses his [] ps 0) (uses his [] ps 1) (uses his [] ps 2))) (desk pp ss r his [] (flushed his ps))
+    → Done (desk pp ss r his [] ps) (entries_of 0 (flush_events ss (λ i. uses his [] ps i))) (desk pp ss r his [] (flushed his ps))
 flush_done pp ss r his ps =
-    let a = uses his [] ps 0 in
-    let b = uses his [] ps 1 in
-    let c = uses his [] ps 2 in
-    let at = flushed_uses his ps in
-    done_to (desk pp ss r his [] ps) (desk_by pp ss r (used_then a) (used_then b) (used_then c) [] (flushed his ps) (put_all his [])) (desk pp ss r his [] (flushed his ps))
-    (entries_of 0 (flush_events ss a b c)) (flush_by pp ss r a b c ps (put_all his []))
-    (same_parts pp ss r (used_then a) (used_then b) (used_then c) (uses his [] (flushed his ps) 0) (uses his [] (flushed his ps) 1) (uses his [] (flushed his ps) 2)
-    [] (flushed his ps) (put_all his []) (put_all his []) at.0 at.1.0 at.1.1 refl)
+    let u : ℕ → ℕ = λ i. uses his [] ps i in
+    done_to (desk pp ss r his [] ps) (desk_of pp ss r (λ i. used_then (u i)) [] (flushed his ps) (put_all his [])) (desk pp ss r his [] (flushed his ps))
+    (entries_of 0 (flush_events ss u)) (flush_by pp ss r u ps (put_all his []))
+    (same_parts pp ss r (λ i. used_then (u i)) (λ i. uses his [] (flushed his ps) i) [] (flushed his ps) (put_all his []) (put_all his []) (λ i low. flushed_uses his ps i low) refl)
 
 -- ---- a full pool
 
--- Each of the three places is pooled, or held by one of these.
+-- Each of the five places is pooled, or held by one of these.
 pub record IsFull (his ps : List ℕ) : Type 0 where
-  pub low : AllByRecursion (λ i. i < 3) ps
-  pub each : (i : ℕ) → i < 3 → times i his + times i ps ≡ 1
+  pub low : AllByRecursion (λ i. i < 5) ps
+  pub each : (i : ℕ) → i < 5 → times i his + times i ps ≡ 1
 
-all_put : (p : ℕ) (xs : List ℕ) → p < 3 → AllByRecursion (λ i. i < 3) xs → AllByRecursion (λ i. i < 3) (put_in p xs)
+all_put : (p : ℕ) (xs : List ℕ) → p < 5 → AllByRecursion (λ i. i < 5) xs → AllByRecursion (λ i. i < 5) (put_in p xs)
 all_put p [] low all = (low, tt)
 all_put p (x ∷ xs) low all =
-    cond_both (nat_le p x) (p ∷ x ∷ xs) (x ∷ put_in p xs) (λ ys. AllByRecursion (λ i. i < 3) ys) (λ e. (low, all)) (λ e. (all.0, all_put p xs low all.1))
+    cond_both (nat_le p x) (p ∷ x ∷ xs) (x ∷ put_in p xs) (λ ys. AllByRecursion (λ i. i < 5) ys) (λ e. (low, all)) (λ e. (all.0, all_put p xs low all.1))
 
-all_with : (p n : ℕ) (xs : List ℕ) → p < 3 → AllByRecursion (λ i. i < 3) xs → AllByRecursion (λ i. i < 3) (with_free p n xs)
+all_with : (p n : ℕ) (xs : List ℕ) → p < 5 → AllByRecursion (λ i. i < 5) xs → AllByRecursion (λ i. i < 5) (with_free p n xs)
 all_with p zero xs low all = all_put p xs low all
 all_with p (suc n) xs low all = all
+
+all_pooled_then : (k : ℕ) (u : ℕ → ℕ) (ps : List ℕ) → k ≤ 5 → AllByRecursion (λ i. i < 5) ps → AllByRecursion (λ i. i < 5) (pooled_then k u ps)
+all_pooled_then zero u ps few all = all
+all_pooled_then (suc k) u ps few all = all_with k (u k) (pooled_then k u ps) (omega (arith, few)) (all_pooled_then k u ps (omega (arith, few)) all)
 
 used_once : (n : ℕ) → n ≤ 1 → used_then n ≡ 1
 used_once zero few = refl
 used_once (suc n) few = omega (arith, few)
 
-pub full_flushed : (his ps : List ℕ) → AllByRecursion (λ i. i < 3) ps → ((i : ℕ) → i < 3 → times i his + times i ps ≤ 1) → IsFull his (flushed his ps)
-full_flushed his ps low once =
-    let a = uses his [] ps 0 in
-    let b = uses his [] ps 1 in
-    let c = uses his [] ps 2 in
-    let at = flushed_uses his ps in
-    record {
-      low = all_with 2 c (with_free 1 b (with_free 0 a ps)) (lit< tt) (all_with 1 b (with_free 0 a ps) (lit< tt) (all_with 0 a ps (lit< tt) low));
-      each = λ i small. of_three (λ j. times j his + times j (flushed his ps) ≡ 1) i small
-          (let e = at.0 in let o = once 0 (lit< tt) in let u = used_once a (omega (arith, o)) in omega (arith, e, u))
-          (let e = at.1.0 in let o = once 1 (lit< tt) in let u = used_once b (omega (arith, o)) in omega (arith, e, u))
-          (let e = at.1.1 in let o = once 2 (lit< tt) in let u = used_once c (omega (arith, o)) in omega (arith, e, u));
-    }
+pub full_flushed : (his ps : List ℕ) → AllByRecursion (λ i. i < 5) ps → ((i : ℕ) → i < 5 → times i his + times i ps ≤ 1) → IsFull his (flushed his ps)
+full_flushed his ps low once = record {
+  low = all_pooled_then 5 (λ i. uses his [] ps i) ps (omega arith) low;
+  each = λ i small.
+      (let e = flushed_uses his ps i small in let o = once i small in let u = used_once (uses his [] ps i) (omega (arith, o)) in omega (arith, e, u));
+}

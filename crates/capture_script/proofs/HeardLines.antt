@@ -106,7 +106,7 @@ asking_step pp ss t w v s old bytes digits b stands is small does version top as
     let p : ℕ = has.place in
     let stage = subst (λ ps. Stage pp ss t 1 his [] ps) has.is stands.stage in
     let full = subst (λ ps. IsFull his ps) has.is stands.full in
-    let low : p < 3 = full.low.0 in
+    let low : p < 5 = full.low.0 in
     let free : times p his ≡ 0 = free_of p his has.rest full in
     let q : List Input = twice bytes (outcome_at pp ss p) in
     let n : ℕ = length (came_back pp ss now (datagram bytes) ++ came_back pp ss (given_state pp ss now bytes p) (datagram bytes)) in

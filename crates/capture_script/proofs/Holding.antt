@@ -1,4 +1,4 @@
--- The buffers of the open blocks of a captured script: at three places, each held once, and what inputs make of them.
+-- The buffers of the open blocks of a captured script: at five places, each held once, and what inputs make of them.
 use Rattle.std.proofs.Common.{◌≡◌, ◌≢◌, ◌⊎◌, inl, inr, ℕ, suc, ◌+◌, ◌<◌, ◌≤◌, List, [], ◌∷◌, ◌++◌, length, map, refl, sym, ap, subst, ◌∙◌, arith}
 use Rattle.std.specs.Prelude.{Option, Some, None}
 use Rattle.std.specs.List.{AllByRecursion}
@@ -27,12 +27,12 @@ pub places_in-append : (gs hs : List Given) → places_in (gs ++ hs) ≡ places_
 places_in-append [] hs = refl
 places_in-append (g ∷ gs) hs = ap (λ l. g.place ∷ l) (places_in-append gs hs)
 
--- one of the three places, with a buffer of the script's size
+-- one of the five places, with a buffer of the script's size
 pub record IsLive (pp ss : ℕ) (g : Given) : Type 0 where
-  pub low : g.place < 3
+  pub low : g.place < 5
   pub sized : g.size ≡ ss
 
--- Inputs lead to this state; and each open block's buffer is at one of the three places, no two at one.
+-- Inputs lead to this state; and each open block's buffer is at one of the five places, no two at one.
 pub record Live (pp ss : ℕ) (s : State) : Type 0 where
   pub inputs : List Input
   pub reached : After (config pp) inputs ≡ s
@@ -110,7 +110,7 @@ pub record HoldsMore (pp ss : ℕ) (p : ℕ) (s new : State) : Type 0 where
 abbrev given_at : (pp ss : ℕ) → ℕ → Given
 given_at pp ss p = record { place = p; size = ss }
 
-pub one_given : (pp ss : ℕ) → (p b : ℕ) (s : State) → Live pp ss s → p < 3 → times p (held_places s) ≡ 0 → s.asked ≡ Some b → HoldsMore pp ss p s (step (config pp) s (claimed (Some (given_at pp ss p)))).after
+pub one_given : (pp ss : ℕ) → (p b : ℕ) (s : State) → Live pp ss s → p < 5 → times p (held_places s) ≡ 0 → s.asked ≡ Some b → HoldsMore pp ss p s (step (config pp) s (claimed (Some (given_at pp ss p)))).after
 one_given pp ss p b s live low free asked =
     let new : State = (step (config pp) s (claimed (Some (given_at pp ss p)))).after in
     let more : HasOneMore (given_at pp ss p) (held s.opens) (held new.opens) =
@@ -153,10 +153,10 @@ length-places : (gs : List Given) → length (places_in gs) ≡ length gs
 length-places [] = refl
 length-places (g ∷ gs) = ap suc (length-places gs)
 
--- two blocks at most are open
-pub few_places : (pp ss : ℕ) → (s : State) → Live pp ss s → length (held_places s) ≤ 2
+-- four blocks at most are open
+pub few_places : (pp ss : ℕ) → (s : State) → Live pp ss s → length (held_places s) ≤ 4
 few_places pp ss s live =
-    let room : length s.opens ≤ 2 = subst (λ (u : State). length u.opens ≤ 2) live.reached (blocks_are_in_order (config pp) live.inputs (omega arith)).room in
+    let room : length s.opens ≤ 4 = subst (λ (u : State). length u.opens ≤ 4) live.reached (blocks_are_in_order (config pp) live.inputs (omega arith)).room in
     let fewer = few_held s.opens in
     let counted = length-places (held s.opens) in
     omega (arith, room, fewer, counted)

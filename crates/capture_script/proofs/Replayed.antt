@@ -30,13 +30,13 @@ use Rattle.script_trace.specs.Laws.{KeepsPromises}
 use Rattle.script_trace.proofs.Scripts.{runs_keep}
 use Rattle.script_trace.proofs.OneReport.{report_one}
 use Rattle.script_trace.proofs.Counting.{takes_counted}
-use Rattle.capture_script.specs.Playing.{config, nothing_played}
+use Rattle.capture_script.specs.Playing.{open_blocks, config, nothing_played}
 use Rattle.capture_script.specs.Script.{Scripted, new_script, header_line, begun_lines, lines_from, script_behind}
 use Rattle.capture_script.proofs.Sitting.{Sits, header_sits}
 use Rattle.capture_script.proofs.Fitting.{AllGo, packets_go}
 use Rattle.capture_script.proofs.Whole.{read_is, between, between_goes}
 use Rattle.capture_script.specs.Traces.{stop_lines, lines_before_end, takes_in, TakesWhatIsFilled, PacketsAreReplayed}
-use Rattle.capture_script.proofs.Desk.{IsFull, of_three}
+use Rattle.capture_script.proofs.Desk.{IsFull, of_five}
 use Rattle.capture_script.proofs.Holding.{held_places, Live}
 use Rattle.capture_script.proofs.Stages.{Stage, IsRecorded}
 use Rattle.capture_script.proofs.TurnLines.{state_of, state_after}
@@ -53,8 +53,8 @@ first_live pp ss = record { inputs = []; reached = refl; each = tt; once = λ i.
 
 first_full : IsFull [] all_pooled
 first_full = record {
-  low = (lit< tt, (lit< tt, (lit< tt, tt)));
-  each = λ i small. of_three (λ i. times i [] + times i all_pooled ≡ 1) i small refl refl refl;
+  low = (lit< tt, (lit< tt, (lit< tt, (lit< tt, (lit< tt, tt)))));
+  each = λ i small. of_five (λ i. times i [] + times i all_pooled ≡ 1) i small refl refl refl refl refl;
 }
 
 begun : (pp ss : ℕ) (t : Trace) → state_of pp ss t ≡ first_state → Stage pp ss t 1 [] [] all_pooled → Stands pp ss t (nothing_wide 2) nothing_played
@@ -85,7 +85,7 @@ from_begin pp ss least most ls close =
     let c : AcqConfig = config pp in
     let b = begins pp ss least most in
     let there : state_of pp ss b.to ≡ first_state = state_after pp ss opening b.to (restart ∷ []) b.inputs in
-    let front = first_walk c opening (first_lines ss) b.to (tt, (tt, (tt, (tt, (tt, tt))))) b.leads in
+    let front = first_walk c opening (first_lines ss) b.to (tt, (tt, (tt, (tt, (tt, (tt, (tt, tt))))))) b.leads in
     let rest : Closes pp ss b.to (nothing_wide 2) ls = close b.to (begun pp ss b.to there b.stage) in
     let inputs : rest.to.inputs ≡ (restart ∷ []) ++ rest.told = rest.inputs ∙ ap (λ q. q ++ rest.told) b.inputs in
     let counted : takes_in ls ≡ length (fills pp (retired_from c first_state rest.told)) = rest.counted ∙ ap (λ u. length (fills pp (retired_from c u rest.told))) there in
@@ -157,7 +157,7 @@ runs_all p sits ls all wide to on = (
   running (config p) (nothing_wide 2) opening,
   [],
   on.text,
-  record { config = record { version = 2; p = p; window = 2; timeout = 200; age = 20; rounds = 0 }; read = read_is (header_line p) sits; silent = refl; after = refl },
+  record { config = record { version = 2; p = p; window = open_blocks; timeout = 200; age = 20; rounds = 0 }; read = read_is (header_line p) sits; silent = refl; after = refl },
   walks_run (config p) (nothing_wide 2) opening 1 ls on.text wide to all on.walks,
   refl,
 )

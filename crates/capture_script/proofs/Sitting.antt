@@ -70,7 +70,7 @@ pub record Goes (l : ScriptLine) : Type 0 where
 few : (n k : ℕ) → n ≤ 21 * k → k ≤ 7 → n ≤ 20000
 few n k a b = omega (arith, a, b)
 
-pub header_sits : (p : ℕ) → 528 ≤ p → p ≤ 8964 → Sits (line.header (record { version = 2; p = p; window = 2; timeout = 200; age = 20; rounds = 0 }))
+pub header_sits : (p : ℕ) → 528 ≤ p → p ≤ 8964 → Sits (line.header (record { version = 2; p = p; window = 4; timeout = 200; age = 20; rounds = 0 }))
 header_sits p a b =
     let small : p < 2 ^ 64 = omega (arith, b) in
     record {
@@ -87,11 +87,11 @@ header_sits p a b =
         age_to = omega arith;
         rounds = omega arith;
       };
-      no_feed = lacks_joined (codes "gevacq") (decimal 2 ∷ decimal p ∷ decimal 2 ∷ decimal 200 ∷ decimal 20 ∷ decimal 0 ∷ [])
-          (refl, (number_lacks_feed 2 (lit< tt), (number_lacks_feed p small, (number_lacks_feed 2 (lit< tt), (number_lacks_feed 200 (lit< tt), (number_lacks_feed 20 (lit< tt), (number_lacks_feed 0 (lit< tt), tt)))))));
+      no_feed = lacks_joined (codes "gevacq") (decimal 2 ∷ decimal p ∷ decimal 4 ∷ decimal 200 ∷ decimal 20 ∷ decimal 0 ∷ [])
+          (refl, (number_lacks_feed 2 (lit< tt), (number_lacks_feed p small, (number_lacks_feed 4 (lit< tt), (number_lacks_feed 200 (lit< tt), (number_lacks_feed 20 (lit< tt), (number_lacks_feed 0 (lit< tt), tt)))))));
       short = few _ 7
-          (short_joined (codes "gevacq") (decimal 2 ∷ decimal p ∷ decimal 2 ∷ decimal 200 ∷ decimal 20 ∷ decimal 0 ∷ [])
-          (omega arith, (number_is_short 2 (lit< tt), (number_is_short p small, (number_is_short 2 (lit< tt), (number_is_short 200 (lit< tt), (number_is_short 20 (lit< tt), (number_is_short 0 (lit< tt), tt))))))))
+          (short_joined (codes "gevacq") (decimal 2 ∷ decimal p ∷ decimal 4 ∷ decimal 200 ∷ decimal 20 ∷ decimal 0 ∷ [])
+          (omega arith, (number_is_short 2 (lit< tt), (number_is_short p small, (number_is_short 4 (lit< tt), (number_is_short 200 (lit< tt), (number_is_short 20 (lit< tt), (number_is_short 0 (lit< tt), tt))))))))
           (omega arith);
     }
 

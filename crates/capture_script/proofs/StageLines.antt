@@ -21,7 +21,7 @@ use Rattle.script_trace.specs.Trace.{Trace, board, caller, acquirer}
 use Rattle.script_trace.specs.Answers.{done_text}
 use Rattle.script_trace.specs.Modes.{FillsInMode}
 use Rattle.script_trace.specs.BoardLines.{TakeIfOpen}
-use Rattle.capture_script.proofs.Desk.{desk, uses, Done, done_both, done_none, fill_done, take_done, seen_at, looked, vacants, flush_seen, flush_events, flush_parts, flushed, flush_done, IsFull, full_flushed}
+use Rattle.capture_script.proofs.Desk.{desk, uses, Done, done_both, done_none, fill_done, take_done, seen_at, looked, flush_seen, flush_events, look_entries, last_looks, looks_from_4, looks_from_3, looks_from_2, looks_from_1, flush_parts, flushed, flush_done, IsFull, full_flushed}
 use Rattle.capture_script.specs.Script.{taking}
 use Rattle.acquisition_machine.specs.Machine.{Input}
 use Rattle.board_calls.specs.Rounds.{IsGrabOf, AreGrabbedIfHeld}
@@ -72,7 +72,7 @@ fills_done pp ss r (x ∷ xs) his out pool all =
 
 -- ---- takes
 
-pub take_goes : (pp ss : ℕ) → (t : Trace) (r p : ℕ) (f : Filling) (his : List ℕ) (out : List Item) (ps : List ℕ) → Stage pp ss t r his (item p f ∷ out) ps → p < 3 → uses his (item p f ∷ out) ps p ≤ 1
+pub take_goes : (pp ss : ℕ) → (t : Trace) (r p : ℕ) (f : Filling) (his : List ℕ) (out : List Item) (ps : List ℕ) → Stage pp ss t r his (item p f ∷ out) ps → p < 5 → uses his (item p f ∷ out) ps p ≤ 1
     → Goes pp ss t (line.take ∷ []) [] r his out ps
 take_goes pp ss t r p f his out ps s low once =
     let event = has_event t s.handles in
@@ -98,7 +98,7 @@ take_goes pp ss t r p f his out ps s low once =
 
 -- as many as wait
 pub takes_go : (pp ss : ℕ) → (t : Trace) (r : ℕ) (xs : List Retired) (his ps : List ℕ) → Stage pp ss t r his (map item_of xs) ps → AllByRecursion (IsLive pp ss) (map given_of xs)
-    → ((i : ℕ) → i < 3 → uses his (map item_of xs) ps i ≤ 1) → Goes pp ss t (replicate (length xs) line.take) [] r his [] ps
+    → ((i : ℕ) → i < 5 → uses his (map item_of xs) ps i ≤ 1) → Goes pp ss t (replicate (length xs) line.take) [] r his [] ps
 takes_go pp ss t r [] his ps s all once = no_line pp ss t r his [] ps s
 takes_go pp ss t r (x ∷ xs) his ps s all once =
     let first = take_goes pp ss t r x.place x.buf his (map item_of xs) ps s all.0.low (once x.place all.0.low) in
@@ -114,52 +114,43 @@ grab_of ss (suc n) = λ e. let f : Away ≡ Held = ap (λ (b : Bool). if b then 
 not_held : Vacant ≡ Held → ⊥
 not_held e = cc
 
-all_grabbed : (ss a b c : ℕ) → AreGrabbedIfHeld (flush_seen ss a b c)
-all_grabbed ss a b c = (
-  grab_of ss a,
-  (
-    grab_of ss b,
-    (
-      grab_of ss c,
-      (not_held, (not_held, (not_held, (not_held, (not_held, (not_held, (not_held, (not_held, (not_held, (not_held, (not_held, (not_held, tt)))))))))))),
-    ),
-  ),
-)
+all_grabbed : (ss : ℕ) (u : ℕ → ℕ) → AreGrabbedIfHeld (flush_seen ss u)
+all_grabbed ss u = (grab_of ss (u 0), (grab_of ss (u 1), (grab_of ss (u 2), (grab_of ss (u 3), (grab_of ss (u 4), (not_held, (not_held, (not_held, (not_held, (not_held, (not_held, (not_held, (not_held, (not_held, (not_held, tt)))))))))))))))
 
 looked_recorded : (ss i n : ℕ) → AllByRecursion IsRecorded (entries_of caller (looked ss i n))
 looked_recorded ss i zero = (tt, (tt, (tt, tt)))
 looked_recorded ss i (suc n) = (tt, tt)
 
-flush_recorded : (ss a b c : ℕ) → AllByRecursion IsRecorded (entries_of caller (flush_events ss a b c))
-flush_recorded ss a b c =
-    subst (λ (es : List Entry). AllByRecursion IsRecorded es) (sym (flush_parts ss a b c))
-    (all_append IsRecorded (entries_of caller (looked ss 0 a)) (entries_of caller (looked ss 1 b) ++ (entries_of caller (looked ss 2 c) ++ entries_of caller vacants)) (looked_recorded ss 0 a)
-    (all_append IsRecorded (entries_of caller (looked ss 1 b)) (entries_of caller (looked ss 2 c) ++ entries_of caller vacants) (looked_recorded ss 1 b)
-    (all_append IsRecorded (entries_of caller (looked ss 2 c)) (entries_of caller vacants) (looked_recorded ss 2 c)
-    (tt, (tt, (tt, (tt, (tt, (tt, (tt, (tt, (tt, (tt, (tt, (tt, tt)))))))))))))))
+flush_recorded : (ss : ℕ) (u : ℕ → ℕ) → AllByRecursion IsRecorded (entries_of caller (flush_events ss u))
+flush_recorded ss u =
+    subst (λ (es : List Entry). AllByRecursion IsRecorded es) (sym (flush_parts ss u))
+    (all_append IsRecorded (look_entries ss 0 u) (looks_from_1 ss u) (looked_recorded ss 0 (u 0))
+    (all_append IsRecorded (look_entries ss 1 u) (looks_from_2 ss u) (looked_recorded ss 1 (u 1))
+    (all_append IsRecorded (look_entries ss 2 u) (looks_from_3 ss u) (looked_recorded ss 2 (u 2))
+    (all_append IsRecorded (look_entries ss 3 u) (looks_from_4 ss u) (looked_recorded ss 3 (u 3))
+    (all_append IsRecorded (look_entries ss 4 u) last_looks (looked_recorded ss 4 (u 4))
+    (tt, (tt, (tt, (tt, (tt, (tt, (tt, (tt, (tt, (tt, tt)))))))))))))))
 
 pub flush_goes : (pp ss : ℕ) → (t : Trace) (r : ℕ) (his ps : List ℕ) → Stage pp ss t r his [] ps → Goes pp ss t (line.flush 3 ∷ []) [] r his [] (flushed his ps)
 flush_goes pp ss t r his ps s =
-    let a = uses his [] ps 0 in
-    let b = uses his [] ps 1 in
-    let c = uses his [] ps 2 in
-    one_line pp ss t (line.flush 3) (entries_of caller (flush_events ss a b c)) [] (done_text (codes "flush")) r r his his [] [] (flushed his ps) ps s (
+    let u : ℕ → ℕ = λ i. uses his [] ps i in
+    one_line pp ss t (line.flush 3) (entries_of caller (flush_events ss u)) [] (done_text (codes "flush")) r r his his [] [] (flushed his ps) ps s (
       Ok tt,
       record {
-        events = flush_events ss a b c;
+        events = flush_events ss u;
         kind = record {
           in_range = omega arith;
           to_output = λ e. absurd (omega (arith, e));
           discards_output = λ e. absurd (omega (arith, e));
           to_input = λ e. absurd (omega (arith, e));
-          unqueued_to_input = λ e. record { seen = flush_seen ss a b c; all = refl; grabbed = all_grabbed ss a b c; is = refl };
+          unqueued_to_input = λ e. record { seen = flush_seen ss u; all = refl; grabbed = all_grabbed ss u; is = refl };
           discards_all = λ e. absurd (omega (arith, e));
         };
         is = refl;
       },
     )
     (flush_done pp ss r his ps)
-    (flush_recorded ss a b c)
+    (flush_recorded ss u)
 
 -- ---- takes and the flush behind them
 
@@ -170,7 +161,7 @@ pub record Rests (pp ss : ℕ) (t : Trace) (lines : List ScriptLine) (told : Lis
   pub full : IsFull his pool
 
 taken_go : (pp ss : ℕ) → (t : Trace) (r : ℕ) (x : Retired) (xs : List Retired) (his ps : List ℕ) → Stage pp ss t r his (map item_of (x ∷ xs)) ps → AllByRecursion (IsLive pp ss) (map given_of (x ∷ xs))
-    → AllByRecursion (λ i. i < 3) ps → ((i : ℕ) → i < 3 → uses his (map item_of (x ∷ xs)) ps i ≡ 1) → Rests pp ss t (replicate (suc (length xs)) line.take ++ line.flush 3 ∷ []) [] r his
+    → AllByRecursion (λ i. i < 5) ps → ((i : ℕ) → i < 5 → uses his (map item_of (x ∷ xs)) ps i ≡ 1) → Rests pp ss t (replicate (suc (length xs)) line.take ++ line.flush 3 ∷ []) [] r his
 taken_go pp ss t r x xs his ps s all low each =
     let takes = takes_go pp ss t r (x ∷ xs) his ps s all (λ i small. (let e = each i small in omega (arith, e))) in
     let flush = flush_goes pp ss takes.to r his ps takes.stage in
@@ -182,7 +173,7 @@ taken_go pp ss t r x xs his ps s all low each =
 
 -- what waits is taken, and goes back
 pub taking_goes : (pp ss : ℕ) → (t : Trace) (r : ℕ) (xs : List Retired) (his ps : List ℕ) → Stage pp ss t r his (map item_of xs) ps → AllByRecursion (IsLive pp ss) (map given_of xs)
-    → AllByRecursion (λ i. i < 3) ps → ((i : ℕ) → i < 3 → uses his (map item_of xs) ps i ≡ 1) → Rests pp ss t (taking (length xs)) [] r his
+    → AllByRecursion (λ i. i < 5) ps → ((i : ℕ) → i < 5 → uses his (map item_of xs) ps i ≡ 1) → Rests pp ss t (taking (length xs)) [] r his
 taking_goes pp ss t r [] his ps s all low each = record {
   pool = ps;
   goes = no_line pp ss t r his [] ps s;

@@ -169,17 +169,21 @@ told_alike pp ss t s q e =
 
 -- ---- a buffer waits
 
-few_low : (n : ℕ) → same 0 n + same 1 n + same 2 n ≤ 1
+few_low : (n : ℕ) → same 0 n + same 1 n + same 2 n + same 3 n + same 4 n ≤ 1
 few_low zero = omega arith
 few_low (suc zero) = omega arith
 few_low (suc (suc zero)) = omega arith
-few_low (suc (suc (suc n))) =
-    let a = same_other 0 (suc (suc (suc n))) (λ e. cc) in
-    let b = same_other 1 (suc (suc (suc n))) (λ e. cc) in
-    let c = same_other 2 (suc (suc (suc n))) (λ e. cc) in
-    omega (arith, a, b, c)
+few_low (suc (suc (suc zero))) = omega arith
+few_low (suc (suc (suc (suc zero)))) = omega arith
+few_low (suc (suc (suc (suc (suc n))))) =
+    let a = same_other 0 (suc (suc (suc (suc (suc n))))) (λ e. cc) in
+    let b = same_other 1 (suc (suc (suc (suc (suc n))))) (λ e. cc) in
+    let c = same_other 2 (suc (suc (suc (suc (suc n))))) (λ e. cc) in
+    let d = same_other 3 (suc (suc (suc (suc (suc n))))) (λ e. cc) in
+    let e = same_other 4 (suc (suc (suc (suc (suc n))))) (λ e. cc) in
+    omega (arith, a, b, c, d, e)
 
-few_times : (his : List ℕ) → times 0 his + times 1 his + times 2 his ≤ length his
+few_times : (his : List ℕ) → times 0 his + times 1 his + times 2 his + times 3 his + times 4 his ≤ length his
 few_times [] = omega arith
 few_times (n ∷ his) = let a = few_low n in let b = few_times his in omega (arith, a, b)
 
@@ -188,6 +192,7 @@ pub record HasPooled (ps : List ℕ) : Type 0 where
   pub rest : List ℕ
   pub is : ps ≡ place ∷ rest
 
-pub has_pooled : (his ps : List ℕ) → IsFull his ps → length his ≤ 2 → HasPooled ps
-has_pooled his [] full few = absurd (let a = full.each 0 (lit< tt) in let b = full.each 1 (lit< tt) in let c = full.each 2 (lit< tt) in let d = few_times his in omega (arith, a, b, c, d, few))
+pub has_pooled : (his ps : List ℕ) → IsFull his ps → length his ≤ 4 → HasPooled ps
+has_pooled his [] full few = absurd (let a = full.each 0 (lit< tt) in let b = full.each 1 (lit< tt) in let c = full.each 2 (lit< tt) in let d = full.each 3 (lit< tt) in let e = full.each 4 (lit< tt) in
+    let n = few_times his in omega (arith, a, b, c, d, e, n, few))
 has_pooled his (p ∷ ps) full few = record { place = p; rest = ps; is = refl }

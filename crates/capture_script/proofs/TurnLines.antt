@@ -65,7 +65,7 @@ settles_is pp ss t calls i said e = record {
 
 -- what waits and what is held are what was held
 each_settled : (pp ss : ℕ) → (s : State) (i : Input) (ps : List ℕ) → Settled pp ss s i → IsFull (held_places s) ps
-    → (k : ℕ) → k < 3 → uses (held_places (step (config pp) s i).after) (map item_of (came_back pp ss s i)) ps k ≡ 1
+    → (k : ℕ) → k < 5 → uses (held_places (step (config pp) s i).after) (map item_of (came_back pp ss s i)) ps k ≡ 1
 each_settled pp ss s i ps settled full k small =
     let his : List ℕ = held_places (step (config pp) s i).after in
     let gone : List ℕ = places_in (map given_of (came_back pp ss s i)) in

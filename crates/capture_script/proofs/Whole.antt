@@ -19,7 +19,7 @@ use Rattle.gev_capture.specs.Sightings as capture
 use Rattle.gev_capture.specs.Sightings.{no_moments}
 use Rattle.acquisition_machine.proofs.Order.{all_append}
 use Rattle.capture_script.specs.Playing.{stopped}
-use Rattle.capture_script.specs.Script.{Scripted, new_script, text_of, header_line, with_takes, closing_lines, lines_from, script_behind}
+use Rattle.capture_script.specs.Script.{Scripted, new_script, text_of, header_line, script_buffers, announce_lines, opening_lines, with_takes, closing_lines, lines_from, script_behind}
 use Rattle.capture_script.specs.Laws.{PacketsMakeScripts}
 use Rattle.capture_script.proofs.Sitting.{Sits, Goes, header_sits, announce_goes, flush_goes, start_goes, stop_goes, end_sits}
 use Rattle.capture_script.proofs.Fitting.{AllGo, taking_goes, packets_go}
@@ -93,18 +93,18 @@ all_lines (l ∷ ls) all = (all.0.is_line, all_lines ls all.1)
 -- the lines between header and end
 abbrev pub between : ℕ → Scripted → List ScriptLine → List ScriptLine
 between size last ls =
-    line.announce size ∷ line.announce size ∷ line.announce size ∷ line.flush 3 ∷ line.start ∷ (ls ++ with_takes (line.stop 0) (stopped last.p last.played))
+    announce_lines script_buffers size ++ line.flush 3 ∷ line.start ∷ (ls ++ with_takes (line.stop 0) (stopped last.p last.played))
 
 pub between_goes : (size : ℕ) (last : Scripted) (ls : List ScriptLine) → size ≤ 67108864 → AllGo ls → AllGo (between size last ls)
 between_goes size last ls small all =
     let one = announce_goes size small in
-    (one, (one, (one, (flush_goes, (start_goes, all_append Goes ls (with_takes (line.stop 0) (stopped last.p last.played)) all (stop_goes, taking_goes (stopped last.p last.played).filled))))))
+    (one, (one, (one, (one, (one, (flush_goes, (start_goes, all_append Goes ls (with_takes (line.stop 0) (stopped last.p last.played)) all (stop_goes, taking_goes (stopped last.p last.played).filled))))))))
 
 pub lines_are : (p size : ℕ) (last : Scripted) (ls : List ScriptLine)
-    → (header_line p ∷ line.announce size ∷ line.announce size ∷ line.announce size ∷ line.flush 3 ∷ line.start ∷ [] ++ ls) ++ closing_lines last
+    → (opening_lines p size ++ ls) ++ closing_lines last
     ≡ header_line p ∷ (between size last ls ++ line.end_of_script ∷ [])
 lines_are p size last ls =
-    ap (λ (t : List ScriptLine). header_line p ∷ line.announce size ∷ line.announce size ∷ line.announce size ∷ line.flush 3 ∷ line.start ∷ t)
+    ap (λ (t : List ScriptLine). opening_lines p size ++ t)
     (sym (append_assoc ls (with_takes (line.stop 0) (stopped last.p last.played)) (line.end_of_script ∷ [])))
 
 -- a header, lines that go on, and the end
@@ -135,6 +135,6 @@ packets_make_scripts port p size packets some fits small bytes =
       lines = subst (λ (t : List ScriptLine). AllByRecursion IsScriptLine t) (sym are)
           (first.is_line, all_append IsScriptLine (between size last ls) (line.end_of_script ∷ []) (all_lines (between size last ls) (all_sit (between size last ls) all)) (tt, tt));
       script = λ few. ap (λ (t : List ScriptLine). outcome replay_verdict (text_of t)) are
-          ∙ script_is p (line.announce size) (line.announce size ∷ line.announce size ∷ line.flush 3 ∷ line.start ∷ (ls ++ with_takes (line.stop 0) (stopped last.p last.played))) first all
+          ∙ script_is p (line.announce size) (announce_lines 4 size ++ line.flush 3 ∷ line.start ∷ (ls ++ with_takes (line.stop 0) (stopped last.p last.played))) first all
           (subst (λ (t : List ScriptLine). length t ≤ 4294967295) are few);
     }

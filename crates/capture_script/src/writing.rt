@@ -48,9 +48,7 @@ fn add_flush(alloc: Global, out: &mut Vec<u8>) -> Result<(), NoMemory>
 fn add_announces(alloc: Global, count: usize, size: u32, out: &mut Vec<u8>) -> Result<(), NoMemory>
     ensures { OnOk result (out.new.items ≡ out.old.items ++ text_of (announce_lines count size)) }
 {
-    let announce = Line::Announce {
-        size: u64::from(size),
-    };
+    let announce = Line::Announce { size: size as u64 };
     for _ in 0..count {
         add_line(alloc, &announce, out)?;
     }
