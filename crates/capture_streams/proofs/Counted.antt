@@ -6,10 +6,11 @@ use Rattle.gev_links.specs.Given.{one_more}
 use Rattle.gev_capture.specs.Contents.{Seen, other, fragment, cut, datagram, lost}
 use Rattle.gev_capture.specs.Sightings.{Sighting}
 use Rattle.capture_streams.specs.declared.counts.Counts.{Counts}
+use Rattle.capture_streams.specs.declared.sign.Kind.{Kind}
+use Rattle.capture_streams.specs.declared.sign.Kind.TheVariants.{Leader, Payload, Other}
 use Rattle.capture_streams.specs.declared.sign.Sign.{Sign}
-use Rattle.capture_streams.specs.declared.sign.Sign.TheVariants.{Leader, Payload, Other}
 use Rattle.capture_streams.specs.Signs.{sign}
-use Rattle.capture_streams.specs.Streams.{TableState, empty_table, is_between, begun, with_unlisted, with_new, with_datagram, counts_by, counts_after, with_seen, counted}
+use Rattle.capture_streams.specs.Streams.{TableState, empty_table, is_between, begun, with_unlisted, with_new_by, with_datagram, counts_by, counts_after, with_seen, counted}
 use Rattle.capture_streams.specs.Texts.{table_from}
 use Rattle.capture_streams.specs.Laws.{AddUp, packets_of, packets_among, PacketsAreCounted}
 
@@ -29,17 +30,17 @@ either Q true x y p q = p
 either Q false x y p q = q
 
 -- a stream that isn't listed is counted beside them
-new_keeps : (sender receiver : Peer) (moment : ℕ) (found : Sign) (t : TableState) → SamePackets (with_new sender receiver moment found t).counts t.counts
-new_keeps sender receiver moment (Leader extended block info) t =
+new_keeps : (kind : Kind) (sender receiver : Peer) (moment : ℕ) (found : Sign) (t : TableState) → SamePackets (with_new_by kind sender receiver moment found t).counts t.counts
+new_keeps (Leader extended block info) sender receiver moment found t =
     either (λ (u : TableState). SamePackets u.counts t.counts) (nat_lt (length t.streams) 256)
-    (record { streams = t.streams ++ begun sender receiver moment extended block info ∷ []; counts = t.counts }) (record { streams = t.streams; counts = with_unlisted t.counts })
+    (record { streams = t.streams ++ begun sender receiver moment block found ∷ []; counts = t.counts }) (record { streams = t.streams; counts = with_unlisted t.counts })
     (same_packets t.counts) (record { packets = refl; datagrams = refl; fragments = refl; cut = refl; other = refl })
-new_keeps sender receiver moment (Payload n) t = same_packets t.counts
-new_keeps sender receiver moment Other t = same_packets t.counts
+new_keeps (Payload n) sender receiver moment found t = same_packets t.counts
+new_keeps Other sender receiver moment found t = same_packets t.counts
 
 datagram_keeps : (place : Option ℕ) (sender receiver : Peer) (moment : ℕ) (found : Sign) (t : TableState) → SamePackets (with_datagram place sender receiver moment found t).counts t.counts
 datagram_keeps (Some place) sender receiver moment found t = same_packets t.counts
-datagram_keeps None sender receiver moment found t = new_keeps sender receiver moment found t
+datagram_keeps None sender receiver moment found t = new_keeps found.kind sender receiver moment found t
 
 seen_keeps : (moment : ℕ) (what : Seen) (t : TableState) → SamePackets (with_seen moment what t).counts t.counts
 seen_keeps moment other t = same_packets t.counts

@@ -5,19 +5,24 @@ use Rattle.gev_types.specs.declared.peer.Peer.{Peer}
 use Rattle.gev_links.specs.Given.{one_more}
 use Rattle.gev_capture.specs.Contents.{Seen, other, fragment, cut, datagram, lost}
 use Rattle.gev_capture.specs.Sightings.{Sighting}
+use Rattle.capture_streams.specs.declared.sign.Kind.{Kind}
+use Rattle.capture_streams.specs.declared.sign.Kind.TheVariants.{Leader, Payload, Other}
 use Rattle.capture_streams.specs.declared.sign.Sign.{Sign}
-use Rattle.capture_streams.specs.declared.sign.Sign.TheVariants.{Leader, Payload, Other}
 use Rattle.capture_streams.specs.declared.stream.Stream.{Stream}
 use Rattle.capture_streams.specs.Signs.{sign}
-use Rattle.capture_streams.specs.Streams.{TableState, empty_table, is_between, with_one_more, begun, with_one_more_at, with_unlisted, with_new, with_datagram, counts_after, counted}
-use Rattle.capture_streams.specs.Texts.{table_from}
-use Rattle.capture_streams.specs.Laws.{datagrams_in, StreamsAreWithin}
+use Rattle.capture_streams.specs.Streams.{TableState, empty_table, is_between, with_kind, with_resent, with_one_more, blank, begun, with_one_more_at, with_unlisted, with_new_by, with_datagram, counts_after, counted}
+use Rattle.capture_streams.specs.Texts.{table_from, table_of}
+use Rattle.capture_streams.specs.Laws.{datagrams_in}
 
 -- one more datagram of a stream
-one_datagram : (moment : ℕ) (found : Sign) (s : Stream) → (with_one_more moment found s).datagrams ≤ s.datagrams + 1
-one_datagram moment (Leader extended block info) s = omega arith
-one_datagram moment (Payload n) s = omega arith
-one_datagram moment Other s = omega arith
+same_datagrams : (kind : Kind) (s : Stream) → (with_kind kind s).datagrams ≡ s.datagrams
+same_datagrams (Leader extended block info) s = refl
+same_datagrams (Payload n) s = refl
+same_datagrams Other s = refl
+
+pub one_datagram : (moment : ℕ) (found : Sign) (s : Stream) → (with_one_more moment found s).datagrams ≡ one_more s.datagrams
+one_datagram moment found s =
+    same_datagrams found.kind (record s { datagrams = one_more s.datagrams; resent = with_resent found.resent s.resent; ended = moment })
 
 set_in : (streams : List Stream) (place : ℕ) (s new : Stream) → slice_get streams place ≡ Some s → new.datagrams ≤ s.datagrams + 1
     → datagrams_in (slice_set streams place new) ≤ datagrams_in streams + 1
@@ -27,7 +32,7 @@ set_in (t ∷ streams) (suc place) s new e few = omega (arith, set_in streams pl
 
 at_in : (streams : List Stream) (place moment : ℕ) (found : Sign) (o : Option Stream) → slice_get streams place ≡ o → datagrams_in (with_one_more_at place moment found o streams) ≤ datagrams_in streams + 1
 at_in streams place moment found None e = omega arith
-at_in streams place moment found (Some s) e = set_in streams place s (with_one_more moment found s) e (one_datagram moment found s)
+at_in streams place moment found (Some s) e = set_in streams place s (with_one_more moment found s) e (let one = one_datagram moment found s in omega (arith, one))
 
 push_in : (streams : List Stream) (s : Stream) → datagrams_in (streams ++ s ∷ []) ≡ datagrams_in streams + s.datagrams
 push_in [] s = omega arith
@@ -46,15 +51,16 @@ new_in : (b : Bool) (t : TableState) (s : Stream) → s.datagrams ≤ 1
 new_in true t s few = record { streams = omega (arith, push_in t.streams s, few); counts = refl }
 new_in false t s few = record { streams = omega arith; counts = refl }
 
-with_new_in : (sender receiver : Peer) (moment : ℕ) (found : Sign) (t : TableState) → OneMore t (with_new sender receiver moment found t)
-with_new_in sender receiver moment (Leader extended block info) t =
-    new_in (nat_lt (length t.streams) 256) t (begun sender receiver moment extended block info) (omega arith)
-with_new_in sender receiver moment (Payload n) t = none_more t
-with_new_in sender receiver moment Other t = none_more t
+with_new_in : (kind : Kind) (sender receiver : Peer) (moment : ℕ) (found : Sign) (t : TableState) → OneMore t (with_new_by kind sender receiver moment found t)
+with_new_in (Leader extended block info) sender receiver moment found t =
+    new_in (nat_lt (length t.streams) 256) t (begun sender receiver moment block found)
+    (let one = one_datagram moment found (blank sender receiver moment block) in omega (arith, one))
+with_new_in (Payload n) sender receiver moment found t = none_more t
+with_new_in Other sender receiver moment found t = none_more t
 
 datagram_in : (place : Option ℕ) (sender receiver : Peer) (moment : ℕ) (found : Sign) (t : TableState) → OneMore t (with_datagram place sender receiver moment found t)
 datagram_in (Some place) sender receiver moment found t = record { streams = at_in t.streams place moment found (slice_get t.streams place) refl; counts = refl }
-datagram_in None sender receiver moment found t = with_new_in sender receiver moment found t
+datagram_in None sender receiver moment found t = with_new_in found.kind sender receiver moment found t
 
 abbrev IsWithin : TableState → Type 0
 IsWithin t = t.counts.datagrams < 2 ^ 64 - 1 → datagrams_in t.streams ≤ t.counts.datagrams
@@ -76,5 +82,5 @@ all_in : (t : TableState) (xs : List Sighting) → IsWithin t → IsWithin (tabl
 all_in t [] h = h
 all_in t (x ∷ xs) h = all_in (counted x t) xs (seen_in x.begin x.moment x.what t h)
 
-pub streams_are_within : StreamsAreWithin
-streams_are_within xs = all_in empty_table xs (λ few. omega arith)
+pub datagrams_are_within : (xs : List Sighting) → (table_of xs).counts.datagrams < 2 ^ 64 - 1 → datagrams_in (table_of xs).streams ≤ (table_of xs).counts.datagrams
+datagrams_are_within xs = all_in empty_table xs (λ few. omega arith)

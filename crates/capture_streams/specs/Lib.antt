@@ -3,3 +3,6 @@ pub mod Streams
 pub mod Texts
 pub mod Pieces
 pub mod Laws
+pub mod Dropped
+pub mod Begins
+pub mod Rows

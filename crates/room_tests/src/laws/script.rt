@@ -2,7 +2,10 @@
 //! what readers do behind a read that fails.
 
 use capture_script::laws as captured;
-use capture_streams::{packets_are_counted, streams_are_within};
+use capture_streams::{
+    begins_in_milliseconds, captures_are_listed, dropped_are_told_last, packets_are_counted,
+    streams_are_within,
+};
 use gev_capture::{CaptureEnd, Reader, captures_are_one, packets_have_bytes, pieces_tell};
 use gev_links::MemorySource;
 use gev_script::laws::{kinds_of_lines, read_is_spelled, spelled_is_read};
@@ -28,6 +31,9 @@ fn laws_can_be_called(_rt: HostRuntime) {
     packets_have_bytes();
     packets_are_counted();
     streams_are_within();
+    captures_are_listed();
+    dropped_are_told_last();
+    begins_in_milliseconds();
     captured::datagrams_are_told();
     captured::packets_make_scripts();
     captured::captures_make_scripts();

@@ -1,4 +1,4 @@
-use Rattle.capture_streams.proofs.Within.{streams_are_within}
+use Rattle.capture_streams.proofs.Leaders.{streams_are_within}
 use Rattle.capture_streams.proofs.laws.streams_are_within.Goals as goal
 
 pub returns : goal.returns

@@ -1,7 +1,7 @@
 -- A payload is told with the bytes that it has.
 use Rattle.std.proofs.Common.{◌≡◌, refl, rules}
 use Rattle.gvsp_wire.specs.declared.packet.Packet.TheVariants.{Payload}
-use Rattle.capture_streams.proofs.signing.sign_in.Goals as goal
+use Rattle.capture_streams.proofs.signing.kind_in.Goals as goal
 
 pub returns-in-Ok-Payload : goal.returns-in-Ok-Payload
 returns-in-Ok-Payload c =
