@@ -437,7 +437,7 @@ def judge_camera(script, status, text, error):
 
 
 PEER = r"\d+\.\d+\.\d+\.\d+:\d+"
-STREAM = rf"stream {PEER} {PEER} ids=(extended|standard|both) datagrams=(?P<datagrams>\d+) payload=\d+ leaders=(?P<leaders>\d+) width=\d+ height=\d+ pixel=0x[0-9a-f]{{8}} bytes=\d+ first=\d+ last=\d+ ms=\d+"
+STREAM = rf"stream {PEER} {PEER} ids=(extended|standard|both) datagrams=(?P<datagrams>\d+) payload=\d+ resent=\d+ leaders=(?P<leaders>\d+) width=\d+ height=\d+ pixel=0x[0-9a-f]{{8}} bytes=\d+ first=\d+ last=\d+ ms=\d+"
 RECORD_HEAD = ["gevacq 1 1452 2 200 20 3", *["announce 307200"] * 3, "start"]
 KINDS = "packets datagrams fragments cut other unlisted streams dropped begin".split()
 LISTED = "end " + " ".join(rf"{name}=(?P<{name}>\d+)" for name in KINDS)
