@@ -1,12 +1,13 @@
 """runs.py PROGRAM FILE..: runs the program as files of many short runs tell, and compares what it writes and its exit status.
 
 A line of such a file is a mark, a space, and a text. The marks:
-  $    begins a run: the words of the command line
+  $    begins a run: the words of the command line, `""` for an empty one
   >    a line of standard input; x> its bytes in hex digits
   >*   a line of it for each number from one to another, which in it stands in eight hex digits for `{#}`
   <    a line of standard output; x< its bytes in hex digits; s< how many bytes it has, and their SHA-256 digest
   !    a line of standard error
   =    the exit status, which is 0 where none is told
+  ?    the place of the first word that isn't understood: standard error tells it and the usage, and the status is 2
   :    a name and bytes in hex digits, for which `{name}` stands in lines of input below
 Hex digits stand in words; `61*528` is a word of so many such bytes. What stands on which line of input isn't compared: lines of output
 stand where they're best read. Each other line is a comment. Prints how many runs there were; ends with 1 where one differs."""
@@ -15,6 +16,10 @@ import hashlib
 import re
 import subprocess
 import sys
+from pathlib import Path
+
+# what stands behind the place of a word that isn't understood, as the case without words has it
+USAGE = (Path(__file__).resolve().parent.parent / "cases/no_word/stderr").read_bytes().partition(b"\n")[2]
 
 
 def bytes_of(words):
@@ -31,7 +36,7 @@ class Run:
 
     def __init__(self, place, words):
         self.place = place
-        self.words = words.split()
+        self.words = ["" if word == '""' else word for word in words.split()]
         self.input, self.output, self.errors = b"", b"", b""
         self.digest = None
         self.status = 0
@@ -53,6 +58,9 @@ class Run:
             self.digest = text
         elif mark == "!":
             self.errors += text.encode() + b"\n"
+        elif mark == "?":
+            self.errors = f"gevacq: word {text} isn't understood\n".encode() + USAGE
+            self.status = 2
         else:
             self.status = int(text)
 
@@ -83,7 +91,7 @@ def runs_of(path):
                 names[name] = bytes_of(words).hex()
             elif mark in (">", ">*", "x>"):
                 runs[-1].add(mark, re.sub(r"\{(\w+)\}", lambda found: names[found[1]], text))
-            elif mark in ("<", "x<", "s<", "!", "="):
+            elif mark in ("<", "x<", "s<", "!", "=", "?"):
                 runs[-1].add(mark, text)
     return runs
 

@@ -1,7 +1,7 @@
 //! Cases of the program's call: each line of standard input is a command line with the ports that it runs over, and is
 //! written again with how the call ended; the lines of its report stand below.
 //!
-//! `WORDS / SETTINGS` calls `gevacq_top`; other rows call `plain_top`, and read the words of each command (`plain`).
+//! `WORDS / SETTINGS` calls `gevacq_top`; other rows call `plain_top`, or tell what words ask for (`plain`).
 #![tactic(auto)]
 
 mod datagrams;

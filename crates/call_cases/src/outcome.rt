@@ -5,11 +5,11 @@ use gev_status::Status;
 use gev_types::Peer;
 use std::{io, str};
 
-/// A datagram that was sent: to whom, and its first bytes in hexadecimal.
+/// A datagram that was sent: to whom, and its bytes in hexadecimal.
 #[derive(Drop)]
 pub struct Sent {
     pub peer: Peer,
-    pub front: String,
+    pub digits: String,
 }
 
 /// How a call ended: what it answered, the run word of the board that was kept, and whether a worker waited in vain at the
@@ -21,14 +21,17 @@ pub struct End {
     pub is_missed: bool,
 }
 
-/// The same with what it wrote, how many links came back, how many faults the ports count, and what the control link sent.
+/// The same with what it wrote, how many links came back, how many faults the ports count, whether the source has ended, the
+/// short datagrams that the control link sent, and how many longer ones it did.
 #[derive(Drop)]
 pub struct Outcome {
     pub end: End,
     pub written: Vec<u8>,
     pub links: usize,
     pub faults: u64,
+    pub ended: bool,
     pub sent: Vec<Sent>,
+    pub longer: u64,
 }
 
 /// Writes a row with how it ended, and the lines of its report that it shows.
@@ -78,16 +81,19 @@ fn show_report(rt: &HostRuntime, setting: &Setting, written: &[u8]) -> io::Resul
     Ok(())
 }
 
-/// Writes the run word of the board that was kept, and what the control link sent.
+/// Writes the run word of the board that was kept, what the control link sent, and whether the source has ended.
 fn show_kept(rt: &HostRuntime, outcome: &Outcome) -> io::Result<()> {
     if let Some(run) = outcome.end.run {
         println!(rt; "  run word {run}")?;
     }
     for sent in &outcome.sent {
         let Peer { address, port } = sent.peer;
-        println!(rt; "  to {address:x}:{port} {}", sent.front)?;
+        println!(rt; "  to {address:x}:{port} {}", sent.digits)?;
     }
-    Ok(())
+    println!(rt;
+        "  {} longer ones, input ended {}",
+        outcome.longer, outcome.ended
+    )
 }
 
 /// Whether a live run that isn't hindered may end so.

@@ -4,11 +4,12 @@ use gev_links::Gate;
 use std::sync::atomic::{AtomicBool, AtomicU64, Ordering};
 
 /// A gate where each fill waits for as many takes as fills were before it, but for no more than `takes_wanted`, and the
-/// first take waits for `fills_wanted` fills. With 0 and 0 nobody waits.
+/// first take waits for `fills_wanted` fills, the last of which waits for `last_wanted` takes. With 0 nobody waits.
 #[derive(Drop)]
 pub struct Pace {
     takes_wanted: u64,
     fills_wanted: u64,
+    last_wanted: u64,
     fills: AtomicU64,
     takes: AtomicU64,
     is_missed: AtomicBool,
@@ -17,16 +18,18 @@ pub struct Pace {
 /// The most turns of a loop that a worker waits.
 const TURNS: u32 = 1_000_000_000;
 
+/// The number at this place, 0 where there is none.
+fn number_at(numbers: &[u64], place: usize) -> u64 {
+    numbers.get(place).copied().unwrap_or(0)
+}
+
 impl Pace {
     /// A gate that nobody passed.
     pub fn new(wanted: &[u64]) -> Pace {
-        let (takes_wanted, fills_wanted) = match wanted {
-            [takes, fills] => (*takes, *fills),
-            _ => (0, 0),
-        };
         Pace {
-            takes_wanted,
-            fills_wanted,
+            takes_wanted: number_at(wanted, 0),
+            fills_wanted: number_at(wanted, 1),
+            last_wanted: number_at(wanted, 2),
             fills: AtomicU64::new(0),
             takes: AtomicU64::new(0),
             is_missed: AtomicBool::new(false),
@@ -51,6 +54,9 @@ impl Pace {
     fn pass_fill(&self) {
         let before = self.fills.fetch_add(1, Ordering::SeqCst);
         self.wait_for(&self.takes, before.min(self.takes_wanted));
+        if before.wrapping_add(1) == self.fills_wanted {
+            self.wait_for(&self.takes, self.last_wanted);
+        }
     }
 
     fn pass_take(&self) {

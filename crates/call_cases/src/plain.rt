@@ -1,17 +1,17 @@
-//! Rows of the commands that make no use of ports: the input and the words of each, the answer, and what was written.
+//! Rows of the commands that make no use of ports: a fault at each read and write, and sources that give little at once. What these
+//! commands write without a fault stands in `cases`.
 //!
-//! `# ..` says what the next rows show, and empties the input. `< ..` adds a line to it, `x COUNT HEX` so many times these
-//! bytes, and `payloads FIRST COUNT SIZE` the lines of so many payloads of bytes `a`. `? PIECE ROOM READ WRITE WORDS..`
-//! runs the words over a source that gives so many bytes in a call, and of which this read fails, and a sink that takes so
-//! many and of which this write fails. `reads` and `writes` make each fail in turn. `words` reads words twice, and
-//! `text` is how a status is printed. A word of no bytes is written `""`.
+//! `# ..` says what the next rows show, and empties the input. `< ..` adds a line to it, and `x COUNT HEX` so many times these
+//! bytes. `? PIECE ROOM READ WRITE WORDS..` runs the words over a source that gives so many bytes in a call, and of which this
+//! read fails, and a sink that takes so many and of which this write fails. `reads` and `writes` make each fail in turn. `words`
+//! tells what words ask for, and `text` how a status is printed. A word of no bytes is written `""`.
 
 mod input; // what the source gives
-mod reading; // words, read twice
-mod running; // one run
-mod sweeping; // each read or write fails in turn
-mod text; // the texts of statuses
+mod reading; // what words ask for
+mod running; // runs of a command line
 
+use gev_script::ScriptKind;
+use gev_status::Status;
 use std::alloc::Global;
 use std::io;
 
@@ -41,12 +41,24 @@ fn call(
 ) -> io::Result<()> {
     match kind {
         "?" => running::print_run(rt, alloc, input, parts),
-        "reads" => sweeping::print_sweep(rt, alloc, input, true, parts),
-        "writes" => sweeping::print_sweep(rt, alloc, input, false, parts),
-        "words" => reading::print_readings(rt, alloc, parts),
-        "text" => text::print_text(rt, parts),
+        "reads" => running::print_sweep(rt, alloc, input, true, parts),
+        "writes" => running::print_sweep(rt, alloc, input, false, parts),
+        "words" => reading::print_reading(rt, alloc, parts),
+        "text" => print_text(rt, parts),
         _ => rt.println(" = not understood"),
     }
+}
+
+/// Prints the number and the text of a status that no run has: want of memory, or behind a number a script of so many lines.
+fn print_text(rt: &impl Print, parts: &[&str]) -> io::Result<()> {
+    let status = match parts {
+        [line] => Status::BadScript {
+            line: input::number(line),
+            kind: ScriptKind::Many,
+        },
+        _ => Status::NoMemory,
+    };
+    println!(rt; " = {} {status}", status.number())
 }
 
 /// The parts between spaces; of an empty text none.

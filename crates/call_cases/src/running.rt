@@ -8,7 +8,7 @@ use crate::outcome::{End, Outcome, Sent};
 use crate::pacing::Pace;
 use crate::setting::{Fails, Setting};
 use buffer_words::{Board, Pass};
-use gev_links::{MemoryLink, MemoryPorts, MemorySink, SteadySource};
+use gev_links::{MemoryLink, MemoryPorts, MemorySink, Source, SteadySource};
 use gev_program::gevacq_top;
 use gev_types::{NoMemory, Peer};
 use std::alloc::Global;
@@ -34,8 +34,8 @@ const HOST: Peer = Peer {
 /// How many datagrams the control link may send.
 const ROOM: usize = 1000;
 
-/// How many bytes are shown of a datagram that was sent: those of a command up to its first register's address.
-const FRONT: usize = 12;
+/// The most bytes of a datagram that is shown.
+const SHOWN: usize = 24;
 
 /// How the row's call ends, or behind it the replay of what it wrote.
 pub fn run<R: Threads + Wait + Sync>(
@@ -73,57 +73,55 @@ fn heard(alloc: Global, packets: &[Heard]) -> Result<Vec<Option<(&[u8], Peer)>>,
     Ok(all)
 }
 
-/// What the link of the control channel sent: the last one of three, or the first one of two.
-fn sent_by(alloc: Global, links: &[MemoryLink<'_>]) -> Result<Vec<Sent>, NoMemory> {
+/// The link of the control channel: the last one of three, or the first one of others.
+fn control_of<'a, 'x>(links: &'a [MemoryLink<'x>]) -> Option<&'a MemoryLink<'x>> {
     match links {
-        [_, _, control] => fronts_of(alloc, control),
-        [control, _] => fronts_of(alloc, control),
-        _ => Ok(Vec::new(alloc)),
+        [_, _, control] => Some(control),
+        _ => links.first(),
     }
 }
 
-/// The fronts of what a link sent.
-fn fronts_of(alloc: Global, link: &MemoryLink<'_>) -> Result<Vec<Sent>, NoMemory> {
+/// The short datagrams that a link sent, and how many longer ones it did.
+fn sent_by(alloc: Global, link: Option<&MemoryLink<'_>>) -> Result<(Vec<Sent>, u64), NoMemory> {
     let mut all = Vec::new(alloc);
+    let Some(link) = link else {
+        return Ok((all, 0));
+    };
+    let mut longer = 0u64;
     for (peer, bytes) in link.sent() {
-        let bytes = bytes.as_slice();
-        let front = hex::encode(alloc, &bytes[..bytes.len().min(FRONT)])?;
-        all.push(Sent { peer: *peer, front })?;
+        if bytes.as_slice().len() > SHOWN {
+            longer = longer.saturating_add(1);
+        } else {
+            let digits = hex::encode(alloc, bytes.as_slice())?;
+            all.push(Sent {
+                peer: *peer,
+                digits,
+            })?;
+        }
     }
-    Ok(all)
+    Ok((all, longer))
 }
 
-/// Ports whose stream's link and control link hear this, and whose host clock tells these moments. `receive` binds the
-/// control link first and then the stream's, and takes the host's clock first.
+/// Ports whose stream's link and control link hear this, and whose host clock tells the row's moments. A run of three links
+/// binds the camera's first and the control link last, and takes the host's clock second; all else has both first.
 fn ports_of<'a>(
     alloc: Global,
-    receives: bool,
+    three: bool,
     stream: &'a [Option<(&'a [u8], Peer)>],
     control: &'a [Option<(&'a [u8], Peer)>],
-    moments: &'a [u64],
-    fails: Fails,
+    setting: &'a Setting,
 ) -> Result<MemoryPorts<'a, MemoryLink<'a>>, NoMemory> {
+    let moments = setting.moments.as_slice();
+    let fails = setting.fails;
     let camera = MemoryLink::new(alloc, CAMERA, &[], &[], &[], 0)?;
     let stream = MemoryLink::new(alloc, HOST, stream, fails.hear, &[], 0)?;
     let control = MemoryLink::new(alloc, HOST, control, fails.answer, fails.send, ROOM)?;
-    if receives {
-        return MemoryPorts::new(
-            alloc,
-            control,
-            stream,
-            camera,
-            [moments, &[], &[]],
-            fails.bind,
-        );
+    if three {
+        let clocks = [&[], moments, &[]];
+        return MemoryPorts::new(alloc, camera, stream, control, clocks, fails.bind);
     }
-    MemoryPorts::new(
-        alloc,
-        camera,
-        stream,
-        control,
-        [&[], moments, &[]],
-        fails.bind,
-    )
+    let clocks = [moments, &[], &[]];
+    MemoryPorts::new(alloc, control, stream, camera, clocks, fails.bind)
 }
 
 /// The run word of the board that was kept, as the pass that was kept loads it.
@@ -168,35 +166,45 @@ fn call_over<R: Threads + Wait + Sync>(
     control: &[Option<(&[u8], Peer)>],
     setting: &Setting,
 ) -> Result<Outcome, NoMemory> {
-    let moments = setting.moments.as_slice();
-    let gate = Pace::new(setting.pace.as_slice());
-    let fails = setting.fails;
-    let mut ports = ports_of(alloc, receives(words), stream, control, moments, fails)?;
-    let mut source = SteadySource::new(script, 100_000);
-    let mut sink = MemorySink::new(alloc, setting.piece, fails.write);
-    let mut kept = None;
-    let status = gevacq_top(
+    let mut ports = ports_of(alloc, is_live(words), stream, control, setting)?;
+    let mut source = SteadySource::new(script, setting.piece);
+    let mut sink = MemorySink::new(alloc, setting.piece, setting.fails.write);
+    let end = end_of(
         rt,
         alloc,
         words,
         &mut source,
         &mut sink,
         &mut ports,
-        &gate,
-        &mut kept,
+        setting,
     );
-    let end = End {
+    outcome_of(alloc, end, source.has_ended(), &sink, &ports)
+}
+
+/// How the call ends over this source, this sink and these ports.
+fn end_of<R: Threads + Wait + Sync>(
+    rt: &R,
+    alloc: Global,
+    words: &[String],
+    source: &mut SteadySource<'_>,
+    sink: &mut MemorySink<'_>,
+    ports: &mut MemoryPorts<'_, MemoryLink<'_>>,
+    setting: &Setting,
+) -> End {
+    let gate = Pace::new(setting.pace.as_slice());
+    let mut kept = None;
+    let status = gevacq_top(rt, alloc, words, source, sink, ports, &gate, &mut kept);
+    End {
         status,
         run: run_word(&mut kept),
         is_missed: gate.is_missed(),
-    };
-    outcome_of(alloc, end, &sink, &ports)
+    }
 }
 
-/// Whether these words are `receive` and what it's given.
-fn receives(words: &[String]) -> bool {
+/// Whether these words are of a run with three links.
+fn is_live(words: &[String]) -> bool {
     match words.first() {
-        Some(word) => word.as_str() == "receive",
+        Some(word) => word.as_str() == "live" || word.as_str() == "record",
         None => false,
     }
 }
@@ -205,16 +213,18 @@ fn receives(words: &[String]) -> bool {
 fn outcome_of(
     alloc: Global,
     end: End,
+    ended: bool,
     sink: &MemorySink<'_>,
     ports: &MemoryPorts<'_, MemoryLink<'_>>,
 ) -> Result<Outcome, NoMemory> {
-    let sent = sent_by(alloc, ports.links())?;
-    let written = sink.written().to_vec(alloc)?;
+    let (sent, longer) = sent_by(alloc, control_of(ports.links()))?;
     Ok(Outcome {
         end,
-        written,
+        written: sink.written().to_vec(alloc)?,
         links: ports.links().len(),
         faults: ports.faults(),
+        ended,
         sent,
+        longer,
     })
 }

@@ -79,7 +79,7 @@ pub struct Setting {
     /// The moments of the host's clock: without any it stands at 0.
     pub moments: Vec<u64>,
     pub fails: Fails,
-    /// The most bytes that the sink takes at once.
+    /// The most bytes that the sink takes and the source gives at once.
     pub piece: usize,
     /// How the gate holds fills and takes.
     pub pace: Vec<u64>,
@@ -149,6 +149,7 @@ impl Setting {
             "control" => self.control = datagrams(alloc, value)?,
             "again" => self.answer_again(alloc, value)?,
             "clock" => self.moments = moments(alloc, value)?,
+            "moments" => self.moments = numbers(alloc, value)?,
             "steps" => self.moments = steps(alloc, value)?,
             _ => return Ok(false),
         }

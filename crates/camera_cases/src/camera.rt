@@ -1,4 +1,5 @@
-//! The camera as a whole, with seed 0. Commands come from ports of this machine.
+//! The camera as a whole, with seed 0: what no camera script reaches, which are short images and more commands than may wait.
+//! Commands come from ports of this machine.
 
 use crate::fault::Fault;
 use crate::frames::SHAPE;
@@ -27,7 +28,6 @@ fn set_camera(alloc: Global, short: bool) -> Result<Camera, NoMemory> {
 /// The answer to a row of the camera.
 pub fn answer(alloc: Global, camera: &mut Camera, row: &str) -> Result<String, Fault> {
     match word(row, 1) {
-        "tick" => tick(alloc, camera, row),
         "state" => told(alloc, state(camera)),
         "frame" => frame(alloc, camera),
         "next" => next(alloc, camera),
@@ -52,12 +52,6 @@ fn renew(
     made: Result<Camera, NoMemory>,
 ) -> Result<String, Fault> {
     *camera = made?;
-    told(alloc, state(camera))
-}
-
-/// Tells the camera a moment.
-fn tick(alloc: Global, camera: &mut Camera, row: &str) -> Result<String, Fault> {
-    camera.tick(number(row, 2)?);
     told(alloc, state(camera))
 }
 

@@ -5,17 +5,16 @@ use crate::fields::Fields;
 use crate::links::{CAMERA, HOST};
 use crate::printing::print_unknown;
 use crate::received::{handing, lines};
-use crate::runs::{living, recording, scripts, tapes};
+use crate::runs::{scripts, tapes};
 use crate::workers::{
     acquiring, applying, controlling, laws, ordering, pacing, reading, serving, telling, turning,
 };
 use anyhow::Result;
 use gev_types::Peer;
 use std::sync::Wait;
-use std::thread::Threads;
 
 /// Prints the answer of a row on frames, or of any other one.
-pub fn answer<R: Threads + Wait + Sync>(rt: &HostRuntime, handles: &R, row: &str) -> Result<()> {
+pub fn answer<R: Wait>(rt: &HostRuntime, handles: &R, row: &str) -> Result<()> {
     let (word, rest) = row.split_once(' ').unwrap_or((row, ""));
     let mut fields = Fields::new(rest);
     match word {
@@ -27,8 +26,8 @@ pub fn answer<R: Threads + Wait + Sync>(rt: &HostRuntime, handles: &R, row: &str
     }
 }
 
-/// Reads the fields of a worker's row or of a run's, and prints its answer.
-fn answer_case<R: Threads + Wait + Sync>(
+/// Reads the fields of a worker's row, a script's or a tape's, and prints its answer.
+fn answer_case<R: Wait>(
     rt: &HostRuntime,
     handles: &R,
     word: &str,
@@ -40,12 +39,7 @@ fn answer_case<R: Threads + Wait + Sync>(
 }
 
 /// The same, by what is heard on the control link or the camera's.
-fn answer_row<R: Threads + Wait + Sync>(
-    rt: &HostRuntime,
-    handles: &R,
-    word: &str,
-    row: &Row,
-) -> Result<()> {
+fn answer_row<R: Wait>(rt: &HostRuntime, handles: &R, word: &str, row: &Row) -> Result<()> {
     let control = heard(rt.alloc(), row.control(), peer_of(word))?;
     answer_hearing(rt, handles, word, row, control.as_slice())
 }
@@ -60,7 +54,7 @@ fn peer_of(word: &str) -> Peer {
 }
 
 /// The same, by what is heard on the stream's link too.
-fn answer_hearing<'x, R: Threads + Wait + Sync>(
+fn answer_hearing<'x, R: Wait>(
     rt: &HostRuntime,
     handles: &R,
     word: &str,
@@ -71,19 +65,11 @@ fn answer_hearing<'x, R: Threads + Wait + Sync>(
     call_run(rt, handles, word, &row.case(control, stream.as_slice()))
 }
 
-/// Makes a call of a run, a script or a tape, or one of a worker.
-fn call_run<R: Threads + Wait + Sync>(
-    rt: &HostRuntime,
-    handles: &R,
-    word: &str,
-    case: &Case<'_>,
-) -> Result<()> {
+/// Makes a call of a script or a tape, or one of a worker.
+fn call_run<R: Wait>(rt: &HostRuntime, handles: &R, word: &str, case: &Case<'_>) -> Result<()> {
     match word {
         "tape" => tapes::hear_some(rt, case),
         "script" => scripts::write_turns(rt, case),
-        "live" => living::live(rt, handles, case),
-        "record" => recording::record(rt, handles, case),
-        "retake" => recording::retake(rt, handles, case),
         _ => call_control(rt, handles, word, case),
     }
 }

@@ -1,9 +1,7 @@
-//! What the fields of a worker's row or of a run's hold.
-
-ghost use Rattle.std.specs.Prelude.{◌≤◌, IfOk};
+//! What the fields of a worker's row hold.
 
 use crate::fields::Fields;
-use anyhow::{Result, anyhow};
+use anyhow::Result;
 use board_calls::Mode;
 use gev_types::{NoMemory, Peer};
 use std::alloc::Global;
@@ -48,18 +46,6 @@ impl<'x> Case<'x> {
             1 => Mode::OldestFirstOverwrite,
             _ => Mode::NewestOnly,
         }
-    }
-
-    /// How many buffers a run has, by the second number.
-    pub fn buffers(&self) -> Result<u8>
-        ensures some { IfOk result (λ buffers. 1 ≤ buffers) }
-        ensures few { IfOk result (λ buffers. buffers ≤ 15) }
-    {
-        let buffers = u8::try_from(self.number(1)).unwrap_or(0);
-        if buffers < 1 || buffers > 15 {
-            return Err(anyhow!("no such number of buffers"));
-        }
-        Ok(buffers)
     }
 }
 

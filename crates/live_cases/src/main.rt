@@ -1,14 +1,14 @@
-//! The rows of the live room: its workers one by one, whole runs with their tapes and scripts, and frames that are received. A
-//! row says what comes over links in memory and when, and its answer what became of that.
+//! The rows of the live room: its workers one by one, tapes and scripts of recorded runs, and frames that are received. A row says
+//! what comes over links in memory and when, and its answer what became of that. Whole runs are rows of the program's calls.
 //!
 //! A row is a word and behind it its fields, a space before each.
 //!
 //! - `setup`, `turn`, `sends`, `orders`, `through`, `beat`, `acquire`, `paces`, `turns`, `read`, `served`, `told`, `serve`, `obey` and
 //!   `apply` are rows of a worker, and `laws` calls the workers' laws.
-//! - `live`, `record` and `retake` are rows of whole runs, `script` and `tape` of what is recorded.
+//! - `script` and `tape` are rows of what is recorded.
 //! - `frame` and `receive` are rows of the lines of frames, `hand` and `tell` of the application that writes them.
 //!
-//! A worker and a run have up to seven fields: numbers; the moments of the clock; what the control link hears, or the camera's;
+//! A worker has up to seven fields, and so have these two: numbers; the moments of the clock; what the control link hears, or the camera's;
 //! which of its receives fail, and which of its sends, or the writes of a sink; what the stream's link hears, and which of its
 //! receives fail. Frames have fields of their own, which are numbers, words and texts. A comment before the rows of a word says
 //! what its numbers are.
@@ -19,17 +19,16 @@
 
 mod board; // a board's buffers
 mod calls; // which call a row names
-mod case; // the fields of a worker or of a run
+mod case; // the fields of a worker's row
 mod fields; // a row's fields, one behind another
 mod links; // addresses, links and tapes
 mod printing; // what was sent, and texts
 mod received; // frames that are received
-mod runs; // whole runs, tapes and scripts
+mod runs; // tapes and scripts
 mod workers; // the workers of a run
 
 use anyhow::Result;
 use std::sync::Wait;
-use std::thread::Threads;
 
 fn main(rt: HostRuntime) -> Result<()> {
     for line in rt.lines(rt.alloc()) {
@@ -39,7 +38,7 @@ fn main(rt: HostRuntime) -> Result<()> {
 }
 
 /// Prints a line, and behind a row its answer.
-fn print_line<R: Threads + Wait + Sync>(rt: &HostRuntime, handles: &R, line: &str) -> Result<()> {
+fn print_line<R: Wait>(rt: &HostRuntime, handles: &R, line: &str) -> Result<()> {
     print!(rt; "{line}")?;
     if is_row(line) {
         print_answer(rt, handles, line)?;
@@ -54,7 +53,7 @@ fn is_row(line: &str) -> bool {
 }
 
 /// Prints the answer of a row behind an equals sign.
-fn print_answer<R: Threads + Wait + Sync>(rt: &HostRuntime, handles: &R, row: &str) -> Result<()> {
+fn print_answer<R: Wait>(rt: &HostRuntime, handles: &R, row: &str) -> Result<()> {
     print!(rt; " = ")?;
     calls::answer(rt, handles, row)
 }

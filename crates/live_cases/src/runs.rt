@@ -1,8 +1,4 @@
-//! Live and recorded runs, and the tapes and the scripts of recorded ones.
+//! The tapes and the scripts of recorded runs.
 
-mod frames;
-pub mod living;
-mod meeting;
-pub mod recording;
 pub mod scripts;
 pub mod tapes;

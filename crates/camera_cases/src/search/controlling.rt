@@ -1,11 +1,11 @@
 //! A camera that is taken and let go, over a link in memory.
 
-use super::datagrams::{CAMERA, Datagram, datagrams, heard};
+ghost use Rattle.client_machine.specs.Machine.{IsIdle};
+
+use super::datagrams::{CAMERA, Datagram, HOST, ROOM, datagrams, heard, print_link};
 use super::fields::{field, numbers};
-use super::ports::{HOST, ROOM};
-use super::printing::print_link;
 use anyhow::Result;
-use camera_control::{NotTaken, RegisterWrite, StreamWish, Taken, let_go, take_camera};
+use camera_control::{ControlEnd, NotTaken, RegisterWrite, StreamWish, Taken, let_go, take_camera};
 use control_client::Client;
 use gev_links::{CountsFaults, MemoryClock, MemoryLink};
 use gev_types::Peer;
@@ -132,52 +132,48 @@ fn take_and_leave<R: Wait>(
 ) -> Result<()> {
     let mut client = Client::with_limit(SEND_LIMIT);
     let mut clock = MemoryClock::new(row.moments.as_slice());
-    let wish = StreamWish {
-        receiver: HOST,
-        packet_size: row.packet_size,
-    };
-    let taken = take_camera(
-        handles,
-        &mut client,
-        control,
-        &mut clock,
-        CAMERA,
-        wish,
-        row.sets.as_slice(),
-        row.starts.as_slice(),
-    );
+    let taken = take(handles, row, &mut client, control, &mut clock);
     if print_taken(rt, taken)? {
-        let heartbeat = taken.is_ok();
-        leave(
-            rt,
-            handles,
-            row,
-            &mut client,
-            control,
-            &mut clock,
-            heartbeat,
-        )?;
+        let beating = taken.is_ok();
+        let left = leave(handles, row, &mut client, control, &mut clock, beating);
+        print!(rt; ", let go {left:?}")?;
     }
     Ok(())
 }
 
-/// Lets a camera go behind the moments that the client is told: how it ended.
-fn leave<R: Wait>(
-    rt: &HostRuntime,
+/// Takes a camera as a row says.
+fn take<R: Wait>(
     handles: &R,
     row: &Row,
     client: &mut Client,
     control: &mut RegisterReads<MemoryLink<'_>>,
     clock: &mut MemoryClock<'_>,
-    heartbeat: bool,
-) -> Result<()> {
+) -> Result<Taken, NotTaken>
+    requires idle { IsIdle client.old }
+{
+    let wish = StreamWish {
+        receiver: HOST,
+        packet_size: row.packet_size,
+    };
+    let sets = row.sets.as_slice();
+    let starts = row.starts.as_slice();
+    take_camera(handles, client, control, clock, CAMERA, wish, sets, starts)
+}
+
+/// Lets a camera go behind the moments that the client is told.
+fn leave<R: Wait>(
+    handles: &R,
+    row: &Row,
+    client: &mut Client,
+    control: &mut RegisterReads<MemoryLink<'_>>,
+    clock: &mut MemoryClock<'_>,
+    beating: bool,
+) -> Result<(), ControlEnd> {
     for beat in row.beats.as_slice() {
         client.tick(*beat);
     }
     let stops = row.stops.as_slice();
-    let left = let_go(handles, client, control, clock, CAMERA, heartbeat, stops);
-    print!(rt; ", let go {left:?}")?;
-    Ok(())
+    let_go(handles, client, control, clock, CAMERA, beating, stops)
 }
 
 /// Prints how a camera was taken: whether it's held.

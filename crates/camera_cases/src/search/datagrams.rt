@@ -1,8 +1,8 @@
-//! What a link hears.
+//! What a link hears, and what was sent on it.
 
-use super::acknowledges::bytes_of;
 use super::fields::field;
 use anyhow::Result;
+use gev_links::MemoryLink;
 use gev_types::{NoMemory, Peer};
 use std::alloc::Global;
 use std::str::Split;
@@ -13,8 +13,17 @@ pub const CAMERA: Peer = Peer {
     port: 3956,
 };
 
+/// The host's own address.
+pub const HOST: Peer = Peer {
+    address: 0x7f00_0001,
+    port: 49_152,
+};
+
+/// How many datagrams a link keeps of what is sent.
+pub const ROOM: usize = 600;
+
 /// Somebody else.
-pub const STRANGER: Peer = Peer {
+const STRANGER: Peer = Peer {
     address: 0x7f00_0002,
     port: 3956,
 };
@@ -43,7 +52,7 @@ fn reception(alloc: Global, part: &str) -> Result<Option<Datagram>> {
         return Ok(None);
     }
     let others = part.strip_prefix("!");
-    let bytes = bytes_of(alloc, others.unwrap_or(part))?;
+    let bytes = hex::decode(alloc, others.unwrap_or(part))?;
     Ok(Some(Datagram {
         own: others.is_none(),
         bytes,
@@ -66,4 +75,13 @@ pub fn heard(
         }
     }
     Ok(all)
+}
+
+/// Prints what was sent on a link.
+pub fn print_link(rt: &HostRuntime, link: &MemoryLink<'_>) -> Result<()> {
+    for (peer, bytes) in link.sent() {
+        let digits = hex::encode(rt.alloc(), bytes.as_slice())?;
+        print!(rt; "\n  to {:x}:{} {digits}", peer.address, peer.port)?;
+    }
+    Ok(())
 }

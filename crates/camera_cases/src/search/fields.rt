@@ -18,24 +18,3 @@ pub fn numbers(alloc: Global, fields: &mut Split<'_, char>) -> Result<Vec<u64>, 
     }
     Ok(found)
 }
-
-/// Adds the words of a text, which this character parts.
-pub fn add_words(
-    alloc: Global,
-    words: &mut Vec<String>,
-    text: &str,
-    between: char,
-) -> Result<(), AllocError> {
-    for word in text.split(between) {
-        add_word(alloc, words, word)?;
-    }
-    Ok(())
-}
-
-/// Adds a word.
-fn add_word(alloc: Global, words: &mut Vec<String>, word: &str) -> Result<(), AllocError> {
-    let mut own = String::new(alloc);
-    own.push_str(word)?;
-    words.push(own)?;
-    Ok(())
-}

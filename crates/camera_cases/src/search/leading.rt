@@ -1,10 +1,8 @@
 //! A wait for the first leader of a camera's stream, over links in memory.
 
 use super::controlling::SEND_LIMIT;
-use super::datagrams::{CAMERA, Datagram, datagrams, heard};
+use super::datagrams::{CAMERA, Datagram, HOST, ROOM, datagrams, heard, print_link};
 use super::fields::{field, numbers};
-use super::ports::{HOST, ROOM};
-use super::printing::print_link;
 use anyhow::Result;
 use bootstrap_regs::addresses::CCP;
 use control_client::Client;
@@ -17,6 +15,12 @@ use std::sync::Wait;
 
 /// The room for a datagram that is looked at.
 const LOOK_ROOM: usize = 9000;
+
+/// The first command, which takes control.
+const FIRST: [Order; 1] = [Order::WriteReg {
+    address: CCP,
+    value: 2,
+}];
 
 /// The fields of a row but its input.
 #[derive(Drop)]
@@ -140,11 +144,7 @@ fn wait_for<R: Wait>(
     let mut client = Client::with_limit(SEND_LIMIT);
     let mut clock = MemoryClock::new(moments);
     let mut source = MemorySource::new(input.as_bytes(), 1, &[]);
-    let orders = [Order::WriteReg {
-        address: CCP,
-        value: 2,
-    }];
-    let _ = carry_out(handles, &mut client, control, &mut clock, CAMERA, &orders);
+    let _ = carry_out(handles, &mut client, control, &mut clock, CAMERA, &FIRST);
     await_leader(
         handles,
         &mut client,

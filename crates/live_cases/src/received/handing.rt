@@ -151,16 +151,9 @@ fn hand_out_to<R: Wait>(
     let gate = MeetingGate::new(1);
     let mut outlet = outlet_of(millis, asked);
     let mut input = MemorySource::new(asked.text.as_bytes(), 1, &[]);
-    let handed = hand_out_frames(
-        handles,
-        rt.alloc(),
-        board,
-        pass,
-        &gate,
-        &mut outlet,
-        sink,
-        &mut input,
-    );
+    let out = &mut outlet;
+    let looks = &mut input;
+    let handed = hand_out_frames(handles, rt.alloc(), board, pass, &gate, out, sink, looks);
     print_handed(rt, handed, outlet.clock.now(), gate.takes())?;
     print_pool(rt, board, pass)
 }

@@ -111,23 +111,10 @@ fn write_turns<R: Wait>(
 {
     let mut acq = new_receiver(rt.alloc(), case.number(1) == 1)?;
     let gate = MeetingGate::new(1);
-    let end = acquire_and_stop(
-        handles,
-        case.mode(2),
-        board,
-        pass,
-        &mut acq,
-        host,
-        &gate,
-        journal,
-    );
-    print_end(
-        rt,
-        end,
-        host.clock.now(),
-        gate.fills(),
-        acq.counts().requests,
-    )
+    let mode = case.mode(2);
+    let end = acquire_and_stop(handles, mode, board, pass, &mut acq, host, &gate, journal);
+    let asked = acq.counts().requests;
+    print_end(rt, end, host.clock.now(), gate.fills(), asked)
 }
 
 /// Prints how the turns ended, the moment that is read next, how often the gate was passed, and how many requests were made.

@@ -92,16 +92,8 @@ fn apply_over<R: Wait>(
     let mut clock = MemoryClock::new(case.moments);
     let gate = MeetingGate::new(1);
     let frames = case.small(2);
-    let taken = apply(
-        handles,
-        rt.alloc(),
-        board,
-        pass,
-        &mut clock,
-        &gate,
-        frames,
-        out,
-    )?;
+    let alloc = rt.alloc();
+    let taken = apply(handles, alloc, board, pass, &mut clock, &gate, frames, out)?;
     print!(rt; "{taken} next {} takes {}", clock.now(), gate.takes())?;
     print!(rt; " pool {:?}", board.look_pool(pass).as_slice())?;
     Ok(())

@@ -112,16 +112,8 @@ fn read_over<R: Wait>(
     ensures requests { waiting_requests acq.new ≡ [] }
     ensures backs { Backs pass.new (buffers acq.new) }
 {
-    tell_begin(
-        handles,
-        board,
-        pass,
-        acq,
-        &mut host.control,
-        &OpenGate,
-        words,
-        begin,
-    );
+    let control = &mut host.control;
+    tell_begin(handles, board, pass, acq, control, &OpenGate, words, begin);
     read_camera(handles, board, pass, acq, host, &OpenGate, words, begin)
 }
 

@@ -2,7 +2,6 @@
 
 use crate::fault::Fault;
 use crate::row::{number, word};
-use crate::shown::ended;
 use soak_receiver::SoakReceiver;
 use std::alloc::Global;
 
@@ -33,5 +32,8 @@ fn tick(alloc: Global, host: &mut SoakReceiver, moment: u64) -> Result<String, F
 fn take(alloc: Global, host: &mut SoakReceiver) -> Result<String, Fault> {
     let mut line = Vec::new(alloc);
     let took = host.take(alloc, &mut line)?;
-    ended(alloc, &line, took)
+    match str::from_utf8(&line) {
+        Ok(text) => Ok(format!(in alloc; "{}/{took:?}", text.trim_end())?),
+        Err(_error) => Err(Fault::NotUnderstood),
+    }
 }
