@@ -256,7 +256,7 @@ def check_pipes():
 def check_two_processes():
     """`simulate` and `receive`, each a process."""
     a = "127.83.4.3"
-    with open("checks/frames_640x480_mono8.sha256") as it:
+    with open("checks/lib/frames_640x480_mono8.sha256") as it:
         digests = dict(line.split() for line in it)
     each = lambda *words: subprocess.run([PROGRAM, "receive", a, *words], capture_output=True, timeout=60)
     got = []

@@ -1,6 +1,6 @@
 #!/usr/bin/env python3
 """refused_cameras.py PROGRAM LIBRARY: refuses each allocation of PROGRAM's `discover`, `description` and `receive`, one at a
-time, by LIBRARY (checks/refusing.c), beside cameras that checks/cameras.py and checks/receiving.py play. Each run has to end
+time, by LIBRARY (checks/lib/refusing.c), beside cameras that checks/lib/cameras.py and checks/lib/receiving.py play. Each run has to end
 with 7, and to have written a front of its text; and `receive` to have stopped the camera where it had control. So it has to
 where no thread can be made. Where the one that it made first can be and the reader's can't, no image is received, and it ends
 when its input does. Prints how many runs there were; ends with 1 where one isn't so."""

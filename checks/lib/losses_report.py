@@ -12,9 +12,6 @@ import sys
 import tempfile
 import zlib
 
-sys.dont_write_bytecode = True
-sys.path[:0] = ["checks"]
-
 from losses_made import LEADER, TRAILER, Camera, capture_of, one_camera, repaired
 
 NEVER, LATE = (0xE3, 0x1A, 0x1C), (0xFF, 0xA5, 0x00)

@@ -10,8 +10,7 @@ import subprocess
 import sys
 import tempfile
 
-sys.dont_write_bytecode = True
-sys.path[:0] = ["checks", "tools"]
+sys.path.insert(0, "tools")
 
 from capture_losses.captures import datagram, packets
 from losses_made import Camera, TRAILER, begun_late, capture_of, one_camera, repaired, two_streams
