@@ -104,10 +104,11 @@ def finds(*bodies):
     return answers
 
 
-def discover(case, address, answers, lines):
-    camera = Camera(address, answers)
+def discover(case, address, answers, lines, made=Camera, words=None):
+    """Runs `discover` with these words, those of the address where there are none, beside a camera that `made` makes."""
+    camera = made(address, answers)
     begun = time.monotonic()
-    status, out, err = run([camera], "discover", address)
+    status, out, err = run([camera], "discover", *([address] if words is None else words))
     took = time.monotonic() - begun
     if (status, err) != (0, ""):
         note(case, "status %d, %r" % (status, err))
@@ -165,9 +166,9 @@ def memory(urls, at, data, change=lambda address, count, seen, answer: [answer])
     return answers
 
 
-def description(case, answers, want, status=0, text="", reads=None):
-    camera = Camera("127.83.2.1", answers)
-    got = run([camera], "description", "127.83.2.1")
+def description(case, answers, want, status=0, text="", reads=None, address="127.83.2.1", made=Camera):
+    camera = made(address, answers)
+    got = run([camera], "description", address)
     if got != (status, want, text):
         note(case, "status %d, %d bytes, %r in place of status %d, %d bytes, %r" % (got[0], len(got[1]), got[2], status, len(want), text))
     if reads is not None and [struct.unpack(">IxxH", c[8:]) for _, c in camera.commands] != reads:
@@ -230,10 +231,11 @@ def await_camera(address):
                 pass
 
 
-def simulated(case, words, at, said):
+def simulated(case, words, at, said, begins=None):
     """Runs `at` beside a simulated camera until standard input ends. What it gives and the camera's line have to be as
-    `said` says."""
-    camera = subprocess.Popen([PROGRAM, "simulate", *words], stdin=subprocess.PIPE, stdout=subprocess.PIPE, stderr=subprocess.PIPE)
+    `said` says. `begins` is called in the camera's process before it's the program."""
+    pipes = dict(stdin=subprocess.PIPE, stdout=subprocess.PIPE, stderr=subprocess.PIPE)
+    camera = subprocess.Popen([PROGRAM, "simulate", *words], preexec_fn=begins, **pipes)
     await_camera(words[0])
     try:
         want = at()

@@ -47,19 +47,26 @@ def packets(block, kind):
     return [leader, *(head(3, number) + part for number, part in enumerate(parts, 1)), trailer]
 
 
+def number_of(address):
+    """An address as a register has it."""
+    return struct.unpack(">I", socket.inet_aton(address))[0]
+
+
 class Sender:
     """A camera that does what whoever has control says, and sends `rate` images a second while it's started.
 
     `refused` are registers whose writes are refused with 0x8006. After `lost` answered heartbeats the next ones say that
     nobody has control; after `dies` images it neither sends nor answers, and after `deaf` commands it doesn't answer. With `held` another application has control.
-    With `stranger` each image's packets are sent from that address too, with other bytes, before they are sent.
+    With `stranger` each image's packets are sent from that address too, with other bytes, before they are sent, and whoever
+    has control gets answers from there that say that it has lost it, and that its next write is refused.
     Leaders have the payload type `kind`."""
 
     def __init__(self, address, rate=50, refused=(), lost=None, dies=None, held=False, mute=False, stranger=None, kind=1, deaf=None):
         self.kind, self.deaf = kind, deaf
         self.rate, self.refused, self.lost, self.dies, self.mute = rate, refused, lost, dies, mute
         self.values = {CCP: 2 if held else 0, CAPABILITY: 7, SCPS0: 1500, SCDA0: 0, SCP0: 0, START: 0}
-        self.heard, self.answered, self.beats, self.block, self.running = [], {}, 0, 0, True
+        self.heard, self.answered, self.beats, self.block, self.strange, self.running = [], {}, 0, 0, 0, True
+        self.commander, self.last = None, 0
         self.control = self.bound(address, PORT)
         self.stream = self.bound(address, 0)
         self.stranger = self.bound(stranger, 0) if stranger else None
@@ -79,10 +86,10 @@ class Sender:
         due = time.monotonic()
         while self.running:
             if select.select([self.control], [], [], max(0, min(0.02, due - time.monotonic())))[0]:
-                command, sender = self.control.recvfrom(1024)
+                command, self.commander = self.control.recvfrom(1024)
                 answer = None if self.is_dead() or len(self.heard) == self.deaf else self.answer(command)
                 if answer:
-                    self.control.sendto(answer, sender)
+                    self.control.sendto(answer, self.commander)
             if time.monotonic() >= due:
                 due = time.monotonic() + 1 / self.rate
                 if self.values[SCP0] and self.values[START] and not self.mute and not self.is_dead():
@@ -95,6 +102,7 @@ class Sender:
         # (a command that is sent again is answered again, and heard once)
         if (req, command) not in self.answered:
             self.answered[req, command] = self.obey(code, req, struct.unpack(">%dI" % (len(command[8:]) // 4), command[8:]))
+            self.last = req
         return self.answered[req, command]
 
     def obey(self, code, req, body):
@@ -107,7 +115,9 @@ class Sender:
             lost = beat and self.lost is not None and self.beats > self.lost
             return acknowledge(code, req, struct.pack(">I", 0 if lost else self.values[register]))
         value = body[1]
-        self.heard.append(("write", register, "own" if register in (SCDA0, SCP0) and value else value))
+        # (the stream goes to the address that the commands come from, at some port)
+        own = register == SCP0 and value or register == SCDA0 and number_of(self.commander[0]) == value
+        self.heard.append(("write", register, "own" if own else value))
         if register in self.refused:
             return acknowledge(code, req, b"", 0x8006)
         self.values[register] = value
@@ -116,10 +126,17 @@ class Sender:
     def send(self):
         self.block += 1
         to = (socket.inet_ntoa(struct.pack(">I", self.values[SCDA0])), self.values[SCP0] & 0xFFFF)
+        if self.stranger:
+            self.meddle(acknowledge(READREG, self.last + 1, bytes(4)), self.commander)
+            self.meddle(acknowledge(WRITEREG, self.last + 1, b"", 0x8006), self.commander)
         for packet in packets(self.block, self.kind):
             if self.stranger:
-                self.stranger.sendto(packet[:8] + bytes(len(packet) - 8), to)
+                self.meddle(packet[:8] + bytes(len(packet) - 8), to)
             self.stream.sendto(packet, to)
+
+    def meddle(self, datagram, to):
+        self.strange += 1
+        self.stranger.sendto(datagram, to)
 
     def end(self):
         self.running = False
@@ -174,10 +191,10 @@ def judge_some(case, out, most, cut=False):
     judge_lines(case, out, 1000, taken)
 
 
-def receive(case, address, frames, words=(), status=0, text="", heard=None, judge=None, during=None, **camera):
-    """Runs `receive` against such a camera. `text` is a pattern of standard error, `heard` the commands, those of a whole run
-    where it's none."""
-    playing = Sender(address, **camera)
+def receive(case, address, frames, words=(), status=0, text="", heard=None, judge=None, during=None, made=Sender, **camera):
+    """Runs `receive` against such a camera, which `made` makes. `text` is a pattern of standard error, `heard` the commands,
+    those of a whole run where it's none."""
+    playing = made(address, **camera)
     try:
         run = subprocess.Popen([PROGRAM, "receive", address, str(frames), *WORDS, *words], stdin=subprocess.PIPE, stdout=subprocess.PIPE, stderr=subprocess.PIPE)
         if during:
@@ -253,20 +270,19 @@ def check_pipes():
             judge=lambda out: wants("an input that ends", "end line", bool(re.fullmatch(END % 1000, out.decode().split("\n")[-2])), True))
 
 
-def check_two_processes():
+def check_two_processes(case="two processes", address="127.83.4.3", rate="rate=50", begins=None):
     """`simulate` and `receive`, each a process."""
-    a = "127.83.4.3"
     with open("checks/lib/frames_640x480_mono8.sha256") as it:
         digests = dict(line.split() for line in it)
-    each = lambda *words: subprocess.run([PROGRAM, "receive", a, *words], capture_output=True, timeout=60)
+    each = lambda *words: subprocess.run([PROGRAM, "receive", address, *words], capture_output=True, timeout=60)
     got = []
-    simulated("two processes", [a, "rate=50", "turns=400", "until=stdin"], lambda: got.append(each("20")), lambda want, frames, turns: 20 <= frames <= turns)
+    simulated(case, [address, rate, "turns=400", "until=stdin"], lambda: got.append(each("20")), lambda want, frames, turns: 20 <= frames <= turns, begins)
     found = re.findall("^" + TAKE + "$", got[0].stdout.decode(), re.M)
-    wants("two processes", "status", (got[0].returncode, got[0].stderr), (0, b""))
-    wants("two processes", "whole images", [it[1:] for it in found], [("1", "307200", digests.get(str(1 + int(it[0]))), "640", "480") for it in found])
-    wants("two processes", "lines", (len(found), got[0].stdout.count(b"\n")), (20, 21))
-    if " taken=20 complete=20 p=1452 bytes=307200 ids=extended " not in got[0].stdout.decode().split("\n")[-2]:
-        note("two processes", "end line %.300r" % got[0].stdout[-300:])
+    wants(case, "status", (got[0].returncode, got[0].stderr), (0, b""))
+    wants(case, "whole images", [it[1:] for it in found], [("1", "307200", digests.get(str(1 + int(it[0]))), "640", "480") for it in found])
+    wants(case, "lines", (len(found), got[0].stdout.count(b"\n")), (20, 21))
+    if " taken=20 complete=20 p=1452 bytes=307200 ids=extended " not in got[0].stdout.decode():
+        note(case, "end line %.300r" % got[0].stdout[-300:])
 
 
 def check_interrupts():
