@@ -57,8 +57,8 @@ class Sender:
 
     `refused` are registers whose writes are refused with 0x8006. After `lost` answered heartbeats the next ones say that
     nobody has control; after `dies` images it neither sends nor answers, and after `deaf` commands it doesn't answer. With `held` another application has control.
-    With `stranger` each image's packets are sent from that address too, with other bytes, before they are sent, and whoever
-    has control gets answers from there that say that it has lost it, and that its next write is refused.
+    With `stranger` each image's packets are sent from that address too, with other bytes, before they are sent, and each command
+    is answered from there too, before it's answered, and again with each image.
     Leaders have the payload type `kind`."""
 
     def __init__(self, address, rate=50, refused=(), lost=None, dies=None, held=False, mute=False, stranger=None, kind=1, deaf=None):
@@ -88,6 +88,7 @@ class Sender:
             if select.select([self.control], [], [], max(0, min(0.02, due - time.monotonic())))[0]:
                 command, self.commander = self.control.recvfrom(1024)
                 answer = None if self.is_dead() or len(self.heard) == self.deaf else self.answer(command)
+                self.mislead()
                 if answer:
                     self.control.sendto(answer, self.commander)
             if time.monotonic() >= due:
@@ -102,7 +103,7 @@ class Sender:
         # (a command that is sent again is answered again, and heard once)
         if (req, command) not in self.answered:
             self.answered[req, command] = self.obey(code, req, struct.unpack(">%dI" % (len(command[8:]) // 4), command[8:]))
-            self.last = req
+        self.last = req
         return self.answered[req, command]
 
     def obey(self, code, req, body):
@@ -126,17 +127,20 @@ class Sender:
     def send(self):
         self.block += 1
         to = (socket.inet_ntoa(struct.pack(">I", self.values[SCDA0])), self.values[SCP0] & 0xFFFF)
-        if self.stranger:
-            self.meddle(acknowledge(READREG, self.last + 1, bytes(4)), self.commander)
-            self.meddle(acknowledge(WRITEREG, self.last + 1, b"", 0x8006), self.commander)
+        self.mislead()
         for packet in packets(self.block, self.kind):
-            if self.stranger:
-                self.meddle(packet[:8] + bytes(len(packet) - 8), to)
+            self.meddle(packet[:8] + bytes(len(packet) - 8), to)
             self.stream.sendto(packet, to)
 
+    def mislead(self):
+        """The stranger answers the last command: what it reads is 0, so that control is lost, and what it writes is refused."""
+        self.meddle(acknowledge(READREG, self.last, bytes(4)), self.commander)
+        self.meddle(acknowledge(WRITEREG, self.last, b"", 0x8006), self.commander)
+
     def meddle(self, datagram, to):
-        self.strange += 1
-        self.stranger.sendto(datagram, to)
+        if self.stranger:
+            self.strange += 1
+            self.stranger.sendto(datagram, to)
 
     def end(self):
         self.running = False
