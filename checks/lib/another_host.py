@@ -8,7 +8,7 @@ import re
 import shutil
 import sys
 
-from cameras import Camera, await_camera, description, discover, faults, finds, line, memory, note, registers, run, run_all
+from cameras import Camera, await_camera, description, discover, finds, line, memory, note, registers, run, run_all
 from networks import Pair
 from receiving import Sender, check_two_processes, judge_lines, packets, receive
 
@@ -77,13 +77,7 @@ class Host:
         self.pair.far.runs("tc qdisc del dev far root")
 
     def check_simulate(self):
-        """In the best of three runs: an image gets old where a busy machine holds its sender up in the middle of it."""
-        before = list(faults)
-        for _ in range(3):
-            faults[:] = before
-            check_two_processes("another host's simulate", CAMERA, "rate=10", self.pair.far.enter)
-            if faults == before:
-                break
+        check_two_processes("another host's simulate", CAMERA, self.pair.far.enter)
 
 
 def main():
@@ -97,7 +91,8 @@ def main():
     answering = host.camera(CAMERA, lambda command: [command])
     await_camera(CAMERA)
     answering.end()
-    checks = (host.check_discover, host.check_description, host.check_receive, host.check_strangers, host.check_slow_link, host.check_simulate)
+    checks = (host.check_discover, host.check_description, host.check_receive, host.check_strangers, host.check_slow_link,
+              host.check_simulate)
     passed = "discover, description and receive reach a camera of another host"
     return run_all("another host", CAMERA, lambda address: host.camera(address, lambda command: []), checks, lambda: "", passed)
 
