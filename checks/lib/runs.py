@@ -19,7 +19,7 @@ import sys
 from pathlib import Path
 
 # what stands behind the place of a word that isn't understood, as the case without words has it
-USAGE = (Path(__file__).resolve().parent.parent / "cases/no_word/stderr").read_bytes().partition(b"\n")[2]
+USAGE = (Path(__file__).resolve().parents[2] / "cases/no_word/stderr").read_bytes().partition(b"\n")[2]
 
 
 def bytes_of(words):
