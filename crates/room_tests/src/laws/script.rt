@@ -63,7 +63,7 @@ fn laws_of_traces_can_be_called(_rt: HostRuntime) {
     live_promises::traces_keep_headline();
     live_promises::runs_keep_headline();
     live_promises::blocks_hold_frames();
-    script_trace::laws::narrowed_scripts_run_alike();
+    script_trace::standard_laws::narrowed_scripts_run_alike();
 }
 
 /// Lines give a fault again at each further call, and read nothing.
