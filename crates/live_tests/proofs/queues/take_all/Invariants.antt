@@ -1,0 +1,5 @@
+use Rattle.std.proofs.Common.{◌≡◌, ◌≤◌}
+use Rattle.live_tests.proofs.queues.take_all.Given as goal
+
+abbrev pub invariant-items : goal.invariant-items
+invariant-items g l = record { line : l.taker.line ≡ l.line.table; few : l.next ≤ 10000 }

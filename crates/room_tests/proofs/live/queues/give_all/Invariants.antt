@@ -1,5 +1,0 @@
-use Rattle.std.proofs.Common.{◌≡◌, ◌≤◌}
-use Rattle.room_tests.proofs.live.queues.give_all.Given as goal
-
-abbrev pub invariant-items : goal.invariant-items
-invariant-items g l = record { line : l.giver.line ≡ l.line.table; few : l.next ≤ 10000 }

@@ -1,5 +1,0 @@
-use Rattle.gev_lanes.specs.Sides.{IsLaneAt}
-use Rattle.room_tests.proofs.live.rounds.put_many.Given as goal
-
-abbrev pub invariant-requests : goal.invariant-requests
-invariant-requests g l = IsLaneAt l.lanes l.lane

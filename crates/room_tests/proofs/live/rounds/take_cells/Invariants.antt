@@ -1,5 +1,0 @@
-use Rattle.gev_lanes.specs.Sides.{IsLaneAt}
-use Rattle.room_tests.proofs.live.rounds.take_cells.Given as goal
-
-abbrev pub invariant-cells : goal.invariant-cells
-invariant-cells g l = IsLaneAt l.lanes l.lane
