@@ -4,3 +4,4 @@ pub mod Narrowed
 pub mod Widening
 pub mod Asking
 pub mod Laws
+pub mod WorkedStandard

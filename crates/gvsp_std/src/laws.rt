@@ -1,6 +1,7 @@
 //! Laws of the definitions. Each function only carries its statement.
 
 ghost use Rattle.gvsp_std.specs.Laws.{ChoosesTheNear, ChoosesItself, WidenedIsThePacket, WidenedIsLonger, StandardIsWidened, NarrowedIsStandard, NarrowedIsWidened};
+ghost use Rattle.gvsp_std.specs.WorkedStandard.{StandardIsWorked};
 
 /// An id names the one block near the greatest that has it, and none where there is none.
 pub fn chooses_the_near()
@@ -35,4 +36,10 @@ pub fn narrowed_is_standard()
 /// The standard spellings of packets become their plain spellings, each in its block.
 pub fn narrowed_is_widened()
     ensures { NarrowedIsWidened }
+{}
+
+/// Some datagrams with standard identifiers, byte by byte, with what they become: each field of the header stands where the
+/// standard says.
+pub fn standard_is_worked()
+    ensures { StandardIsWorked }
 {}

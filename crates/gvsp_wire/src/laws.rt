@@ -1,6 +1,7 @@
 //! Laws of the definitions. Each function only carries its statement.
 
 ghost use Rattle.gvsp_wire.specs.Laws.{OneAnswer, ReadingIsExact, PlainIsRead, ZeroNoticeIsRefused, PlainIsOne, PacketsHaveSpellings};
+ghost use Rattle.gvsp_wire.specs.WorkedPackets.{PacketsAreWorked};
 
 /// Any bytes are exactly one packet or have exactly one refusal, and never both.
 pub fn one_answer()
@@ -30,4 +31,9 @@ pub fn plain_is_one()
 /// Each packet that some bytes are has a plain spelling.
 pub fn packets_have_spellings()
     ensures { PacketsHaveSpellings }
+{}
+
+/// Some datagrams, and those of a frame, byte by byte: each field of a leader stands where the standard says.
+pub fn packets_are_worked()
+    ensures { PacketsAreWorked }
 {}
