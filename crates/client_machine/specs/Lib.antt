@@ -4,3 +4,4 @@ pub mod Setup
 pub mod Machine
 pub mod Events
 pub mod Laws
+pub mod WorkedTimes

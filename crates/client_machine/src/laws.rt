@@ -7,6 +7,7 @@ ghost use Rattle.client_machine.specs.Events.{Event};
 ghost use Rattle.gev_types.specs.declared.peer.Peer.{Peer};
 ghost use Rattle.client_machine.specs.Laws.{NumbersAreDefined, IsNewUntilSubmitted, KeepsLimit, NoAnswerComesLast, EndsAreExact};
 ghost use Rattle.client_machine.specs.Setup.{SetupIsSubmitted};
+ghost use Rattle.client_machine.specs.WorkedTimes.{ClientIsWorked};
 
 /// The constants of `numbers` are the defined numbers.
 pub fn numbers_are_the_defined_ones()
@@ -38,4 +39,9 @@ pub fn no_answer_comes_after_three_sends()
 /// ticks alone.
 pub fn outcomes_that_end_a_command_are_exact()
     ensures { (s : Client) → EndsAreExact s }
+{}
+
+/// A command that nobody answers and one that is answered, byte by byte, with the moments of their sends.
+pub fn a_client_is_worked()
+    ensures { ClientIsWorked }
 {}

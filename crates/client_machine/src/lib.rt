@@ -9,7 +9,7 @@ pub mod numbers;
 mod outcome;
 
 pub use laws::{
-    a_client_is_new_until_a_submission, a_client_keeps_its_limit,
+    a_client_is_new_until_a_submission, a_client_is_worked, a_client_keeps_its_limit,
     no_answer_comes_after_three_sends, numbers_are_the_defined_ones,
     outcomes_that_end_a_command_are_exact, the_setup_may_be_submitted,
 };

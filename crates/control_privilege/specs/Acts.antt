@@ -1,5 +1,5 @@
 -- What acts do with the control, and the laws of it.
-use Rattle.std.specs.Prelude.{◌≡◌, ◌⊎◌, ℕ, ◌+◌, ◌≤◌, true, IsTrue, Option, Some, None}
+use Rattle.std.specs.Prelude.{◌≡◌, ◌≢◌, ◌⊎◌, ℕ, ◌+◌, ◌<◌, ◌≤◌, true, IsTrue, Option, Some, None}
 use Rattle.gev_types.specs.declared.peer.Peer.{Peer}
 use Rattle.control_privilege.specs.declared.holder.Holder.{Holder}
 use Rattle.control_privilege.specs.Control.{is_primary, may_write, granted, ccp_of, renewed_by, ticked}
@@ -53,3 +53,17 @@ ControlPasses = (h : Holder) (act : Act) → IsAllowed (Some h) act → KeepsCon
 -- what CCP holds is what was last written to it
 abbrev pub PrivilegeIsWritten : Type 0
 PrivilegeIsWritten = (peer : Peer) (value moment : ℕ) → value ≤ 2 → ccp_of (granted peer value moment) ≡ value
+
+-- A command of the peer that has control keeps it alive: at each moment before the heartbeat's time after the command it
+-- has control, and from then on it hasn't.
+pub record LivesOn (h : Holder) (moment heartbeat : ℕ) : Type 0 where
+  pub alive : (later : ℕ) → later < moment + heartbeat
+      → ticked (after (Some h) (commands h.peer moment)) later heartbeat ≡ Some (record h { last = moment })
+  pub lost : (later : ℕ) → moment + heartbeat ≤ later → ticked (after (Some h) (commands h.peer moment)) later heartbeat ≡ None
+
+abbrev pub CommandsKeepAlive : Type 0
+CommandsKeepAlive = (h : Holder) (moment heartbeat : ℕ) → LivesOn h moment heartbeat
+
+-- One of another peer doesn't.
+abbrev pub OthersKeepNothingAlive : Type 0
+OthersKeepNothingAlive = (h : Holder) (peer : Peer) (moment : ℕ) → peer ≢ h.peer → after (Some h) (commands peer moment) ≡ Some h

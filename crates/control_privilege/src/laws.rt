@@ -1,6 +1,6 @@
 //! Laws of the control. Each function only carries its statement.
 
-ghost use Rattle.control_privilege.specs.Acts.{OnePrimary, ControlPasses, PrivilegeIsWritten};
+ghost use Rattle.control_privilege.specs.Acts.{OnePrimary, ControlPasses, PrivilegeIsWritten, CommandsKeepAlive, OthersKeepNothingAlive};
 
 /// At most one peer has control.
 pub fn one_primary()
@@ -16,4 +16,14 @@ pub fn control_passes()
 /// What the privilege register holds is what was last written to it.
 pub fn privilege_is_written()
     ensures { PrivilegeIsWritten }
+{}
+
+/// A command of the peer that has control gives it the heartbeat's time anew, from its moment on.
+pub fn commands_keep_alive()
+    ensures { CommandsKeepAlive }
+{}
+
+/// One of another peer gives it none.
+pub fn others_keep_nothing_alive()
+    ensures { OthersKeepNothingAlive }
 {}

@@ -1,3 +1,5 @@
+ghost use Rattle.std.specs.Prelude.{◌≤◌};
+
 use std::sync::Wait;
 use std::sync::atomic::AtomicU64;
 use std::time::Duration;
@@ -29,7 +31,7 @@ pub fn rest_for<R: Wait>(rt: &R, micros: u64) {
 #[derive(Clone, Copy)]
 pub struct Rest {
     idle: u32,
-    long: u64,
+    woken: bool,
 }
 
 impl Rest {
@@ -37,7 +39,7 @@ impl Rest {
     pub const fn new() -> Rest {
         Rest {
             idle: 0,
-            long: LONG,
+            woken: false,
         }
     }
 
@@ -46,7 +48,7 @@ impl Rest {
     pub const fn woken() -> Rest {
         Rest {
             idle: 0,
-            long: WOKEN_LONG,
+            woken: true,
         }
     }
 
@@ -56,9 +58,11 @@ impl Rest {
     }
 
     /// The thread has found nothing to do: how long it's to rest, in microseconds; 0 where it isn't.
-    pub fn micros(&mut self) -> u64 {
+    pub fn micros(&mut self) -> u64
+        ensures { result ≤ 20000 }
+    {
         if self.idle >= LOOKS + SHORT_RESTS {
-            return self.long;
+            return if self.woken { WOKEN_LONG } else { LONG };
         }
         self.idle += 1;
         if self.idle > LOOKS { SHORT } else { 0 }
