@@ -1,10 +1,11 @@
 -- What an assembly's answers are to the block.
 use Rattle.std.proofs.Common.{◌≡◌, ℕ, List, [], ◌∷◌, ◌++◌, Bool, true, false, refl, sym, ap, subst, ◌∙◌}
 use Rattle.std.specs.Prelude.{not, Option, Some, None, if◌then◌else◌}
+use Rattle.gev_types.specs.declared.block_account.Cause.{Cause}
 use Rattle.gev_types.specs.Filling.{Filling}
 use Rattle.stream_packets.specs.Packets.{StreamPacket, is_notice}
 use Rattle.block_image.specs.Kept.{fits}
-use Rattle.block_image.specs.Image.{image}
+use Rattle.missing_ranges.specs.Accounts.{retired_image}
 use Rattle.block_assembly.specs.declared.progress.Progress.{Progress}
 use Rattle.block_assembly.specs.declared.verdict.Verdict.TheVariants.{Kept as is_kept, Repeat as is_repeat, Misfit as is_misfit, Notice as is_refused}
 use Rattle.block_assembly.specs.Assembly.{AssemblyStands}
@@ -13,7 +14,7 @@ use Rattle.acquisition_machine.specs.declared.need.Need.{Need}
 use Rattle.acquisition_machine.specs.declared.need.Need.TheVariants.{Done, Ignored}
 use Rattle.acquisition_machine.specs.declared.need.Why.TheVariants.{Repeat, Misfit, Notice}
 use Rattle.acquisition_machine.specs.declared.retired.Retired.{Retired}
-use Rattle.acquisition_machine.specs.Blocks.{Given, Open, hearing, is_new, fill_of}
+use Rattle.acquisition_machine.specs.Blocks.{Given, Open, hearing, is_new, given_back}
 use Rattle.acq_core.specs.declared.slot.Hold.{Hold}
 use Rattle.acq_core.specs.declared.slot.Hold.TheVariants.{Without, With}
 use Rattle.acq_core.specs.declared.slot.Slot.{Slot}
@@ -64,21 +65,21 @@ hears_starved p slot o x spare s e = record {
   round_at = s.round_at;
 }
 
-fill_filling : (p : ℕ) (o : Open) (place : ℕ) (a : Progress) (given : Option Given) (buf : Filling) (old new : List Retired) → HoldsFor p o.block (With place a) given o.heard → ((q b size : ℕ) (heard : List StreamPacket) → AssemblyStands a q b size heard → buf ≡ image q b size heard) → new ≡ old ++ record { place = place; buf = buf } ∷ [] → new ≡ old ++ fill_of p o given
-fill_filling p o place a None buf old new h f e = absurd h
-fill_filling p o place a (Some g) buf old new h f e =
+fill_filling : (cause : Cause) (p : ℕ) (o : Open) (place : ℕ) (a : Progress) (given : Option Given) (buf : Filling) (old new : List Retired) → HoldsFor p o.block (With place a) given o.heard → ((q b size : ℕ) (heard : List StreamPacket) → AssemblyStands a q b size heard → buf ≡ retired_image cause q b size heard) → new ≡ old ++ record { place = place; buf = buf } ∷ [] → new ≡ old ++ given_back p cause o given
+fill_filling cause p o place a None buf old new h f e = absurd h
+fill_filling cause p o place a (Some g) buf old new h f e =
     e ∙ ap (λ k. old ++ record { place = k; buf = buf } ∷ []) h.place
     ∙ ap (λ b. old ++ record { place = g.place; buf = b } ∷ []) (f p o.block g.size o.heard h.stands)
 
 -- what a block with a buffer gives back
-pub release_fills : (p : ℕ) (hold : Hold) (o : Open) (place : ℕ) (a : Progress) (buf : Filling) (old new : List Retired) → HoldsFor p o.block hold o.given o.heard → hold ≡ With place a → ((q b size : ℕ) (heard : List StreamPacket) → AssemblyStands a q b size heard → buf ≡ image q b size heard) → new ≡ old ++ record { place = place; buf = buf } ∷ [] → new ≡ old ++ fill_of p o o.given
-release_fills p hold o place a buf old new s e f is =
-    fill_filling p o place a o.given buf old new (subst (λ h. HoldsFor p o.block h o.given o.heard) e s) f is
+pub release_fills : (cause : Cause) (p : ℕ) (hold : Hold) (o : Open) (place : ℕ) (a : Progress) (buf : Filling) (old new : List Retired) → HoldsFor p o.block hold o.given o.heard → hold ≡ With place a → ((q b size : ℕ) (heard : List StreamPacket) → AssemblyStands a q b size heard → buf ≡ retired_image cause q b size heard) → new ≡ old ++ record { place = place; buf = buf } ∷ [] → new ≡ old ++ given_back p cause o o.given
+release_fills cause p hold o place a buf old new s e f is =
+    fill_filling cause p o place a o.given buf old new (subst (λ h. HoldsFor p o.block h o.given o.heard) e s) f is
 
-fill_nothing : (p : ℕ) (o : Open) (spare : Spare) (given : Option Given) (items : List Retired) → HoldsFor p o.block (Without spare) given o.heard → items ≡ items ++ fill_of p o given
-fill_nothing p o spare None items h = sym (append_nil items)
-fill_nothing p o spare (Some g) items h = absurd h
+fill_nothing : (cause : Cause) (p : ℕ) (o : Open) (spare : Spare) (given : Option Given) (items : List Retired) → HoldsFor p o.block (Without spare) given o.heard → items ≡ items ++ given_back p cause o given
+fill_nothing cause p o spare None items h = sym (append_nil items)
+fill_nothing cause p o spare (Some g) items h = absurd h
 
 -- a block without a buffer gives none back
-pub release_nothing : (p : ℕ) (hold : Hold) (o : Open) (spare : Spare) (items : List Retired) → HoldsFor p o.block hold o.given o.heard → hold ≡ Without spare → items ≡ items ++ fill_of p o o.given
-release_nothing p hold o spare items s e = fill_nothing p o spare o.given items (subst (λ h. HoldsFor p o.block h o.given o.heard) e s)
+pub release_nothing : (cause : Cause) (p : ℕ) (hold : Hold) (o : Open) (spare : Spare) (items : List Retired) → HoldsFor p o.block hold o.given o.heard → hold ≡ Without spare → items ≡ items ++ given_back p cause o o.given
+release_nothing cause p hold o spare items s e = fill_nothing cause p o spare o.given items (subst (λ h. HoldsFor p o.block h o.given o.heard) e s)

@@ -95,16 +95,16 @@ turn_numbered c s restart sound = tt
 
 -- ---- room for one more fill
 
-fill_few : (p : ℕ) (o : Open) (given : Option Given) → length (fill_of p o given) ≤ 1
-fill_few p o None = omega arith
-fill_few p o (Some g) = omega arith
+fill_few : (p : ℕ) (r : Retirement) (given : Option Given) → length (fill_of p r given) ≤ 1
+fill_few p r None = omega arith
+fill_few p r (Some g) = omega arith
 
 fills_few : (p : ℕ) (rs : List Retirement) → length (fills p rs) ≤ length (were rs)
 fills_few p [] = omega arith
 fills_few p (r ∷ rs) =
-    let one = fill_few p r.was r.was.given in
+    let one = fill_few p r r.was.given in
     let rest = fills_few p rs in
-    let all = length-append (fill_of p r.was r.was.given) (fills p rs) in
+    let all = length-append (fill_of p r r.was.given) (fills p rs) in
     omega (arith, one, rest, all)
 
 -- what retires with a buffer and what stays open are no more than the window has

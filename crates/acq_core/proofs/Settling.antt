@@ -2,13 +2,14 @@
 use Rattle.std.proofs.Common.{◌≡◌, ℕ, ◌+◌, ◌<◌, List, [], ◌∷◌, ◌++◌, length, Bool, true, false, refl, sym, ap, subst, ◌∙◌, append_assoc, arith}
 use Rattle.std.specs.Prelude.{Option, Some, None, is_some, vec_len}
 use Rattle.acquisition_machine.specs.declared.config.AcqConfig.{AcqConfig}
-use Rattle.acquisition_machine.specs.Blocks.{Open, Cause, Retirement, due, fill_of, fills}
+use Rattle.acquisition_machine.specs.Blocks.{Open, Cause, Retirement, due, given_back, fills}
 use Rattle.acquisition_machine.specs.Machine.{leave_if, stay_if, leaving, staying, floor_after}
-use Rattle.acq_core.specs.declared.ended.Cause.{Cause as Told}
+use Rattle.gev_types.specs.declared.block_account.Cause.{Cause as Told}
 use Rattle.acq_core.specs.declared.slot.Slot.{Slot}
 use Rattle.acq_core.specs.declared.window.Window.{Window}
 use Rattle.acq_core.specs.Standing.{SlotsStand, AreSlots, floor_of, HasRoom}
-use Rattle.acq_core.specs.Ending.{cause_of, cause_if, end_of, told_end, ends_of}
+use Rattle.acquisition_machine.specs.Blocks.{cause_of}
+use Rattle.acq_core.specs.Ending.{cause_if, end_of, told_end, ends_of}
 use Rattle.acq_core.specs.Retiring.{ChangesSlots, RetiresFirst, RetiresAll}
 
 -- how far settling has come from the blocks with which it began
@@ -30,9 +31,12 @@ pub record Settling (first last : Window) : Type 0 where
   pub room : HasRoom last
 
 -- one more
-leaves_one : (p : ℕ) (now : ℕ) (o : Open) (d : Option Cause) (rs : List Retirement) → is_some d ≡ true → fills p (leave_if d o rs) ≡ fill_of p o o.given ++ fills p rs
-leaves_one p now o None rs e = absurd cc
-leaves_one p now o (Some cause) rs e = refl
+leaves_one : (p : ℕ) (o : Open) (d : Option Cause) (cause : Told) (rs : List Retirement) → cause_if d ≡ Some cause → fills p (leave_if d o rs) ≡ given_back p cause o o.given ++ fills p rs
+leaves_one p o None cause rs e = absurd (apart e) where
+  apart : None ≡ Some cause → ⊥
+  apart e = cc
+leaves_one p o (Some why) cause rs e =
+    let same : cause_of why ≡ cause = cc in ap (λ (k : Told). given_back p k o o.given ++ fills p rs) same
 
 floor_one : (low : ℕ) (o : Open) (d : Option Cause) (rs : List Retirement) → is_some d ≡ true → floor_after low (leave_if d o rs) ≡ floor_after (o.block + 1) rs
 floor_one low o None rs e = absurd cc
@@ -72,9 +76,9 @@ settles_one first mid last os left o cause stands same tell why stay fill end fl
       left = left;
       slots = subst (λ (k : AcqConfig). SlotsStand k.p last.slots.items left) same r.slots;
       staying = sym (stays_one d (o ∷ left) (staying first.config first.moment left) is) ∙ stay;
-      fills = ap (λ l. l ++ fills p rs) (r.fills ∙ ap (λ (k : AcqConfig). mid.fills.items ++ fill_of k.p o o.given) same)
-          ∙ append_assoc mid.fills.items (fill_of p o o.given) (fills p rs)
-          ∙ ap (λ l. mid.fills.items ++ l) (sym (leaves_one p first.moment o d rs is))
+      fills = ap (λ l. l ++ fills p rs) (r.fills ∙ ap (λ (k : AcqConfig). mid.fills.items ++ given_back k.p cause o o.given) same)
+          ∙ append_assoc mid.fills.items (given_back p cause o o.given) (fills p rs)
+          ∙ ap (λ l. mid.fills.items ++ l) (sym (leaves_one p o d cause rs why))
           ∙ fill;
       ends = ap (λ l. l ++ ends_of t p (floor_of last.floor) rs) (r.ends ∙ ap (λ (k : AcqConfig). mid.ends.items ++ told_end mid.telling (end_of k.p (floor_of mid.floor) cause o)) same
           ∙ ap (λ (v : Bool). mid.ends.items ++ told_end v (end_of p (floor_of mid.floor) cause o)) tell)

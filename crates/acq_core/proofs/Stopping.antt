@@ -2,9 +2,9 @@
 use Rattle.std.proofs.Common.{◌≡◌, ℕ, ◌+◌, ◌<◌, List, [], ◌∷◌, ◌++◌, length, Bool, refl, sym, ap, subst, ◌∙◌, append_assoc, arith}
 use Rattle.std.specs.Prelude.{Some, None, vec_len}
 use Rattle.acquisition_machine.specs.declared.config.AcqConfig.{AcqConfig}
-use Rattle.acquisition_machine.specs.Blocks.{Open, fill_of, fills}
+use Rattle.acquisition_machine.specs.Blocks.{Open, given_back, fills}
 use Rattle.acquisition_machine.specs.Machine.{State, stop, restart, floor_after, all_stopped, step}
-use Rattle.acq_core.specs.declared.ended.Cause.TheVariants.{Stopped}
+use Rattle.gev_types.specs.declared.block_account.Cause.TheVariants.{Stopped}
 use Rattle.acq_core.specs.declared.window.Window.{Window}
 use Rattle.acq_core.specs.Standing.{SlotsStand, AreSlots, Acts, floor_of, HasRoom}
 use Rattle.acq_core.specs.Ending.{end_of, told_end, ends_of}
@@ -41,8 +41,8 @@ stop_left first mid last os (o ∷ left) s config tell some r fill end floor =
     record {
       left = left;
       slots = subst (λ (k : AcqConfig). SlotsStand k.p last.slots.items left) config one.slots;
-      fills = ap (λ l. l ++ fills p (all_stopped left)) (one.fills ∙ ap (λ (k : AcqConfig). mid.fills.items ++ fill_of k.p o o.given) config)
-          ∙ append_assoc mid.fills.items (fill_of p o o.given) (fills p (all_stopped left)) ∙ fill;
+      fills = ap (λ l. l ++ fills p (all_stopped left)) (one.fills ∙ ap (λ (k : AcqConfig). mid.fills.items ++ given_back k.p Stopped o o.given) config)
+          ∙ append_assoc mid.fills.items (given_back p Stopped o o.given) (fills p (all_stopped left)) ∙ fill;
       ends = ap (λ l. l ++ ends_of t p (floor_of last.floor) (all_stopped left)) (one.ends ∙ ap (λ (k : AcqConfig). mid.ends.items ++ told_end mid.telling (end_of k.p (floor_of mid.floor) Stopped o)) config
           ∙ ap (λ (v : Bool). mid.ends.items ++ told_end v (end_of p (floor_of mid.floor) Stopped o)) tell)
           ∙ ap (λ (k : ℕ). (mid.ends.items ++ told_end t (end_of p (floor_of mid.floor) Stopped o)) ++ ends_of t p k (all_stopped left)) one.floor

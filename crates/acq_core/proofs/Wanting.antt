@@ -4,9 +4,9 @@ use Rattle.std.specs.Prelude.{◌==◌, Some, vec_len}
 use Rattle.std.proofs.lemmas.Bool.{le-leb, lt-leb, eqb-false}
 use Rattle.acquisition_machine.specs.declared.config.AcqConfig.{AcqConfig}
 use Rattle.acquisition_machine.specs.declared.need.Need.TheVariants.{Buffer}
-use Rattle.acquisition_machine.specs.Blocks.{Open, fill_of}
+use Rattle.acquisition_machine.specs.Blocks.{Open, given_back}
 use Rattle.acquisition_machine.specs.Machine.{State, bound, is_full, lowest_or, floor_after, displaced_of, rest_of, wants}
-use Rattle.acq_core.specs.declared.ended.Cause.TheVariants.{Displaced}
+use Rattle.gev_types.specs.declared.block_account.Cause.TheVariants.{Displaced}
 use Rattle.acq_core.specs.declared.slot.Slot.{Slot}
 use Rattle.acq_core.specs.declared.window.Window.{Window}
 use Rattle.acq_core.specs.Standing.{SlotsStand, Acts, floor_of}
@@ -40,7 +40,7 @@ one_displaced_step m n (o ∷ os) s some r =
     let first = r o os s in
     record {
       slots = first.slots;
-      fills = first.fills ∙ ap (λ l. m.fills.items ++ l) (sym (append_nil (fill_of m.config.p o o.given)));
+      fills = first.fills ∙ ap (λ l. m.fills.items ++ l) (sym (append_nil (given_back m.config.p Displaced o o.given)));
       ends = first.ends ∙ ap (λ l. m.ends.items ++ l) (sym (append_nil (told_end m.telling (end_of m.config.p (floor_of m.floor) Displaced o))));
       floor = first.floor;
     }

@@ -3,19 +3,12 @@ use Rattle.std.specs.Prelude.{ℕ, ◌+◌, List, [], ◌∷◌, ◌++◌, Bool,
 use Rattle.stream_packets.specs.Packets.{StreamPacket}
 use Rattle.block_image.specs.Kept.{kept}
 use Rattle.block_assembly.specs.Accounts.{account_of}
-use Rattle.acquisition_machine.specs.Blocks.{Given, Open, Retirement, complete, old, displaced, stopped}
+use Rattle.acquisition_machine.specs.Blocks.{Given, Open, Retirement, cause_of}
 use Rattle.acquisition_machine.specs.Blocks.{Cause as Why}
 use Rattle.acquisition_machine.specs.Machine.{shown}
-use Rattle.acq_core.specs.declared.ended.Cause.{Cause}
-use Rattle.acq_core.specs.declared.ended.Cause.TheVariants.{Complete, Old, Displaced, Stopped}
+use Rattle.gev_types.specs.declared.block_account.Cause.{Cause}
 use Rattle.acq_core.specs.declared.ended.Held.{Held}
 use Rattle.acq_core.specs.declared.ended.Ended.{Ended}
-
-abbrev pub cause_of : Why → Cause
-cause_of complete = Complete
-cause_of old = Old
-cause_of displaced = Displaced
-cause_of stopped = Stopped
 
 abbrev pub cause_if : Option Why → Option Cause
 cause_if None = None

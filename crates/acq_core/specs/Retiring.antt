@@ -1,9 +1,9 @@
 -- What blocks that retire leave of the receiver's state.
 use Rattle.std.specs.Prelude.{◌≡◌, ◌+◌, List, ◌++◌}
-use Rattle.acquisition_machine.specs.Blocks.{Open, Retirement, fill_of, fills}
+use Rattle.acquisition_machine.specs.Blocks.{Open, Retirement, given_back, fills}
 use Rattle.acquisition_machine.specs.Machine.{floor_after}
 use Rattle.acq_core.specs.declared.window.Window.{Window}
-use Rattle.acq_core.specs.declared.ended.Cause.{Cause}
+use Rattle.gev_types.specs.declared.block_account.Cause.{Cause}
 use Rattle.acq_core.specs.Standing.{SlotsStand, floor_of}
 use Rattle.acq_core.specs.Ending.{end_of, told_end, ends_of}
 
@@ -14,7 +14,7 @@ ChangesSlots old new = new ≡ record old { floor = new.floor; slots = new.slots
 -- the lowest block retired, for this cause, and these stay
 pub record RetiresFirst (old new : Window) (cause : Cause) (o : Open) (os : List Open) : Type 0 where
   pub slots : SlotsStand old.config.p new.slots.items os
-  pub fills : new.fills.items ≡ old.fills.items ++ fill_of old.config.p o o.given
+  pub fills : new.fills.items ≡ old.fills.items ++ given_back old.config.p cause o o.given
   pub ends : new.ends.items ≡ old.ends.items ++ told_end old.telling (end_of old.config.p (floor_of old.floor) cause o)
   pub floor : floor_of new.floor ≡ o.block + 1
 

@@ -1,17 +1,5 @@
 use block_assembly::Account;
-
-/// Why a block retired.
-#[derive(Clone, Copy, Debug, PartialEq, Eq)]
-pub enum Cause {
-    /// The whole image is in its buffer.
-    Complete,
-    /// No packet was kept of it for as long as the timeout says.
-    Old,
-    /// Another block needed its place in a full window.
-    Displaced,
-    /// The stream was stopped.
-    Stopped,
-}
+use gev_types::Cause;
 
 /// What a block with a buffer gave, beside its image.
 #[derive(Drop)]

@@ -8,9 +8,10 @@ ghost use Rattle.acquisition_machine.specs.Machine.{shown};
 ghost use Rattle.acq_core.specs.Standing.{HoldsFor, SlotStands, floor_of};
 ghost use Rattle.acq_core.specs.Ending.{held_of, end_of, told_end};
 
-use crate::ended::{Cause, Ended, Held};
+use crate::ended::{Ended, Held};
 use crate::slot::{Hold, Slot};
 use crate::window::Window;
+use gev_types::Cause;
 
 /// What the block gave.
 fn held(hold: &Hold) -> Option<Held>

@@ -14,13 +14,13 @@ ghost use Rattle.acq_core.specs.Retiring.{ChangesSlots, RetiresAll};
 ghost use Rattle.acq_core.specs.Turning.{Answers, turn_of, with_heard};
 
 use crate::counting::count;
-use crate::ended::Cause;
 use crate::retiring::{retire_first, settle};
 use crate::slot::Slot;
 use crate::slots::tell_slot;
 use crate::window::Window;
 use acquisition_machine::{Need, Why};
 use block_image::does_fit;
+use gev_types::Cause;
 use gvsp_wire::{Packet, parse};
 
 /// Nothing of the datagram is kept.

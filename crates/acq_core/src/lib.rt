@@ -27,6 +27,6 @@ mod window; // the receiver's state
 
 pub use acq::Acq;
 pub use acquisition_machine::{AcqConfig, Counts, Need, Retired, Why};
-pub use ended::{Cause, Ended, Held};
+pub use ended::{Ended, Held};
 pub use gaps::requests;
 pub use laws::receivers_show_their_inputs;

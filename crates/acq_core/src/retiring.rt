@@ -9,10 +9,10 @@ ghost use Rattle.acq_core.specs.Ending.{cause_if};
 ghost use Rattle.acq_core.specs.Turning.{Gives};
 ghost use Rattle.acq_core.specs.Retiring.{ChangesSlots, RetiresFirst, RetiresAll};
 
-use crate::ended::Cause;
 use crate::ending::list_end;
 use crate::slots::{due_cause, release};
 use crate::window::Window;
+use gev_types::Cause;
 
 /// The lowest block retires.
 pub(crate) fn retire_first(window: &mut Window, cause: Cause)
@@ -31,6 +31,7 @@ pub(crate) fn retire_first(window: &mut Window, cause: Cause)
     release(
         slot.hold,
         window.config.p,
+        cause,
         &mut window.fills,
         &mut window.spare,
     );

@@ -6,16 +6,16 @@ ghost use Rattle.std.specs.List.{AllByRecursion};
 ghost use Rattle.stream_packets.specs.Packets.{head_of};
 ghost use Rattle.gvsp_wire.specs.View.{view};
 ghost use Rattle.block_assembly.specs.Verdicts.{IsRead};
-ghost use Rattle.acquisition_machine.specs.Blocks.{Open, hearing, has_whole, due, fill_of};
+ghost use Rattle.acquisition_machine.specs.Blocks.{Open, hearing, has_whole, due, given_back};
 ghost use Rattle.acq_core.specs.Standing.{HoldsFor, IsHeld, SlotStands, IsSlot, IsWide};
 ghost use Rattle.acq_core.specs.Ending.{cause_if};
 ghost use Rattle.acq_core.specs.Hearing.{need_of_verdict, need_without, need_in, heard_in};
 
-use crate::ended::Cause;
 use crate::slot::{Hold, Slot, Spare};
 use acquisition_machine::{AcqConfig, Need, Retired, Why};
 use block_assembly::Verdict;
 use block_image::does_fit;
+use gev_types::Cause;
 use gvsp_wire::Packet;
 
 /// Whether the block's image is whole in its buffer.
@@ -43,13 +43,19 @@ pub(crate) fn due_cause(slot: &Slot, config: AcqConfig, moment: u64) -> Option<C
     None
 }
 
-/// The block's buffer with what the block gave, if it has one, joins the fills, and its bitmaps wait for
+/// The buffer of a block that retires for this cause, with what the block gave, joins the fills, if it has one, and its bitmaps wait for
 /// another block.
-pub(crate) fn release(hold: Hold, p: u32, fills: &mut Vec<Retired>, spare: &mut Vec<Spare>)
+pub(crate) fn release(
+    hold: Hold,
+    p: u32,
+    cause: Cause,
+    fills: &mut Vec<Retired>,
+    spare: &mut Vec<Spare>,
+)
     requires stands { IsHeld p hold }
     requires fills { vec_len fills.old < vec_capacity fills.old }
     requires spare { vec_len spare.old < vec_capacity spare.old }
-    ensures fills { (o : Open) → HoldsFor p o.block hold o.given o.heard → fills.new.items ≡ fills.old.items ++ fill_of p o o.given }
+    ensures fills { (o : Open) → HoldsFor p o.block hold o.given o.heard → fills.new.items ≡ fills.old.items ++ given_back p cause o o.given }
     ensures few { vec_len fills.new ≤ vec_len fills.old + 1 }
     ensures fills_room { vec_capacity fills.new ≡ vec_capacity fills.old }
     ensures more { vec_len spare.new ≡ vec_len spare.old + 1 }
@@ -59,7 +65,7 @@ pub(crate) fn release(hold: Hold, p: u32, fills: &mut Vec<Retired>, spare: &mut 
     match hold {
         Hold::Without(pair) => spare.push_reserved(pair),
         Hold::With(place, assembly) => {
-            let (buf, kept, refused) = assembly.finish();
+            let (buf, kept, refused) = assembly.finish(cause);
             fills.push_reserved(Retired { place, buf });
             spare.push_reserved(Spare { kept, refused });
         }

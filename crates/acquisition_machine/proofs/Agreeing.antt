@@ -141,9 +141,9 @@ images-bares : (p : ℕ) (rs : List Retirement) → images (fills p (map bare_re
 images-bares p [] = refl
 images-bares p (r ∷ rs) = go r.was.given (images-bares p rs) where
   go : (g : Option Given) → images (fills p (map bare_retirement rs)) ≡ images (fills p rs)
-      → images (fill_of p (bare r.was) (bare_given g) ++ fills p (map bare_retirement rs)) ≡ images (fill_of p r.was g ++ fills p rs)
+      → images (fill_of p (bare_retirement r) (bare_given g) ++ fills p (map bare_retirement rs)) ≡ images (fill_of p r g ++ fills p rs)
   go None e = e
-  go (Some g) e = ap (λ l. filling_in p r.was g ∷ l) e
+  go (Some g) e = ap (λ l. filling_in p r g ∷ l) e
 
 pub runs_agree : RunsAgree
 runs_agree c s r ts q p e none a b =

@@ -51,15 +51,15 @@ hears-given now x o n (inl e) = ap (λ (m : Open). m.given) e
 hears-given now x o n (inr e) = ap (λ (m : Open). m.given) e
 
 -- the fills of these blocks
-fill_sizes : (p : ℕ) (o : Open) (given : Option Given) (fs : List Retired) (gs : List Given) → map given_of fs ≡ gs → map given_of (fill_of p o given ++ fs) ≡ with_given given gs
-fill_sizes p o None fs gs e = e
-fill_sizes p o (Some g) fs gs e =
-    let size : length (filling_in p o g).bytes ≡ g.size = length-image_bytes p (kept p o.block o.heard) g.size in
+fill_sizes : (p : ℕ) (r : Retirement) (given : Option Given) (fs : List Retired) (gs : List Given) → map given_of fs ≡ gs → map given_of (fill_of p r given ++ fs) ≡ with_given given gs
+fill_sizes p r None fs gs e = e
+fill_sizes p r (Some g) fs gs e =
+    let size : length (filling_in p r g).bytes ≡ g.size = length-image_bytes p (kept p r.was.block r.was.heard) g.size in
     rw (size, e) refl
 
 pub fills_have_sizes : FillsHaveSizes
 fills_have_sizes p [] = refl
-fills_have_sizes p (r ∷ rs) = fill_sizes p r.was r.was.given (fills p rs) (given_up rs) (fills_have_sizes p rs)
+fills_have_sizes p (r ∷ rs) = fill_sizes p r r.was.given (fills p rs) (given_up rs) (fills_have_sizes p rs)
 
 -- ---- one input
 

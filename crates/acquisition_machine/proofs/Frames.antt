@@ -46,13 +46,15 @@ sent_of frames p xs o s a = record {
   sent = All-from_recursion (IsSent frames p) o.heard a;
 }
 
-holds_given : (frames : ℕ → Option Frame) (p : ℕ) (o : Open) (given : Option Given) → AreSent frames p o.heard → HoldsIfGiven frames p o given
-holds_given frames p o None s = tt
-holds_given frames p o (Some g) s = record {
-  complete = complete_is_frame frames p o.block g.size o.heard s;
-  in_place = bytes_are_in_place frames p o.block g.size o.heard s;
-  tells = λ frame info is tells. records_tell_their_frame frames p o.block g.size o.heard frame info s is tells;
-  whole = λ frame is fits all. all_packets_complete frames p o.block g.size o.heard frame s is fits all;
+holds_given : (frames : ℕ → Option Frame) (p : ℕ) (r : Retirement) (given : Option Given) → AreSent frames p r.was.heard → HoldsIfGiven frames p r given
+holds_given frames p r None s = tt
+holds_given frames p r (Some g) s = record {
+  complete = λ whole.
+      let h = complete_is_frame frames p r.was.block g.size r.was.heard s whole in
+      record { frame = h.frame; of_block = h.of_block; data_len = h.data_len; pixels = h.pixels; image = h.image };
+  in_place = bytes_are_in_place frames p r.was.block g.size r.was.heard s;
+  tells = λ frame info is tells. records_tell_their_frame frames p r.was.block g.size r.was.heard frame info s is tells;
+  whole = λ frame is fits all. all_packets_complete frames p r.was.block g.size r.was.heard frame s is fits all;
 }
 
 -- one turn from such a state
@@ -64,8 +66,8 @@ fills_from frames c s rest i some sound none sent =
     let first : AllByRecursion (HeardSent frames c.p) s.opens = subst (λ l. AllByRecursion (HeardSent frames c.p) l) (sym none) tt in
     let opens = run_all c (HeardSent frames c.p) X s rest some sound k (all_front X (packets_in rest) (packets_in (i ∷ [])) came) first in
     let all = step_all c (HeardSent frames c.p) X (after_from c s rest) i some (run_sound c s rest some sound) k (all_back X (packets_in rest) (packets_in (i ∷ [])) came) opens in
-    all_weaker (λ (r : Retirement). HeardSent frames c.p r.was) (λ (r : Retirement). HoldsIfGiven frames c.p r.was r.was.given)
-    (λ r a. holds_given frames c.p r.was r.was.given (sent_of frames c.p (packets_in (rest ++ i ∷ [])) r.was sent a))
+    all_weaker (λ (r : Retirement). HeardSent frames c.p r.was) (λ (r : Retirement). HoldsIfGiven frames c.p r r.was.given)
+    (λ r a. holds_given frames c.p r r.was.given (sent_of frames c.p (packets_in (rest ++ i ∷ [])) r.was sent a))
     (step c (after_from c s rest) i).retired all.retired
 
 pub fills_keep_frames : FillsKeepFrames

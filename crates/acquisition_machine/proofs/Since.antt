@@ -4,10 +4,10 @@ use Rattle.std.specs.Prelude.{◌==◌, Option, Some, None, if◌then◌else◌}
 use Rattle.std.specs.List.{AllByRecursion}
 use Rattle.std.proofs.lemmas.Bool.{eq-eqb, ne_eqb}
 use Rattle.stream_packets.specs.Packets.{StreamPacket, head_of}
-use Rattle.block_image.specs.Image.{image}
+use Rattle.missing_ranges.specs.Accounts.{retired_image}
 use Rattle.gvsp_wire.specs.Reading.{packet_of}
 use Rattle.acquisition_machine.specs.declared.config.AcqConfig.{AcqConfig}
-use Rattle.acquisition_machine.specs.Blocks.{Given, Retirement, fill_of, fills, Open, opened, hearing, keeping, ranges_asked, after_asking}
+use Rattle.acquisition_machine.specs.Blocks.{Given, Retirement, cause_of, fill_of, fills, Open, opened, hearing, keeping, ranges_asked, after_asking}
 use Rattle.acquisition_machine.specs.Machine.{Input, datagram, claimed, Turn, after_rounds}
 use Rattle.acquisition_machine.specs.Runs.{first_state, After, turn, packets_in, with_packet}
 use Rattle.acquisition_machine.specs.FrameLaws.{of_block, IsImageSince, FillsAreImages, IsSince, HeardIsWhatCame, RetiredHeardWhatCame}
@@ -137,17 +137,18 @@ retired_heard_what_came c q i some = (since_turn c q i some (heard_is_what_came 
 
 -- ---- what comes back
 
-image_fill : (c : AcqConfig) (q : List Input) (o : Open) (given : Option Given) → o.given ≡ given → IsSince c q o → AllByRecursion (IsImageSince c q) (fill_of c.p o given)
-image_fill c q o None e s = tt
-image_fill c q o (Some g) e s = (
+image_fill : (c : AcqConfig) (q : List Input) (r : Retirement) (given : Option Given) → r.was.given ≡ given → IsSince c q r.was → AllByRecursion (IsImageSince c q) (fill_of c.p r given)
+image_fill c q r None e s = tt
+image_fill c q r (Some g) e s = (
   record {
-    block = o.block;
+    block = r.was.block;
     size = g.size;
     before = s.before;
     since = s.since;
     parts = s.parts ∙ ap (λ x. s.before ++ claimed x ∷ s.since) e;
     asked = s.asked;
-    filling = ap (λ l. image c.p o.block g.size l) s.heard;
+    cause = r.cause;
+    filling = ap (λ l. retired_image (cause_of r.cause) c.p r.was.block g.size l) s.heard;
   },
   tt,
 )
@@ -155,7 +156,7 @@ image_fill c q o (Some g) e s = (
 image_fills : (c : AcqConfig) (q : List Input) (rs : List Retirement) → AllByRecursion (λ r. IsSince c q r.was) rs → AllByRecursion (IsImageSince c q) (fills c.p rs)
 image_fills c q [] a = tt
 image_fills c q (r ∷ rs) a =
-    all_append (IsImageSince c q) (fill_of c.p r.was r.was.given) (fills c.p rs) (image_fill c q r.was r.was.given refl a.0) (image_fills c q rs a.1)
+    all_append (IsImageSince c q) (fill_of c.p r r.was.given) (fills c.p rs) (image_fill c q r r.was.given refl a.0) (image_fills c q rs a.1)
 
 pub fills_are_images : FillsAreImages
 fills_are_images c q i some = image_fills c (q ++ i ∷ []) (turn c q i).retired (retired_heard_what_came c q i some)

@@ -1,10 +1,13 @@
 -- An open block: its buffer, the packets that came for it, when it retires, and when it asks for packets.
 use Rattle.std.specs.Prelude.{ℕ, ◌+◌, ◌-◌, ◌==◌, ◌&&◌, ◌||◌, nat_lt, nat_le, List, [], ◌∷◌, ◌++◌, take, Bool, false, Option, Some, None, is_some, if◌then◌else◌}
+use Rattle.gev_types.specs.declared.block_account.Cause.{Cause as ToldCause}
+use Rattle.gev_types.specs.declared.block_account.Cause.TheVariants.{Complete, Old, Displaced, Stopped}
 use Rattle.gev_types.specs.Filling.{Filling}
 use Rattle.stream_packets.specs.Packets.{StreamPacket}
 use Rattle.block_image.specs.Kept.{kept, takes}
-use Rattle.block_image.specs.Image.{extent_in, image}
+use Rattle.block_image.specs.Image.{extent_in}
 use Rattle.block_image.specs.Image.{is_complete as is_complete_image}
+use Rattle.missing_ranges.specs.Accounts.{retired_image}
 use Rattle.missing_ranges.specs.Missing.{missing}
 use Rattle.acquisition_machine.specs.declared.config.AcqConfig.{AcqConfig}
 use Rattle.acquisition_machine.specs.declared.retired.Retired.{Retired}
@@ -62,9 +65,19 @@ pub record Retirement : Type 0 where
   pub was : Open
   pub cause : Cause
 
--- the block image of what came, in its buffer
-abbrev pub filling_in : ℕ → Open → Given → Filling
-filling_in p o g = image p o.block g.size o.heard
+-- how the code tells a cause
+abbrev pub cause_of : Cause → ToldCause
+cause_of complete = Complete
+cause_of old = Old
+cause_of displaced = Displaced
+cause_of stopped = Stopped
+
+-- what goes out in its buffer: the block image of what came, with the account of the block in its record
+abbrev pub filled_by : ℕ → ToldCause → Open → Given → Filling
+filled_by p cause o g = retired_image cause p o.block g.size o.heard
+
+abbrev pub filling_in : ℕ → Retirement → Given → Filling
+filling_in p r g = filled_by p (cause_of r.cause) r.was g
 
 -- as the record of that image says
 abbrev pub has_whole : ℕ → Open → Option Given → Bool
@@ -83,13 +96,16 @@ abbrev pub due : AcqConfig → ℕ → Open → Option Cause
 due c now o = if is_complete c.p o then Some complete else if is_old c.timeout now o then Some old else None
 
 -- what a block with a buffer gives back: the buffer, with the image
-abbrev pub fill_of : ℕ → Open → Option Given → List Retired
-fill_of p o None = []
-fill_of p o (Some g) = record { place = g.place; buf = filling_in p o g } ∷ []
+abbrev pub given_back : ℕ → ToldCause → Open → Option Given → List Retired
+given_back p cause o None = []
+given_back p cause o (Some g) = record { place = g.place; buf = filled_by p cause o g } ∷ []
+
+abbrev pub fill_of : ℕ → Retirement → Option Given → List Retired
+fill_of p r given = given_back p (cause_of r.cause) r.was given
 
 abbrev pub fills : ℕ → List Retirement → List Retired
 fills p [] = []
-fills p (r ∷ rs) = fill_of p r.was r.was.given ++ fills p rs
+fills p (r ∷ rs) = fill_of p r r.was.given ++ fills p rs
 
 -- ---- asking again for missing packets
 

@@ -3,13 +3,14 @@ use Rattle.std.specs.Prelude.{◌≡◌, ⊤, ℕ, ◌-◌, ◌≤◌, true, Lis
 use Rattle.std.specs.List.{AllByRecursion}
 use Rattle.stream_packets.specs.Packets.{StreamPacket, head_of}
 use Rattle.gvsp_wire.specs.Reading.{packet_of}
+use Rattle.block_image.specs.Image.{image}
 use Rattle.acquisition_machine.specs.declared.config.AcqConfig.{AcqConfig}
 use Rattle.acquisition_machine.specs.declared.counts.Counts.{Counts}
 use Rattle.acquisition_machine.specs.declared.need.Need.{Need}
 use Rattle.acquisition_machine.specs.declared.need.Need.TheVariants.{Buffer, Done, Ignored}
 use Rattle.acquisition_machine.specs.declared.need.Why.TheVariants.{Starved}
 use Rattle.acquisition_machine.specs.declared.retired.Retired.{Retired}
-use Rattle.acquisition_machine.specs.Blocks.{Given, Open, Cause, complete, old, displaced, stopped, Retirement, filling_in, fills, due}
+use Rattle.acquisition_machine.specs.Blocks.{Given, Open, Cause, complete, old, displaced, stopped, Retirement, fills, due}
 use Rattle.acquisition_machine.specs.Machine.{Input, datagram, claimed, tick, stop, restart, State, Turn, count, count_given, count_requests, step}
 use Rattle.acquisition_machine.specs.Runs.{After, turn}
 use Rattle.acquisition_machine.specs.Sound.{AreOthers}
@@ -20,7 +21,7 @@ use Rattle.acquisition_machine.specs.Sound.{AreOthers}
 pub record IsWhole (p : ℕ) (o : Open) : Type 0 where
   pub given : Given
   pub has : o.given ≡ Some given
-  pub whole : (filling_in p o given).rec.complete ≡ true
+  pub whole : (image p o.block given.size o.heard).rec.complete ≡ true
 
 -- A packet of a block that isn't open came, and this was the lowest block of a full window.
 pub record IsDisplaced (c : AcqConfig) (s : State) (i : Input) (o : Open) : Type 0 where

@@ -1,6 +1,12 @@
 -- Lists of inputs, written out with all that the machine makes of them.
 use Rattle.std.specs.Prelude.{◌≡◌, ℕ, ◌*◌, true, false, Bool, List, [], ◌∷◌, map, replicate, Option, Some, None, is_some}
+use Rattle.gev_types.specs.declared.block_account.BlockAccount.{BlockAccount}
+use Rattle.gev_types.specs.declared.block_account.Cause.{Cause}
+use Rattle.gev_types.specs.declared.block_account.Cause.TheVariants.{Complete, Old, Displaced, Stopped}
+use Rattle.gev_types.specs.declared.block_account.Lost.{Lost}
 use Rattle.gev_types.specs.declared.image_info.ImageInfo.{ImageInfo}
+use Rattle.gev_types.specs.declared.reasons.Reasons.{Reasons}
+use Rattle.gev_types.specs.Reasons.{no_reason}
 use Rattle.stream_packets.specs.declared.fields.Head.{Head}
 use Rattle.stream_packets.specs.declared.fields.LeaderInfo.{LeaderInfo}
 use Rattle.stream_packets.specs.Packets.{leader, payload, trailer, notice}
@@ -94,18 +100,40 @@ seen x y = Some record {
   padding_y = 0;
 }
 
-abbrev pub comes_back : ℕ → List ℕ → ℕ → Bool → Bool → Option ImageInfo → ℕ → ℕ → Retired
-comes_back place bytes b whole larger image len placed = record {
+-- a block that lacks nothing, and one that lacks this one range of ids
+abbrev pub nothing_lost : Lost
+nothing_lost = record { ids = 0; ranges = 0; first = replicate 8 (0, 0) }
+
+abbrev pub lost_range : ℕ → ℕ → ℕ → Lost
+lost_range ids first last = record { ids = ids; ranges = 1; first = (first, last) ∷ replicate 7 (0, 0) }
+
+abbrev pub retired_whole : BlockAccount
+retired_whole = record { cause = Complete; lost = nothing_lost; why = no_reason }
+
+abbrev pub retired_part : Cause → Lost → Reasons → BlockAccount
+retired_part cause lost why = record { cause = cause; lost = lost; why = why }
+
+abbrev pub comes_back : ℕ → List ℕ → ℕ → Bool → Bool → Option ImageInfo → ℕ → ℕ → BlockAccount → Retired
+comes_back place bytes b whole larger image len placed account = record {
   place = place;
   buf = record {
     bytes = bytes;
-    rec = record { block = b; complete = whole; larger = larger; has_leader = is_some image; data_len = len; filled = placed; image = image };
+    rec = record {
+      block = b;
+      complete = whole;
+      larger = larger;
+      has_leader = is_some image;
+      data_len = len;
+      filled = placed;
+      image = image;
+      account = Some account;
+    };
   };
 }
 
 -- the three bytes of block b, whole, in the buffer of this place
 abbrev pub whole_abc : ℕ → ℕ → Retired
-whole_abc place b = comes_back place abc b true false (seen 3 1) 3 3
+whole_abc place b = comes_back place abc b true false (seen 3 1) 3 3 retired_whole
 
 -- The command number n that asks for the packets from first to last of block 1.
 abbrev pub asks_for : ℕ → ℕ → ℕ → List ℕ
@@ -181,7 +209,7 @@ one_byte = record {
   config = config 528 1 2;
   inputs = leads 1 1 1 ∷ finds 0 1 ∷ leads 1 1 1 ∷ carries 1 1 (97 ∷ []) ∷ trails 1 2 1 ∷ [];
   answers = Buffer 1 ∷ Done ∷ Done ∷ Done ∷ [];
-  filled = comes_back 0 (97 ∷ []) 1 true false (seen 1 1) 1 1 ∷ [];
+  filled = comes_back 0 (97 ∷ []) 1 true false (seen 1 1) 1 1 retired_whole ∷ [];
   commands = [];
   counts = no_counts;
 }
@@ -194,7 +222,7 @@ with_rest = record {
       leads 1 5 2 ∷ finds 0 12 ∷ leads 1 5 2 ∷ carries 1 1 (1 ∷ 2 ∷ 3 ∷ 4 ∷ []) ∷ carries 1 2 (5 ∷ 6 ∷ 7 ∷ 8 ∷ [])
       ∷ carries 1 3 (9 ∷ 10 ∷ []) ∷ trails 1 4 2 ∷ [];
   answers = Buffer 1 ∷ Done ∷ Done ∷ Done ∷ Done ∷ Done ∷ [];
-  filled = comes_back 0 (1 ∷ 2 ∷ 3 ∷ 4 ∷ 5 ∷ 6 ∷ 7 ∷ 8 ∷ 9 ∷ 10 ∷ 0 ∷ 0 ∷ []) 1 true false (seen 5 2) 10 10 ∷ [];
+  filled = comes_back 0 (1 ∷ 2 ∷ 3 ∷ 4 ∷ 5 ∷ 6 ∷ 7 ∷ 8 ∷ 9 ∷ 10 ∷ 0 ∷ 0 ∷ []) 1 true false (seen 5 2) 10 10 retired_whole ∷ [];
   commands = [];
   counts = no_counts;
 }
@@ -207,7 +235,7 @@ without_rest = record {
       leads 1 4 2 ∷ finds 0 8 ∷ leads 1 4 2 ∷ carries 1 1 (1 ∷ 2 ∷ 3 ∷ 4 ∷ []) ∷ carries 1 2 (5 ∷ 6 ∷ 7 ∷ 8 ∷ [])
       ∷ trails 1 3 2 ∷ [];
   answers = Buffer 1 ∷ Done ∷ Done ∷ Done ∷ Done ∷ [];
-  filled = comes_back 0 (1 ∷ 2 ∷ 3 ∷ 4 ∷ 5 ∷ 6 ∷ 7 ∷ 8 ∷ []) 1 true false (seen 4 2) 8 8 ∷ [];
+  filled = comes_back 0 (1 ∷ 2 ∷ 3 ∷ 4 ∷ 5 ∷ 6 ∷ 7 ∷ 8 ∷ []) 1 true false (seen 4 2) 8 8 retired_whole ∷ [];
   commands = [];
   counts = no_counts;
 }
@@ -220,7 +248,7 @@ small_buffer = record {
   inputs =
       datagram abc_leader ∷ finds 0 2 ∷ datagram abc_leader ∷ datagram abc_payload ∷ datagram abc_trailer ∷ tick 1000 ∷ [];
   answers = Buffer 1 ∷ Done ∷ Done ∷ Done ∷ [];
-  filled = comes_back 0 (97 ∷ 98 ∷ []) 1 false true (seen 3 1) 2 2 ∷ [];
+  filled = comes_back 0 (97 ∷ 98 ∷ []) 1 false true (seen 3 1) 2 2 (retired_part Old nothing_lost (record no_reason { small = true })) ∷ [];
   commands = [];
   counts = no_counts;
 }
@@ -230,7 +258,7 @@ large_buffer = record {
   config = config 528 1 2;
   inputs = datagram abc_leader ∷ finds 0 4 ∷ datagram abc_leader ∷ datagram abc_payload ∷ datagram abc_trailer ∷ [];
   answers = Buffer 1 ∷ Done ∷ Done ∷ Done ∷ [];
-  filled = comes_back 0 (97 ∷ 98 ∷ 99 ∷ 0 ∷ []) 1 true false (seen 3 1) 3 3 ∷ [];
+  filled = comes_back 0 (97 ∷ 98 ∷ 99 ∷ 0 ∷ []) 1 true false (seen 3 1) 3 3 retired_whole ∷ [];
   commands = [];
   counts = no_counts;
 }
@@ -252,6 +280,10 @@ starves = record {
 
 -- ---- windows and bounds
 
+-- without a leader the highest kept id is the last that may lack
+abbrev pub payload_alone : Cause → BlockAccount
+payload_alone cause = retired_part cause (lost_range 1 0 0) (record no_reason { no_leader = true; no_trailer = true })
+
 -- Of two open blocks the lowest is displaced, and then it is late. A stop retires the others, lowest first.
 abbrev pub displaces : Row
 displaces = record {
@@ -261,8 +293,8 @@ displaces = record {
       ∷ carries 6 1 abc ∷ finds 2 3 ∷ carries 6 1 abc ∷ carries 5 1 abc ∷ stop ∷ [];
   answers = Buffer 5 ∷ Done ∷ Buffer 7 ∷ Done ∷ Buffer 6 ∷ Done ∷ Ignored (Late (Some 6)) ∷ [];
   filled =
-      comes_back 0 abc 5 false false None 3 3 ∷ comes_back 2 abc 6 false false None 3 3
-      ∷ comes_back 1 abc 7 false false None 3 3 ∷ [];
+      comes_back 0 abc 5 false false None 3 3 (payload_alone Displaced) ∷ comes_back 2 abc 6 false false None 3 3 (payload_alone Stopped)
+      ∷ comes_back 1 abc 7 false false None 3 3 (payload_alone Stopped) ∷ [];
   commands = [];
   counts = record no_counts { late = 1 };
 }
@@ -283,13 +315,17 @@ spends_ids = record {
   counts = record no_counts { foreign = 1; late = 1 };
 }
 
+-- of a leader alone payload and trailer lack
+abbrev pub leader_alone : Cause → BlockAccount
+leader_alone cause = retired_part cause (lost_range 2 1 2) (record no_reason { no_trailer = true; no_payload = true })
+
 -- After a start block ids begin again.
 abbrev pub restarts : Row
 restarts = record {
   config = config 528 1 2;
   inputs = leads 9 3 1 ∷ finds 0 3 ∷ leads 9 3 1 ∷ stop ∷ leads 9 3 1 ∷ restart ∷ leads 1 3 1 ∷ [];
   answers = Buffer 9 ∷ Done ∷ Ignored (Late (Some 10)) ∷ Buffer 1 ∷ [];
-  filled = comes_back 0 (0 ∷ 0 ∷ 0 ∷ []) 9 false false (seen 3 1) 3 0 ∷ [];
+  filled = comes_back 0 (0 ∷ 0 ∷ 0 ∷ []) 9 false false (seen 3 1) 3 0 (leader_alone Stopped) ∷ [];
   commands = [];
   counts = record no_counts { late = 1 };
 }

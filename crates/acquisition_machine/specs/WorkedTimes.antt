@@ -1,11 +1,13 @@
 -- More lists of inputs with all that the machine makes of them: blocks that grow old, and missing packets.
-use Rattle.std.specs.Prelude.{ℕ, false, List, [], ◌∷◌, ◌++◌, replicate}
+use Rattle.std.specs.Prelude.{ℕ, true, false, List, [], ◌∷◌, ◌++◌, replicate}
+use Rattle.gev_types.specs.declared.block_account.Cause.TheVariants.{Old, Stopped}
+use Rattle.gev_types.specs.Reasons.{no_reason}
 use Rattle.acquisition_machine.specs.declared.need.Need.TheVariants.{Buffer, Done, Ignored}
 use Rattle.acquisition_machine.specs.declared.need.Why.TheVariants.{Notice}
 use Rattle.acquisition_machine.specs.declared.retired.Retired.{Retired}
 use Rattle.acquisition_machine.specs.Machine.{Input, tick, stop}
 use Rattle.acquisition_machine.specs.Runs.{no_counts}
-use Rattle.acquisition_machine.specs.Worked.{Row, config, leads, carries, trails, denies, finds, abc, seen, comes_back, asks_for}
+use Rattle.acquisition_machine.specs.Worked.{Row, config, leads, carries, trails, denies, finds, abc, seen, lost_range, retired_part, leader_alone, comes_back, asks_for}
 
 -- a leader alone, when the stream stops
 abbrev pub stops_early : Row
@@ -13,14 +15,14 @@ stops_early = record {
   config = config 528 1 2;
   inputs = leads 1 3 1 ∷ finds 0 3 ∷ leads 1 3 1 ∷ stop ∷ [];
   answers = Buffer 1 ∷ Done ∷ [];
-  filled = comes_back 0 (0 ∷ 0 ∷ 0 ∷ []) 1 false false (seen 3 1) 3 0 ∷ [];
+  filled = comes_back 0 (0 ∷ 0 ∷ 0 ∷ []) 1 false false (seen 3 1) 3 0 (leader_alone Stopped) ∷ [];
   commands = [];
   counts = no_counts;
 }
 
 -- an image of 64 bytes none of which came
 abbrev pub empty_image : Retired
-empty_image = comes_back 0 (replicate 64 0) 1 false false (seen 8 8) 64 0
+empty_image = comes_back 0 (replicate 64 0) 1 false false (seen 8 8) 64 0 (retired_part Old (lost_range 1 1 1) (record no_reason { no_payload = true }))
 
 abbrev pub ages : List Input
 ages = leads 1 8 8 ∷ finds 0 64 ∷ leads 1 8 8 ∷ tick 999 ∷ trails 1 2 8 ∷ tick 1998 ∷ []

@@ -4,8 +4,9 @@ use Rattle.std.specs.Prelude.{◌==◌, ◌||◌, ◌&&◌, not, nat_le, if◌th
 use Rattle.std.proofs.lemmas.Bool.{false≢true, leb-true, leb-false, eq-eqb, ne_eqb, and_parts, and_cases, and_left, and_right}
 use Rattle.std.proofs.lemmas.List.{length-set, length-replicate}
 use Rattle.gev_types.specs.declared.block_record.Record.{Record}
+use Rattle.gev_types.specs.declared.block_account.Cause.{Cause}
 use Rattle.gev_types.specs.Filling.{Filling}
-use Rattle.block_image.specs.Image.{image, image_bytes, record_of}
+use Rattle.block_image.specs.Image.{image_bytes}
 use Rattle.stream_packets.specs.declared.fields.Head.{Head}
 use Rattle.stream_packets.specs.Packets.{StreamPacket, leader, payload, trailer, notice, head_of, is_notice}
 use Rattle.block_image.specs.Kept.{takes, kept, fits}
@@ -14,6 +15,7 @@ use Rattle.block_image.proofs.Bools.{and_false, or_false}
 use Rattle.block_image.proofs.KeptLemmas.{kept-push, keep-taken, keep-left}
 use Rattle.stream_packets.specs.FramePackets.{payload_count}
 use Rattle.block_image.proofs.CountLemmas.{placed_count-le, placed_end-le}
+use Rattle.missing_ranges.specs.Accounts.{retired_record, retired_image}
 use Rattle.missing_ranges.specs.Missing.{is_gone, has_gone}
 use Rattle.packet_bitmap.specs.Bits.{has}
 use Rattle.block_assembly.specs.declared.progress.Progress.{Progress}
@@ -245,14 +247,14 @@ abbrev same_filling : List ℕ → Record → Filling
 same_filling bs r = record { bytes = bs; rec = r }
 
 -- the buffer in the end
-pub finished : (a : Progress) (f : Filling) (rec : Record) (p b size : ℕ) (heard : List StreamPacket) → AssemblyStands a p b size heard
+pub finished : (cause : Cause) (a : Progress) (f : Filling) (rec : Record) (p b size : ℕ) (heard : List StreamPacket) → AssemblyStands a p b size heard
     → Zeroes (has a.kept) a.payload_size (payload_count a.payload_size (length a.buf.bytes) + 1) a.buf.bytes f.bytes → f.rec ≡ rec
-    → rec ≡ record_of a.payload_size a.block a.size (kept a.payload_size a.block heard) → f ≡ image p b size heard
-finished a f rec p b size heard s zeroed same is_record =
+    → rec ≡ retired_record cause a.payload_size a.block a.size (kept a.payload_size a.block heard) → f ≡ retired_image cause p b size heard
+finished cause a f rec p b size heard s zeroed same is_record =
     let k = s.assembly in
     ap (λ (bs : List ℕ). same_filling bs f.rec)
     (image_left a.payload_size a.block a.size (kept a.payload_size a.block heard) a.buf.bytes f.bytes (has a.kept) k.payload_size k.are_kept k.numbered k.ids k.buffer k.bytes zeroed)
     ∙ ap (λ (r : Record). same_filling (image_bytes a.payload_size (kept a.payload_size a.block heard) a.size) r) (same ∙ is_record)
-    ∙ ap (λ q. image q a.block a.size heard) s.payload_size
-    ∙ ap (λ c. image p c a.size heard) s.block
-    ∙ ap (λ n. image p b n heard) s.buffer_size
+    ∙ ap (λ q. retired_image cause q a.block a.size heard) s.payload_size
+    ∙ ap (λ c. retired_image cause p c a.size heard) s.block
+    ∙ ap (λ n. retired_image cause p b n heard) s.buffer_size

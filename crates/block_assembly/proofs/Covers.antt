@@ -307,13 +307,13 @@ uncovered_is p b len k ks o e top none = go (cases_eq k 0) (cases_eq k (payload_
       below : (k ≡ payload_count p len + 1 → ⊥) → k ≤ payload_count p len
       below before = elim (cases_lt (payload_count p len) k) [ inl more ↦ absurd (before (omega arith)) | inr within ↦ within ]
 
-payloads_each : (p len n k : ℕ) (ks : List StreamPacket) → has_payloads p len n ks ≡ true → 1 ≤ k → k ≤ n → has_payload p len k ks ≡ true
+pub payloads_each : (p len n k : ℕ) (ks : List StreamPacket) → has_payloads p len n ks ≡ true → 1 ≤ k → k ≤ n → has_payload p len k ks ≡ true
 payloads_each p len n k ks all one top = elim (cases_Bool (has_payload p len k ks)) [
   | inl there ↦ there
   | inr none ↦ absurd (false≢true (sym (payloads_miss p len n k ks one top none) ∙ all))
 ]
 
-payload_has_id : (p len k : ℕ) (ks : List StreamPacket) → has_payload p len k ks ≡ true → has_id k ks ≡ true
+pub payload_has_id : (p len k : ℕ) (ks : List StreamPacket) → has_payload p len k ks ≡ true → has_id k ks ≡ true
 payload_has_id p len k ks there = elim (cases_Bool (has_id k ks)) [
   | inl has ↦ has
   | inr none ↦ absurd (false≢true (sym (has_payload-none p len k ks none) ∙ there))

@@ -12,3 +12,4 @@ pub mod FewKept
 pub mod Missed
 pub mod Losses
 pub mod Told
+mod Intact

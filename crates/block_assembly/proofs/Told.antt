@@ -2,14 +2,14 @@
 use Rattle.std.proofs.Common.{◌≡◌, ℕ, List, length, Bool, Option}
 use Rattle.stream_packets.specs.Packets.{StreamPacket}
 use Rattle.block_image.specs.Image.{is_complete, extent_in}
-use Rattle.missing_ranges.specs.declared.reasons.Reasons.{Reasons}
+use Rattle.gev_types.specs.declared.reasons.Reasons.{Reasons}
 use Rattle.missing_ranges.specs.Reasons.{reasons}
 use Rattle.missing_ranges.specs.Lost.{lost}
 use Rattle.block_assembly.specs.declared.progress.Progress.{Progress}
-use Rattle.block_assembly.specs.declared.lost.Lost.{Lost}
+use Rattle.gev_types.specs.declared.block_account.Lost.{Lost}
 use Rattle.block_assembly.specs.declared.account.Account.{Account}
 use Rattle.block_assembly.specs.Assembly.{IsAssembly, lines_of}
-use Rattle.block_assembly.specs.Losing.{lost_of}
+use Rattle.missing_ranges.specs.Accounts.{lost_of}
 use Rattle.block_assembly.specs.Accounts.{account_of}
 use Rattle.block_assembly.proofs.FewKept.{count_is}
 

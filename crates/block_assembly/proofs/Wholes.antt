@@ -56,7 +56,7 @@ too_few a len last ks s e leads trails small few =
     sym (ap (λ (n : ℕ). has_payloads p len n ks) e ∙ few_is p a.block len ks a.shortest (ends a len last ks s e leads trails) (omega (arith, e, s.count)))
 
 -- a kept leader has the id 0
-leader_has_id : (ks : List StreamPacket) (i : LeaderInfo) → AreLeadersFirst ks → leader_in ks ≡ Some i → has_id 0 ks ≡ true
+pub leader_has_id : (ks : List StreamPacket) (i : LeaderInfo) → AreLeadersFirst ks → leader_in ks ≡ Some i → has_id 0 ks ≡ true
 leader_has_id [] i first e = absurd (cc)
 leader_has_id (leader h j ∷ xs) i first e = or_left (h.id == 0) (has_id 0 xs) (eq-eqb h.id 0 first.0)
 leader_has_id (payload h d ∷ xs) i first e = or_right (h.id == 0) (has_id 0 xs) (leader_has_id xs i first.1 e)

@@ -5,7 +5,7 @@ use Rattle.block_image.specs.Image.{is_complete, extent_in, leader_in, lines_in}
 use Rattle.missing_ranges.specs.Reasons.{reasons}
 use Rattle.missing_ranges.specs.Lost.{lost}
 use Rattle.block_assembly.specs.declared.account.Account.{Account}
-use Rattle.block_assembly.specs.Losing.{lost_of}
+use Rattle.missing_ranges.specs.Accounts.{lost_of}
 
 -- The account of a block with these kept packets, with payloads of p bytes at most, in a buffer of this size.
 abbrev pub account_of : ℕ → ℕ → List StreamPacket → Account

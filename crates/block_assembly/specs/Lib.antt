@@ -3,7 +3,6 @@ pub mod Shortest
 pub mod Assembly
 pub mod Verdicts
 pub mod Steps
-pub mod Losing
 pub mod Accounts
 pub mod Laws
 pub mod Zeroed

@@ -9,15 +9,15 @@ ghost use Rattle.missing_ranges.specs.Reasons.{has_payloads_to, has_short_to, re
 ghost use Rattle.missing_ranges.specs.Lost.{lost};
 ghost use Rattle.block_assembly.specs.PacketIds.{packet_ids};
 ghost use Rattle.block_assembly.specs.Assembly.{IsAssembly, IsSound, is_trailer_within, HasClearFrom};
-ghost use Rattle.block_assembly.specs.Losing.{lost_of};
+ghost use Rattle.missing_ranges.specs.Accounts.{lost_of, block_account};
 ghost use Rattle.block_assembly.specs.Accounts.{account_of};
 
 use crate::completing::{are_long, completes, extent, is_trailer_id, last_payload, lines_of, top};
-use crate::lost::{Lost, lost_to, none_lost};
+use crate::lost::{lost_to, none_lost};
 use crate::progress::{Ending, Progress};
 use block_image::start_of_payload;
+use gev_types::{BlockAccount, Cause, Lost, Reasons};
 use gvsp_wire::LeaderInfo;
-use missing_ranges::Reasons;
 use packet_bitmap::Bitmap;
 
 /// What is told of a block that retires with a buffer.
@@ -142,5 +142,26 @@ pub(crate) fn account_of(assembly: &Progress) -> Account
         lost: lost_in(assembly),
         leader: assembly.leader,
         lines: lines_of(assembly.trailer),
+    }
+}
+
+/// What became of the block, as it retires for this cause. A whole image lacks nothing, so nothing is looked for.
+pub(crate) fn block_account(assembly: &Progress, cause: Cause) -> BlockAccount
+    requires sound { IsSound assembly.now }
+    requires stands { (ks : List StreamPacket) × IsAssembly assembly.now ks }
+    ensures { (ks : List StreamPacket) → IsAssembly assembly.now ks
+        → result ≡ block_account cause assembly.now.payload_size assembly.now.size ks }
+{
+    if completes(assembly) {
+        return BlockAccount {
+            cause,
+            lost: none_lost(),
+            why: Reasons::none(),
+        };
+    }
+    BlockAccount {
+        cause,
+        lost: lost_in(assembly),
+        why: reasons_in(assembly),
     }
 }

@@ -4,6 +4,7 @@ ghost use Rattle.gvsp_wire.specs.View.{view};
 ghost use Rattle.block_image.specs.Kept.{kept, has_id};
 ghost use Rattle.block_image.specs.Image.{image};
 ghost use Rattle.block_image.specs.Sizes.{IsPayloadSize};
+ghost use Rattle.missing_ranges.specs.Accounts.{retired_image};
 ghost use Rattle.missing_ranges.specs.Missing.{top_of, has_gone};
 ghost use Rattle.packet_bitmap.specs.Bits.{has};
 ghost use Rattle.block_assembly.specs.PacketIds.{packet_ids};
@@ -19,7 +20,7 @@ use crate::progress::Progress;
 use crate::recording::record;
 use crate::verdict::Verdict;
 use crate::zeroing::zero_missing;
-use gev_types::Buf;
+use gev_types::{Buf, Cause};
 use gvsp_wire::Packet;
 use packet_bitmap::Bitmap;
 use std::marker::Model;
@@ -137,15 +138,16 @@ impl Assembly {
         &self.progress.refused
     }
 
-    /// The buffer with the block's image and record, and the two bitmaps for another block.
-    pub fn finish(self) -> (Buf, Bitmap, Bitmap)
+    /// The buffer with the block's image and record, and the two bitmaps for another block. The block retires for
+    /// this cause, which its record tells.
+    pub fn finish(self, cause: Cause) -> (Buf, Bitmap, Bitmap)
         ensures image { (p b size : ℕ) (heard : List StreamPacket) → AssemblyStands self p b size heard
-            → result.0 ≡ image p b size heard }
+            → result.0 ≡ retired_image cause p b size heard }
         ensures kept { length result.1 ≡ packet_ids }
         ensures refused { length result.2 ≡ packet_ids }
     {
         let Assembly { progress } = self;
-        let rec = record(&progress);
+        let rec = record(&progress, cause);
         let mut buf = progress.buf;
         zero_missing(&mut buf, &progress.kept, progress.payload_size);
         buf.set_rec(rec);

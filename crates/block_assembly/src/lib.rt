@@ -21,7 +21,5 @@ mod zeroing; // zeros where nothing came
 pub use account::Account;
 pub use assembly::Assembly;
 pub use laws::{accounts_agree, packet_ids_are_those, verdicts_tell};
-pub use lost::{FirstRanges, Lost};
-pub use missing_ranges::Reasons;
 pub use progress::PACKET_IDS;
 pub use verdict::Verdict;

@@ -1,80 +1,23 @@
 //! Which packet ids of a block have no kept packet.
 
-ghost use Rattle.std.specs.Prelude.{◌≡◌, ◌+◌, ◌-◌, ◌≤◌, ◌<◌, [], ◌∷◌, ◌++◌, take, length};
+ghost use Rattle.std.specs.Prelude.{◌≡◌, ◌+◌, ◌≤◌, ℕ, List, [], ◌∷◌, ◌++◌, length};
 ghost use Rattle.gev_types.specs.Limits.{max_packet_id};
+ghost use Rattle.missing_ranges.specs.Accounts.{lost_of};
 ghost use Rattle.missing_ranges.specs.Ranges.{holes};
 ghost use Rattle.packet_bitmap.specs.Bits.{has};
 ghost use Rattle.block_assembly.specs.PacketIds.{packet_ids};
-ghost use Rattle.block_assembly.specs.Losing.{none_lost, with_range, lost_of};
 
-use arrayvec::ArrayVec;
+use gev_types::Lost;
 use packet_bitmap::Bitmap;
-use std::marker::Model;
-
-/// The first eight of some ranges of packet ids, each by its first and its last.
-///
-/// Contracts see it as the list of them.
-#[derive(Drop)]
-pub struct FirstRanges {
-    ranges: ArrayVec<(u32, u32), 8>,
-}
-
-impl Model for FirstRanges {
-    ghost use Rattle.std.specs.Prelude.{List, ℕ, ⊤};
-
-    ghost Value = { List (ℕ × ℕ) };
-
-    ghost view = { λ r. r.ranges.items };
-
-    ghost invariant = { λ r. ⊤ };
-}
-
-impl FirstRanges {
-    /// No range.
-    pub fn new() -> FirstRanges
-        ensures { result ≡ [] }
-    {
-        FirstRanges {
-            ranges: ArrayVec::new(),
-        }
-    }
-
-    /// Adds one more range, if there are fewer than eight.
-    pub fn push(&mut self, range: (u32, u32))
-        ensures { self.new ≡ self.old ++ take (8 - length self.old) (range ∷ []) }
-    {
-        if self.ranges.len() < 8 {
-            self.ranges.push(range);
-        }
-    }
-
-    /// The ranges, lowest first.
-    pub fn as_slice(&self) -> &[(u32, u32)]
-        ensures { result.now ≡ self.now }
-    {
-        self.ranges.as_slice()
-    }
-}
-
-/// The ids of a block, up to its last one, of which no packet was kept. A notice is no packet here.
-#[derive(Drop)]
-pub struct Lost {
-    /// How many there are.
-    pub ids: u32,
-    /// How many ranges they make.
-    pub ranges: u32,
-    /// The first eight of these ranges, lowest first.
-    pub first: FirstRanges,
-}
 
 /// Where none is lost.
 pub(crate) fn none_lost() -> Lost
-    ensures { result ≡ none_lost }
+    ensures { result ≡ lost_of [] }
 {
     Lost {
         ids: 0,
         ranges: 0,
-        first: FirstRanges::new(),
+        first: [(0, 0); 8],
     }
 }
 
@@ -84,11 +27,13 @@ fn add(lost: &mut Lost, range: (u32, u32))
     requires in_range { range.1 ≤ max_packet_id }
     requires ids { lost.old.ids ≤ range.0 }
     requires ranges { lost.old.ranges ≤ range.0 }
-    ensures { lost.new ≡ with_range lost.old range }
+    ensures { (rs : List (ℕ × ℕ)) → lost.old ≡ lost_of rs → lost.new ≡ lost_of (rs ++ range ∷ []) }
 {
+    if lost.ranges < 8 {
+        lost.first[lost.ranges as usize] = range;
+    }
     lost.ids += range.1 + 1 - range.0;
     lost.ranges += 1;
-    lost.first.push(range);
 }
 
 /// The ids from 0 to `top` that are clear.

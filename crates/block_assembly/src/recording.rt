@@ -3,13 +3,15 @@
 ghost use Rattle.std.specs.Prelude.{◌≡◌, ◌≤◌, List};
 ghost use Rattle.stream_packets.specs.Packets.{StreamPacket};
 ghost use Rattle.block_image.specs.Infos.{info_of};
-ghost use Rattle.block_image.specs.Image.{is_larger, image_len, leader_in, lines_in, extent_in, record_of};
+ghost use Rattle.block_image.specs.Image.{is_larger, image_len, leader_in, lines_in, extent_in};
+ghost use Rattle.missing_ranges.specs.Accounts.{retired_record};
 ghost use Rattle.block_assembly.specs.Assembly.{IsAssembly, IsSound};
 
+use crate::account::block_account;
 use crate::completing::{completes, extent, lines_of};
 use crate::progress::Progress;
 use block_image::info_of;
-use gev_types::{ImageInfo, Record};
+use gev_types::{Cause, ImageInfo, Record};
 
 /// Whether the block has more bytes than the buffer.
 fn is_larger(assembly: &Progress) -> bool
@@ -44,11 +46,12 @@ fn info(assembly: &Progress) -> Option<ImageInfo>
     info_of(assembly.leader, lines_of(assembly.trailer))
 }
 
-/// What is known of the block.
-pub(crate) fn record(assembly: &Progress) -> Record
-    requires { IsSound assembly.now }
+/// What is known of the block, as it retires for this cause.
+pub(crate) fn record(assembly: &Progress, cause: Cause) -> Record
+    requires sound { IsSound assembly.now }
+    requires stands { (ks : List StreamPacket) × IsAssembly assembly.now ks }
     ensures value { (ks : List StreamPacket) → IsAssembly assembly.now ks
-        → result ≡ record_of assembly.now.payload_size assembly.now.block assembly.now.size ks }
+        → result ≡ retired_record cause assembly.now.payload_size assembly.now.block assembly.now.size ks }
     ensures data_len { result.data_len ≤ assembly.now.size }
     ensures filled { result.filled ≤ assembly.now.size }
 {
@@ -60,5 +63,6 @@ pub(crate) fn record(assembly: &Progress) -> Record
         data_len: image_len(assembly),
         filled: assembly.placed,
         image: info(assembly),
+        account: Some(block_account(assembly, cause)),
     }
 }

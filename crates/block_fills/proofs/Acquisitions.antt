@@ -36,17 +36,17 @@ swapped S P (r ∷ rs) h = ((λ f s. (h f s).0), swapped S P rs (λ f s. (h f s)
 
 -- what a retirement gives holds of its item
 abbrev OfItem : ℕ → (Item → Type 0) → Retirement → Type 0
-OfItem p P r = (g : Given) → r.was.given ≡ Some g → P (item g.place (filling_in p r.was g))
+OfItem p P r = (g : Given) → r.was.given ≡ Some g → P (item g.place (filling_in p r g))
 
-item_all : (p : ℕ) (P : Item → Type 0) (r : Retirement) (given : Option Given) → r.was.given ≡ given → OfItem p P r → AllByRecursion P (map item_of (fill_of p r.was given))
+item_all : (p : ℕ) (P : Item → Type 0) (r : Retirement) (given : Option Given) → r.was.given ≡ given → OfItem p P r → AllByRecursion P (map item_of (fill_of p r given))
 item_all p P r None is h = tt
 item_all p P r (Some g) is h = (h g is, tt)
 
 items_all : (p : ℕ) (P : Item → Type 0) (rs : List Retirement) → AllByRecursion (OfItem p P) rs → AllByRecursion P (map item_of (fills p rs))
 items_all p P [] h = tt
 items_all p P (r ∷ rs) h =
-    subst (λ l. AllByRecursion P l) (sym (items-append (fill_of p r.was r.was.given) (fills p rs)))
-    (all_append P (map item_of (fill_of p r.was r.was.given)) (map item_of (fills p rs)) (item_all p P r r.was.given refl h.0) (items_all p P rs h.1))
+    subst (λ l. AllByRecursion P l) (sym (items-append (fill_of p r r.was.given) (fills p rs)))
+    (all_append P (map item_of (fill_of p r r.was.given)) (map item_of (fills p rs)) (item_all p P r r.was.given refl h.0) (items_all p P rs h.1))
 
 no_restarts : (q r : List Input) → HasNoRestart q → HasNoRestart r → HasNoRestart (q ++ r)
 no_restarts [] r a b = b
@@ -77,7 +77,7 @@ record Begun (c : AcqConfig) (whole before since : List Input) : Type 0 where
 record Known (c : AcqConfig) (before since : List Input) (i : Input) (r : Retirement) : Type 0 where
   among : IsAmong (turn c (before ++ since) i).retired r
   came : IsSince c ((before ++ since) ++ i ∷ []) r.was
-  holds : (frames : ℕ → Option Frame) → AreSent frames c.p (packets_in (since ++ i ∷ [])) → HoldsIfGiven frames c.p r.was r.was.given
+  holds : (frames : ℕ → Option Frame) → AreSent frames c.p (packets_in (since ++ i ∷ [])) → HoldsIfGiven frames c.p r r.was.given
 
 retired_is : (c : AcqConfig) (whole before since : List Input) (i : Input) (rest : List Input) (r : Retirement) → Begun c whole before since → whole ≡ before ++ since ++ i ∷ rest → Known c before since i r → OfItem c.p (IsRetired c whole) r
 retired_is c whole before since i rest r b parts k g has = record {
@@ -94,18 +94,18 @@ retired_is c whole before since i rest r b parts k g has = record {
   has = has;
   is = refl;
   came = k.came;
-  holds = λ frames sent. subst (HoldsIfGiven frames c.p r.was) has (k.holds frames sent);
+  holds = λ frames sent. subst (HoldsIfGiven frames c.p r) has (k.holds frames sent);
 }
 
 known_all : (c : AcqConfig) (whole before since : List Input) (i : Input) → Begun c whole before since → AllByRecursion (Known c before since i) (turn c (before ++ since) i).retired
 known_all c whole before since i b =
     let rs : List Retirement = (turn c (before ++ since) i).retired in
-    let Holds : Retirement → Type 0 = λ r. (frames : ℕ → Option Frame) → AreSent frames c.p (packets_in (since ++ i ∷ [])) → HoldsIfGiven frames c.p r.was r.was.given in
+    let Holds : Retirement → Type 0 = λ r. (frames : ℕ → Option Frame) → AreSent frames c.p (packets_in (since ++ i ∷ [])) → HoldsIfGiven frames c.p r r.was.given in
     let Came : Retirement → Type 0 = λ r. IsSince c ((before ++ since) ++ i ∷ []) r.was in
     let Both : Retirement → Type 0 = λ r. IsAmong rs r × Came r in
     let two : AllByRecursion Both rs = all_both (IsAmong rs) Came Both (λ r x y. (x, y)) rs (among_all rs [] rs refl) (retired_heard_what_came c (before ++ since) i b.some) in
     let third : AllByRecursion Holds rs
-    = swapped (λ f. AreSent f c.p (packets_in (since ++ i ∷ []))) (λ f r. HoldsIfGiven f c.p r.was r.was.given) rs
+    = swapped (λ f. AreSent f c.p (packets_in (since ++ i ∷ []))) (λ f r. HoldsIfGiven f c.p r r.was.given) rs
     (λ f sent. fills_keep_frames f c before since i b.some b.none_open sent) in
     all_both Both Holds (Known c before since i) (λ r x y. record { among = x.0; came = x.1; holds = y }) rs two third
 

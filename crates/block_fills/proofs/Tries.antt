@@ -21,8 +21,8 @@ tried-append (e ∷ g) h =
 pub fills-append : (p : ℕ) (rs qs : List Retirement) → fills p (rs ++ qs) ≡ fills p rs ++ fills p qs
 fills-append p [] qs = refl
 fills-append p (r ∷ rs) qs =
-    ap (λ l. fill_of p r.was r.was.given ++ l) (fills-append p rs qs)
-    ∙ sym (append_assoc (fill_of p r.was r.was.given) (fills p rs) (fills p qs))
+    ap (λ l. fill_of p r r.was.given ++ l) (fills-append p rs qs)
+    ∙ sym (append_assoc (fill_of p r r.was.given) (fills p rs) (fills p qs))
 
 pub items-append : (xs ys : List Retired) → map item_of (xs ++ ys) ≡ map item_of xs ++ map item_of ys
 items-append [] ys = refl

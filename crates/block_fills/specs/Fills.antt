@@ -67,9 +67,9 @@ pub record IsRetired (c : AcqConfig) (inputs : List Input) (x : Item) : Type 0 w
   pub among : IsAmong (turn c (before ++ since) last).retired block
   pub given : Given
   pub has : block.was.given ≡ Some given
-  pub is : x ≡ item given.place (filling_in c.p block.was given)
+  pub is : x ≡ item given.place (filling_in c.p block given)
   pub came : IsSince c ((before ++ since) ++ last ∷ []) block.was
-  pub holds : (frames : ℕ → Option Frame) → AreSent frames c.p (packets_in (since ++ last ∷ [])) → HoldsOfFrame frames c.p block.was given
+  pub holds : (frames : ℕ → Option Frame) → AreSent frames c.p (packets_in (since ++ last ∷ [])) → HoldsOfFrame frames c.p block given
 
 -- A buffer that was handed out was filled with a retired block, or has the empty record.
 abbrev pub IsHandedSo : AcqConfig → List Input → Item → Type 0

@@ -112,7 +112,7 @@ abbrev pub image_len : ℕ → ℕ → List StreamPacket → Option ℕ → ℕ
 image_len p size ks None = placed_end p ks size
 image_len p size ks (Some len) = min len size
 
--- the record of block b, read over its kept packets
+-- the record of block b, read over its kept packets; what became of the block they don't tell
 abbrev pub record_of : ℕ → ℕ → ℕ → List StreamPacket → Record
 record_of p b size ks = record {
   block = b;
@@ -122,6 +122,7 @@ record_of p b size ks = record {
   data_len = image_len p size ks (extent_in ks);
   filled = placed_count p ks size;
   image = info_of (leader_in ks) (lines_in ks);
+  account = None;
 }
 
 -- what the kept packets of block b give in a buffer of this size

@@ -9,3 +9,4 @@ pub mod KeptLaws
 pub mod AllPackets
 pub mod OneBlock
 pub mod InfoLaws
+pub mod WorkedInfos

@@ -3,6 +3,7 @@
 ghost use Rattle.block_image.specs.AllPackets.{AllPacketsAgree, PacketsAgree};
 ghost use Rattle.block_image.specs.InfoLaws.{LeadersTellImages, RecordsTellTheirFrame, RecordsTellTheirLength};
 ghost use Rattle.block_image.specs.KeptLaws.{KeepsInOrder, KeepsNoIdTwice, KeepsOneTrailer, KeepsTheFirst, KeepsWhatFits, IgnoresLeaderInfo, MissesNothing};
+ghost use Rattle.block_image.specs.WorkedInfos.{InfosAreWorked};
 ghost use Rattle.block_image.specs.OneBlock.{AllPacketsComplete, BytesAreInPlace, CompleteIsFrame};
 
 /// No id stands twice among the kept packets of a block.
@@ -81,4 +82,9 @@ pub fn records_tell_their_frame()
 /// A record tells an image just where it says that a leader was kept.
 pub fn leaders_tell_images()
     ensures { LeadersTellImages }
+{}
+
+/// What is told of some images, worked out by hand: each field has its own place in the leader's bytes.
+pub fn infos_are_worked()
+    ensures { InfosAreWorked }
 {}

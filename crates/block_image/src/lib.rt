@@ -16,9 +16,9 @@ pub use extents::{extent, extent_of, info_of, tells_its_size};
 pub use keeping::{does_fit, is_kept, kept_packets};
 pub use laws::{
     all_packets_agree, all_packets_complete, bytes_are_in_place, complete_is_frame,
-    ignores_leader_info, keeps_in_order, keeps_no_id_twice, keeps_one_trailer, keeps_the_first,
-    keeps_what_fits, leaders_tell_images, misses_nothing, packets_agree, records_tell_their_frame,
-    records_tell_their_length,
+    ignores_leader_info, infos_are_worked, keeps_in_order, keeps_no_id_twice, keeps_one_trailer,
+    keeps_the_first, keeps_what_fits, leaders_tell_images, misses_nothing, packets_agree,
+    records_tell_their_frame, records_tell_their_length,
 };
 pub use plain::block_image;
 pub use records::{count_payloads, has_its_bytes, start_of_payload};

@@ -93,6 +93,7 @@ fn record_with(p: u32, block: u64, size: u32, kept: &[Packet<'_>], placed: Place
         data_len: extent.map_or(placed.end, |len| len.min(size)),
         filled: placed.count,
         image: info_of(leader, lines),
+        account: None,
     }
 }
 

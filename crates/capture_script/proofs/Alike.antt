@@ -2,23 +2,23 @@
 use Rattle.std.proofs.Common.{◌≡◌, ℕ, List, [], ◌∷◌, length, map, refl, ap, ◌∙◌, arith, length-append}
 use Rattle.std.specs.Prelude.{Option, Some, None}
 use Rattle.acquisition_machine.specs.declared.config.AcqConfig.{AcqConfig}
-use Rattle.acquisition_machine.specs.Blocks.{Given, Open, Retirement, fill_of, fills}
+use Rattle.acquisition_machine.specs.Blocks.{Given, Retirement, fill_of, fills}
 use Rattle.acquisition_machine.specs.Machine.{Input, datagram, State, Turn, step}
 use Rattle.acquisition_machine.specs.Runs.{after_from, retired_from}
 use Rattle.acquisition_machine.specs.Erased.{bare_given, bare, bare_state, bare_input, bare_retirement}
 use Rattle.acquisition_machine.proofs.Lists.{places_are_not_read}
 
-fill_bares : (p : ℕ) (o q : Open) (g : Option Given) → length (fill_of p o (bare_given g)) ≡ length (fill_of p q g)
-fill_bares p o q None = refl
-fill_bares p o q (Some g) = refl
+fill_bares : (p : ℕ) (r q : Retirement) (g : Option Given) → length (fill_of p r (bare_given g)) ≡ length (fill_of p q g)
+fill_bares p r q None = refl
+fill_bares p r q (Some g) = refl
 
 fills_bare : (p : ℕ) (rs : List Retirement) → length (fills p (map bare_retirement rs)) ≡ length (fills p rs)
 fills_bare p [] = refl
 fills_bare p (r ∷ rs) =
-    let a = fill_bares p (bare r.was) r.was r.was.given in
+    let a = fill_bares p (bare_retirement r) r r.was.given in
     let b = fills_bare p rs in
-    let c = length-append (fill_of p (bare r.was) (bare_given r.was.given)) (fills p (map bare_retirement rs)) in
-    let d = length-append (fill_of p r.was r.was.given) (fills p rs) in
+    let c = length-append (fill_of p (bare_retirement r) (bare_given r.was.given)) (fills p (map bare_retirement rs)) in
+    let d = length-append (fill_of p r r.was.given) (fills p rs) in
     omega (arith, a, b, c, d)
 
 -- as many are filled

@@ -27,7 +27,7 @@ use Rattle.script_trace.specs.Ending.{as_count, filled_blocks}
 use Rattle.script_trace.specs.Wide.{Wide, nothing_wide}
 use Rattle.script_trace.specs.Standing.{first, running, ReplayRuns}
 use Rattle.script_trace.specs.Laws.{KeepsPromises}
-use Rattle.script_trace.proofs.Scripts.{runs_keep}
+use Rattle.script_trace.proofs.Changing.{runs_keep}
 use Rattle.script_trace.proofs.OneReport.{report_one}
 use Rattle.script_trace.proofs.Counting.{takes_counted}
 use Rattle.capture_script.specs.Playing.{open_blocks, config, nothing_played}

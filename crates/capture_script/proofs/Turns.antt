@@ -19,7 +19,7 @@ use Rattle.capture_script.specs.Standing.{Plays, found}
 fills-append : (p : ℕ) (rs ss : List Retirement) → fills p (rs ++ ss) ≡ fills p rs ++ fills p ss
 fills-append p [] ss = refl
 fills-append p (r ∷ rs) ss =
-    ap (λ (fs : List Retired). fill_of p r.was r.was.given ++ fs) (fills-append p rs ss) ∙ sym (append_assoc (fill_of p r.was r.was.given) (fills p rs) (fills p ss))
+    ap (λ (fs : List Retired). fill_of p r r.was.given ++ fs) (fills-append p rs ss) ∙ sym (append_assoc (fill_of p r r.was.given) (fills p rs) (fills p ss))
 
 -- how many are filled as these inputs come from a state
 abbrev pub filled_from : ℕ → State → List Input → ℕ

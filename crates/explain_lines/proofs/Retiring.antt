@@ -21,7 +21,8 @@ use Rattle.acquisition_machine.specs.TurnLaws.{given_of}
 use Rattle.acq_core.specs.declared.ended.Ended.{Ended}
 use Rattle.acq_core.specs.declared.ended.Held.{Held}
 use Rattle.acq_core.specs.declared.window.Window.{Window}
-use Rattle.acq_core.specs.Ending.{cause_of, held_of, end_of, ends_of}
+use Rattle.acquisition_machine.specs.Blocks.{cause_of}
+use Rattle.acq_core.specs.Ending.{held_of, end_of, ends_of}
 use Rattle.acq_core.specs.Receiver.{is_telling, buffers, KeepsBlocks}
 use Rattle.acq_core.specs.Waiting.{waiting_fills, waiting_requests, waiting_resends, waiting_ends}
 use Rattle.board_calls.specs.declared.mode.Mode.{Mode}
@@ -101,7 +102,7 @@ none_of (Some h) e = absurd cc
 pub record FirstOf (c : AcqConfig) (floor : ℕ) (end : Ended) (r : Retirement) (rs : List Retirement) (m : Window) (left : List Ended) : Type 0 where
   pub is : end ≡ end_of c.p floor (cause_of r.cause) r.was
   pub ends : left ≡ ends_of true c.p (r.was.block + 1) rs
-  pub fills_are : waiting_fills m ≡ fill_of c.p r.was r.was.given ++ fills c.p rs
+  pub fills_are : waiting_fills m ≡ fill_of c.p r r.was.given ++ fills c.p rs
 
 first_of : (c : AcqConfig) (floor : ℕ) (end : Ended) (r : Retirement) (rs : List Retirement) (m : Window) (left : List Ended) → waiting_ends m ≡ end ∷ left → Gives c floor (r ∷ rs) m → FirstOf c floor end r rs m left
 first_of c floor end r rs m left ends gives = record {
@@ -127,7 +128,7 @@ behind_none c floor end r rs m n held first same =
       none,
       record {
         ends = first.ends;
-        fills = same ∙ first.fills_are ∙ ap (λ (g : Option Given). fill_of c.p r.was g ++ fills c.p rs) none;
+        fills = same ∙ first.fills_are ∙ ap (λ (g : Option Given). fill_of c.p r g ++ fills c.p rs) none;
       },
     )
 
@@ -136,8 +137,8 @@ behind_some : (c : AcqConfig) (floor : ℕ) (end : Ended) (x : Retired) (r : Ret
     → (g : Given) × (r.was.given ≡ Some g) × (x.place ≡ g.place) × Gives c (r.was.block + 1) rs n
 behind_some c floor end x r rs m n held first waits =
     let some : (g : Given) × (r.was.given ≡ Some g) = some_given c.p r.was.block r.was r.was.given (sym (ap (λ (e : Ended). is_some e.held) first.is) ∙ held) in
-    let is : x ∷ waiting_fills n ≡ (record { place = some.0.place; buf = filling_in c.p r.was some.0 }) ∷ fills c.p rs
-    = sym waits ∙ first.fills_are ∙ ap (λ (g : Option Given). fill_of c.p r.was g ++ fills c.p rs) some.1 in (
+    let is : x ∷ waiting_fills n ≡ (record { place = some.0.place; buf = filling_in c.p r some.0 }) ∷ fills c.p rs
+    = sym waits ∙ first.fills_are ∙ ap (λ (g : Option Given). fill_of c.p r g ++ fills c.p rs) some.1 in (
       some.0,
       some.1,
       ap (λ (y : Retired). y.place) (same_fill x _ (waiting_fills n) (fills c.p rs) is),
@@ -395,8 +396,8 @@ no_fill_left end n mid some ends same held none = go some.retired some.gives
     go (r ∷ rs) gives =
         let first : FirstOf some.config some.floor end r rs n (waiting_ends mid) = first_of some.config some.floor end r rs n (waiting_ends mid) ends gives in
         let given : (g : Given) × (r.was.given ≡ Some g) = some_given some.config.p r.was.block r.was r.was.given (sym (ap (λ (e : Ended). is_some e.held) first.is) ∙ held) in
-        absurd (some_fills (record { place = given.0.place; buf = filling_in some.config.p r.was given.0 }) (fills some.config.p rs)
-        (sym (first.fills_are ∙ ap (λ (g : Option Given). fill_of some.config.p r.was g ++ fills some.config.p rs) given.1) ∙ sym same ∙ none))
+        absurd (some_fills (record { place = given.0.place; buf = filling_in some.config.p r given.0 }) (fills some.config.p rs)
+        (sym (first.fills_are ∙ ap (λ (g : Option Given). fill_of some.config.p r g ++ fills some.config.p rs) given.1) ∙ sym same ∙ none))
 
 none_left : (m : Window) → GivesSome m → waiting_ends m ≡ [] → waiting_fills m ≡ []
 none_left m some none = some.gives.fills ∙ ap (fills some.config.p) (no_block some.config some.floor some.retired m none some.gives)

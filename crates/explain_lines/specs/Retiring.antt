@@ -10,7 +10,8 @@ use Rattle.acquisition_machine.specs.declared.retired.Retired.{Retired}
 use Rattle.acquisition_machine.specs.Blocks.{Given, Open, Cause, Retirement, fills}
 use Rattle.acq_core.specs.declared.ended.Ended.{Ended}
 use Rattle.acq_core.specs.declared.window.Window.{Window}
-use Rattle.acq_core.specs.Ending.{cause_of, end_of, ends_of}
+use Rattle.acquisition_machine.specs.Blocks.{cause_of}
+use Rattle.acq_core.specs.Ending.{end_of, ends_of}
 use Rattle.acq_core.specs.Waiting.{waiting_fills, waiting_ends}
 use Rattle.board_calls.specs.declared.mode.Mode.{Mode}
 use Rattle.script_trace.specs.Inputs.{drop_notes, after_ends, retired_notes}

@@ -8,4 +8,4 @@ pub record Filling : Type 0 where
 
 -- the record of a buffer that holds no block
 abbrev pub empty_record : Record
-empty_record = record { block = 0; complete = false; larger = false; has_leader = false; data_len = 0; filled = 0; image = None }
+empty_record = record { block = 0; complete = false; larger = false; has_leader = false; data_len = 0; filled = 0; image = None; account = None }

@@ -4,3 +4,4 @@ pub mod FrameSize
 pub mod Placing
 pub mod BufInside
 pub mod Lending
+pub mod Reasons

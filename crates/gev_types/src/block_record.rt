@@ -1,8 +1,9 @@
+use crate::block_account::BlockAccount;
 use crate::image_info::ImageInfo;
 
 /// What is known of the block that a buffer holds.
 ///
-/// The empty record, `Record::default()`, has block 0, every flag false, every number 0 and no image.
+/// The empty record, `Record::default()`, has block 0, every flag false, every number 0, no image and no account.
 #[derive(Clone, Copy, Debug, Default, PartialEq, Eq)]
 pub struct Record {
     /// The block id; 0 only in an empty record.
@@ -19,4 +20,6 @@ pub struct Record {
     pub filled: u32,
     /// What is known of the image: None where no leader was kept.
     pub image: Option<ImageInfo>,
+    /// What became of the block as it retired: None in a record that no retired block gave.
+    pub account: Option<BlockAccount>,
 }

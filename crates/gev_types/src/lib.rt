@@ -1,6 +1,7 @@
 //! Frames, records of filled buffers, and the limits that the whole stack keeps.
 #![tactic(auto)]
 
+mod block_account; // what became of a block
 mod block_record; // what is known of a buffer's block
 mod buf; // an image buffer
 mod bytes; // owned bytes
@@ -10,7 +11,9 @@ pub mod laws; // laws of the definitions, as contracts
 mod limits; // the numbers that all keep
 mod memory; // want of memory
 mod peer; // an address and a port
+mod reasons; // why an image isn't whole
 
+pub use block_account::{BlockAccount, Cause, Lost};
 pub use block_record::Record;
 pub use buf::Buf;
 pub use bytes::Bytes;
@@ -22,3 +25,4 @@ pub use limits::{
 };
 pub use memory::NoMemory;
 pub use peer::Peer;
+pub use reasons::Reasons;

@@ -8,13 +8,14 @@ use Rattle.block_image.specs.Kept.{kept}
 use Rattle.block_image.specs.KeptFacts.{IsKept}
 use Rattle.block_image.specs.Image.{is_complete, has_payloads, has_trailer_at, extent_in}
 use Rattle.block_image.proofs.IsKept.{IsKept-kept}
-use Rattle.missing_ranges.specs.declared.reasons.Reasons.{Reasons}
-use Rattle.missing_ranges.specs.Reasons.{has_payloads_to, has_short_to, reasons_of, reasons, no_reason, has_reason}
+use Rattle.gev_types.specs.declared.reasons.Reasons.{Reasons}
+use Rattle.gev_types.specs.Reasons.{no_reason, has_reason}
+use Rattle.missing_ranges.specs.Reasons.{has_payloads_to, has_short_to, reasons_of, reasons}
 use Rattle.missing_ranges.specs.ReasonLaws.{ReasonsAreReasons, ShortOnesSpoil}
 use Rattle.missing_ranges.proofs.Payloads.{rest_is, payloads_are}
 
 -- five tests of which none holds
-none_of : (r : Reasons) → has_reason r ≡ false → r ≡ no_reason
+pub none_of : (r : Reasons) → has_reason r ≡ false → r ≡ no_reason
 none_of r none = ap5 r.no_leader r.small r.no_trailer r.no_payload r.short (five r.no_leader r.small r.no_trailer r.no_payload r.short none) where
   five : (a b c d e : Bool) → (a || b || c || d || e) ≡ false → (a ≡ false) × (b ≡ false) × (c ≡ false) × (d ≡ false) × (e ≡ false)
   five true b c d e h = absurd (true≢false h)

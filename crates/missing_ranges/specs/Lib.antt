@@ -8,3 +8,4 @@ pub mod Reasons
 pub mod Lost
 pub mod ReasonLaws
 pub mod WorkedReasons
+pub mod Accounts

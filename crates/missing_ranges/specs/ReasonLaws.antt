@@ -6,7 +6,8 @@ use Rattle.block_image.specs.Kept.{has_id, kept}
 use Rattle.block_image.specs.Image.{image, has_payloads}
 use Rattle.missing_ranges.specs.Missing.{top_of}
 use Rattle.missing_ranges.specs.RangeLaws.{AreHoles}
-use Rattle.missing_ranges.specs.Reasons.{has_payloads_to, has_short_to, reasons, no_reason, has_reason}
+use Rattle.gev_types.specs.Reasons.{no_reason, has_reason}
+use Rattle.missing_ranges.specs.Reasons.{has_payloads_to, has_short_to, reasons}
 use Rattle.missing_ranges.specs.Lost.{lost, ids_in, count_false}
 
 -- The image of a block is whole in its buffer exactly where no reason holds.

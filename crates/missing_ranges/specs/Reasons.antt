@@ -4,7 +4,7 @@ use Rattle.stream_packets.specs.Packets.{StreamPacket, leader, payload, trailer,
 use Rattle.stream_packets.specs.FramePackets.{payload_count, payload_start}
 use Rattle.block_image.specs.Kept.{has_trailer}
 use Rattle.block_image.specs.Image.{extent_in, has_trailer_at}
-use Rattle.missing_ranges.specs.declared.reasons.Reasons.{Reasons}
+use Rattle.gev_types.specs.declared.reasons.Reasons.{Reasons}
 
 -- some payload with the id k was kept
 abbrev pub has_payload_at : ℕ → List StreamPacket → Bool
@@ -60,10 +60,3 @@ reasons_of p size ks (Some len) = reasons_with p size len ks
 -- The reasons that hold of a block with these kept packets, in a buffer of this size.
 abbrev pub reasons : ℕ → ℕ → List StreamPacket → Reasons
 reasons p size ks = reasons_of p size ks (extent_in ks)
-
-abbrev pub no_reason : Reasons
-no_reason = record { no_leader = false; small = false; no_trailer = false; no_payload = false; short = false }
-
--- some reason holds
-abbrev pub has_reason : Reasons → Bool
-has_reason r = r.no_leader || r.small || r.no_trailer || r.no_payload || r.short

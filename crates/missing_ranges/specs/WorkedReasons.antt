@@ -2,7 +2,8 @@
 use Rattle.std.specs.Prelude.{◌≡◌, ℕ, List, [], ◌∷◌, true}
 use Rattle.stream_packets.specs.declared.fields.Head.{Head}
 use Rattle.stream_packets.specs.Packets.{StreamPacket, leader, payload, trailer}
-use Rattle.missing_ranges.specs.Reasons.{reasons, no_reason}
+use Rattle.gev_types.specs.Reasons.{no_reason}
+use Rattle.missing_ranges.specs.Reasons.{reasons}
 use Rattle.missing_ranges.specs.Lost.{lost}
 
 -- the header of a packet of block 7

@@ -4,10 +4,10 @@ use Rattle.gentl_types.specs.declared.buffer_id.BufferId.{BufferId}
 use Rattle.block_assembly.specs.Accounts.{account_of}
 use Rattle.board_machine.specs.Ids.{buffer_at}
 use Rattle.acquisition_machine.specs.Blocks.{Given, kept_in}
-use Rattle.acq_core.specs.declared.ended.Cause.{Cause}
+use Rattle.gev_types.specs.declared.block_account.Cause.{Cause}
 use Rattle.acq_core.specs.declared.ended.Ended.{Ended}
 use Rattle.acq_core.specs.declared.ended.Held.{Held}
-use Rattle.acq_core.specs.Ending.{cause_of}
+use Rattle.acquisition_machine.specs.Blocks.{cause_of}
 use Rattle.script_trace.specs.Notes.{Note}
 use Rattle.script_trace.specs.Texts.{words_of}
 use Rattle.note_report.specs.Ended.{ended_words, unbuffered_words}

@@ -5,7 +5,8 @@ use Rattle.board_machine.specs.Machine.{Board}
 use Rattle.acquisition_machine.specs.declared.config.AcqConfig.{AcqConfig}
 use Rattle.acquisition_machine.specs.Blocks.{Given, Open, Cause}
 use Rattle.acq_core.specs.declared.ended.Ended.{Ended}
-use Rattle.acq_core.specs.Ending.{cause_of, held_of, end_of}
+use Rattle.acquisition_machine.specs.Blocks.{cause_of}
+use Rattle.acq_core.specs.Ending.{held_of, end_of}
 use Rattle.script_trace.specs.Notes.{Note}
 use Rattle.note_tape.specs.declared.told.Told.{Told}
 use Rattle.note_tape.specs.declared.told.Told.TheVariants.{Done}

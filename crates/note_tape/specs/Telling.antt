@@ -9,7 +9,7 @@ use Rattle.acquisition_machine.specs.declared.config.AcqConfig.{AcqConfig}
 use Rattle.acquisition_machine.specs.declared.need.Why.TheVariants as whys
 use Rattle.acquisition_machine.specs.Blocks.{Given, Open, Cause, kept_in}
 use Rattle.acq_core.specs.declared.ended.Ended.{Ended}
-use Rattle.acq_core.specs.Ending.{cause_of}
+use Rattle.acquisition_machine.specs.Blocks.{cause_of}
 use Rattle.script_trace.specs.Notes as notes
 use Rattle.script_trace.specs.Notes.{Note}
 use Rattle.script_trace.specs.Inputs.{outcome_of}

@@ -65,7 +65,7 @@ retired_holds frames c es inputs hear all x r =
       front = (r.before ++ r.since) ++ r.last ∷ [];
       rest = r.rest;
       parts = r.parts ∙ sym (append_assoc (r.before ++ r.since) (r.last ∷ []) r.rest);
-      block = r.block.was;
+      block = r.block;
       came = r.came;
       given = r.given;
       has = r.has;
@@ -116,7 +116,7 @@ block_generated : (short : Bool) (seed : ℕ) (shape : Shape) (frames : ℕ → 
     → AreGenerated short seed shape frames → HoldsBlock frames c inputs x → IsGenerated short seed shape x
 block_generated short seed shape frames c inputs x made h =
     subst (IsGenerated short seed shape) (sym h.is)
-    (λ complete. let holds = h.holds.complete complete in holds.pixels ∙ ap (λ (f : Frame). f.pixels) (made.same h.block.block holds.frame holds.of_block))
+    (λ complete. let holds = h.holds.complete complete in holds.pixels ∙ ap (λ (f : Frame). f.pixels) (made.same h.block.was.block holds.frame holds.of_block))
 
 image_generated : (short : Bool) (seed : ℕ) (shape : Shape) (frames : ℕ → Option Frame) (c : AcqConfig) (inputs : List Input)
     → AreGenerated short seed shape frames → (x : Item) → IsTrueImage frames c inputs x → IsGenerated short seed shape x

@@ -48,17 +48,17 @@ pub record HoldsFrames (frames : ℕ → Option Frame) (r : Receiver) : Type 0 w
 
 -- ---- fills
 
-filled_holds : (frames : ℕ → Option Frame) (o : Open) (given : Option Given) → HoldsIfGiven frames soak_config.p o given
-    → AllByRecursion (λ (x : Retired). HoldsIfComplete frames (item x.place x.buf)) (fill_of soak_config.p o given)
-filled_holds frames o None h = tt
-filled_holds frames o (Some g) h = (h.complete, tt)
+filled_holds : (frames : ℕ → Option Frame) (r : Retirement) (given : Option Given) → HoldsIfGiven frames soak_config.p r given
+    → AllByRecursion (λ (x : Retired). HoldsIfComplete frames (item x.place x.buf)) (fill_of soak_config.p r given)
+filled_holds frames r None h = tt
+filled_holds frames r (Some g) h = (h.complete, tt)
 
 fills_hold : (frames : ℕ → Option Frame) (rs : List Retirement) → HoldFrames frames soak_config.p rs
     → AllByRecursion (λ (x : Retired). HoldsIfComplete frames (item x.place x.buf)) (fills soak_config.p rs)
 fills_hold frames [] h = tt
 fills_hold frames (r ∷ rs) h =
-    all_append (λ (x : Retired). HoldsIfComplete frames (item x.place x.buf)) (fill_of soak_config.p r.was r.was.given) (fills soak_config.p rs)
-    (filled_holds frames r.was r.was.given h.0) (fills_hold frames rs h.1)
+    all_append (λ (x : Retired). HoldsIfComplete frames (item x.place x.buf)) (fill_of soak_config.p r r.was.given) (fills soak_config.p rs)
+    (filled_holds frames r r.was.given h.0) (fills_hold frames rs h.1)
 
 -- one buffer comes into the output, or is laid
 fill_kept : (frames : ℕ → Option Frame) (x : Retired) (b : Board) (filled : Bool) → HoldsIfComplete frames (item x.place x.buf)

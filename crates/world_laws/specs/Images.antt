@@ -16,7 +16,7 @@ use Rattle.block_image.specs.OneBlock.{AreSent}
 use Rattle.board_machine.specs.Machine.{Item, item}
 use Rattle.board_machine.specs.Handout.{handed_items}
 use Rattle.acquisition_machine.specs.declared.config.AcqConfig.{AcqConfig}
-use Rattle.acquisition_machine.specs.Blocks.{Given, Open, filling_in}
+use Rattle.acquisition_machine.specs.Blocks.{Given, Retirement, filling_in}
 use Rattle.acquisition_machine.specs.Machine.{Input}
 use Rattle.acquisition_machine.specs.FrameLaws.{IsSince, HoldsOfFrame}
 use Rattle.script_trace.specs.Trace.{Trace, board}
@@ -60,10 +60,10 @@ pub record HoldsBlock (frames : ℕ → Option Frame) (c : AcqConfig) (inputs : 
   pub front : List Input
   pub rest : List Input
   pub parts : inputs ≡ front ++ rest
-  pub block : Open
-  pub came : IsSince c front block
+  pub block : Retirement
+  pub came : IsSince c front block.was
   pub given : Given
-  pub has : block.given ≡ Some given
+  pub has : block.was.given ≡ Some given
   pub is : x ≡ item given.place (filling_in c.p block given)
   pub holds : HoldsOfFrame frames c.p block given
 

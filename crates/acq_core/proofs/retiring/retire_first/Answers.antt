@@ -1,6 +1,6 @@
 use Rattle.std.proofs.Common.{◌≡◌, ℕ, ◌+◌, ◌^◌, ◌<◌, List, [], ◌∷◌, ◌++◌, length, get_or, sym, ap, subst, ◌∙◌, arith}
 use Rattle.std.specs.Prelude.{remove, Option, Some, None, SomeIff}
-use Rattle.acquisition_machine.specs.Blocks.{Open, fill_of}
+use Rattle.acquisition_machine.specs.Blocks.{Open, given_back}
 use Rattle.acq_core.specs.declared.slot.Slot.{Slot}
 use Rattle.acq_core.specs.declared.window.Window.{Window}
 use Rattle.acq_core.specs.Standing.{HoldsFor, IsHeld, SlotStands, SlotsStand, floor_of}
@@ -39,7 +39,7 @@ returns-clause-retires c o os s =
     let hold = subst (λ k. HoldsFor k o.block c.remove-slot.result.hold o.given o.heard) (sym (ap (λ (k : Window). k.config.p) c.list_end.ensures.rest)) t.hold in
     record {
       slots = are_rest p c.args.window.now.slots.items c.list_end.new.window.slots.items o os s (ap (λ (k : Window). k.slots.items) c.list_end.ensures.rest ∙ c.remove-slot.ensures.items);
-      fills = c.release.ensures.fills o hold ∙ ap (λ (k : Window). k.fills.items ++ fill_of k.config.p o o.given) c.list_end.ensures.rest;
+      fills = c.release.ensures.fills o hold ∙ ap (λ (k : Window). k.fills.items ++ given_back k.config.p c.args.cause o o.given) c.list_end.ensures.rest;
       ends = c.list_end.ensures.ends p o t;
       floor = floor_next c.checked_add-window.result c.remove-slot.result.block c.checked_add-window.ensures (omega arith) ∙ ap (λ k. k + 1) t.block;
     }

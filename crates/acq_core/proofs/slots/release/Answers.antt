@@ -3,11 +3,11 @@ use Rattle.acq_core.proofs.Widths.{wide_more, wide_waiting}
 use Rattle.acq_core.proofs.slots.release.Goals as goal
 
 pub returns-in-Without-clause-fills : goal.returns-in-Without-clause-fills
-returns-in-Without-clause-fills c o s = release_nothing c.args.p c.args.hold o c.in-Without.pair c.args.fills.now.items s c.in-Without.is
+returns-in-Without-clause-fills c o s = release_nothing c.args.cause c.args.p c.args.hold o c.in-Without.pair c.args.fills.now.items s c.in-Without.is
 
 pub returns-in-With-clause-fills : goal.returns-in-With-clause-fills
 returns-in-With-clause-fills c o s =
-    release_fills c.args.p c.args.hold o c.in-With.place c.in-With.assembly c.finish-buf.result.0 c.args.fills.now.items
+    release_fills c.args.cause c.args.p c.args.hold o c.in-With.place c.in-With.assembly c.finish-buf.result.0 c.args.fills.now.items
     c.push_reserved-in-With.new.self.items s c.in-With.is c.finish-buf.ensures.image c.push_reserved-in-With.ensures.items
 
 pub returns-in-Without-clause-wide : goal.returns-in-Without-clause-wide

@@ -8,8 +8,8 @@ use Rattle.block_assembly.specs.Assembly.{AssemblyStands, IsSound}
 use Rattle.block_assembly.proofs.Accepts.{sound, finished}
 use Rattle.block_assembly.proofs.assembly.Assembly.finish.Goals as goal
 
-pub record-rec-requires : goal.record-rec-requires
-record-rec-requires c = sound c.self.inside.progress c.self.invariant
+pub record-rec-requires-clause-sound : goal.record-rec-requires-clause-sound
+record-rec-requires-clause-sound c = sound c.self.inside.progress c.self.invariant
 
 pub set_rec-requires-clause-data_len : goal.set_rec-requires-clause-data_len
 set_rec-requires-clause-data_len c =
@@ -23,5 +23,5 @@ pub returns-clause-image : goal.returns-clause-image
 returns-clause-image c p b size heard s =
     let a = c.self.inside.progress in
     let stood : AssemblyStands a p b size heard = subst (λ (x : Progress). AssemblyStands x p b size heard) (sym c.self.view_is) s in
-    finished a c.set_rec.new.self c.record-rec.result p b size heard stood (subst (Zeroes (has a.kept) a.payload_size (payload_count a.payload_size (length a.buf.bytes) + 1) a.buf.bytes) (sym c.set_rec.ensures.bytes) c.zero_missing.ensures.bytes) c.set_rec.ensures.rec
+    finished c.args.cause a c.set_rec.new.self c.record-rec.result p b size heard stood (subst (Zeroes (has a.kept) a.payload_size (payload_count a.payload_size (length a.buf.bytes) + 1) a.buf.bytes) (sym c.set_rec.ensures.bytes) c.zero_missing.ensures.bytes) c.set_rec.ensures.rec
     (c.record-rec.ensures.value (kept a.payload_size a.block heard) stood.assembly)

@@ -7,7 +7,7 @@ use Rattle.board_model.proofs.CallsAnnounce.{put_has}
 use Rattle.board_model.proofs.CallsFill.{set_twice, lying_cleared, lying_within, emptied_there, left_filled, left_laid, filled_one, laid_one}
 use Rattle.board_model.proofs.board.PlainBoard.fill_empty.Goals as goal
 
-is_blank : (r : Record) → (r.block ≡ 0) × ((r.complete ≡ false) × ((r.larger ≡ false) × ((r.has_leader ≡ false) × ((r.data_len ≡ 0) × ((r.filled ≡ 0) × (r.image ≡ None)))))) → r ≡ empty_record
+is_blank : (r : Record) → (r.block ≡ 0) × ((r.complete ≡ false) × ((r.larger ≡ false) × ((r.has_leader ≡ false) × ((r.data_len ≡ 0) × ((r.filled ≡ 0) × ((r.image ≡ None) × (r.account ≡ None))))))) → r ≡ empty_record
 is_blank r blank = search rules
 
 is_within : (n m : ℕ) → n ≡ 0 → n ≤ m

@@ -1,5 +1,5 @@
-ghost use Rattle.std.specs.Prelude.{◌≡◌, not, ◌||◌};
-ghost use Rattle.missing_ranges.specs.Reasons.{no_reason, has_reason};
+ghost use Rattle.std.specs.Prelude.{◌≡◌};
+ghost use Rattle.gev_types.specs.Reasons.{no_reason, has_reason};
 
 /// Why the image of a block isn't whole in its buffer: those that hold.
 #[derive(Clone, Copy, Debug, PartialEq, Eq)]
