@@ -4,3 +4,4 @@ pub mod StepLine
 pub mod CameraLines
 pub mod SoakLine
 pub mod LiveLine
+pub mod AccountTexts

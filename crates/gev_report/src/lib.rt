@@ -3,6 +3,7 @@
 //! A call takes memory only where `out` has to grow. After `NoMemory` the text of `out` is as it was.
 #![tactic(auto)]
 
+mod account_texts; // what became of a block
 mod camera_lines; // lines of a camera script
 mod end_counts; // the numbers of a replay's last line
 mod live_lines; // the last line of a live run
@@ -13,6 +14,7 @@ mod soak_numbers; // its numbers
 mod step_text; // what a step was answered
 mod writing; // lines from their parts
 
+pub use account_texts::{add_cause, add_ids, add_why};
 pub use camera_lines::{line_ack, line_executed, line_frame, line_stream};
 pub use end_counts::EndCounts;
 pub use live_lines::line_live;

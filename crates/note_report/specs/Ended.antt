@@ -10,12 +10,12 @@ use Rattle.board_machine.specs.Ids.{buffer_at}
 use Rattle.acquisition_machine.specs.declared.config.AcqConfig.{AcqConfig}
 use Rattle.acquisition_machine.specs.Blocks.{Given, Open, kept_in}
 use Rattle.acquisition_machine.specs.Blocks.{Cause as Reason}
-use Rattle.acq_core.specs.declared.ended.Cause.{Cause}
-use Rattle.acq_core.specs.Ending.{cause_of}
+use Rattle.gev_types.specs.declared.block_account.Cause.{Cause}
+use Rattle.acquisition_machine.specs.Blocks.{cause_of}
 use Rattle.script_trace.specs.Notes.{done, unbuffered}
 use Rattle.script_trace.specs.Inputs.{outcome_of}
-use Rattle.script_trace.specs.Texts.{id_text, flag_text, why_text, words_of}
-use Rattle.note_report.specs.Pieces.{cause_word, lost_text}
+use Rattle.script_trace.specs.Texts.{id_text, flag_text, words_of}
+use Rattle.gev_report.specs.AccountTexts.{cause_word, why_text, lost_text}
 
 abbrev pub ended_words : ℕ → BufferId → Cause → Account → Bool → List ℕ
 ended_words block id cause account out = concat (

@@ -10,10 +10,9 @@ use crate::at::At;
 use crate::block_counts::BlockCounts;
 use crate::piece::Piece;
 use crate::writing::add_note;
-use acq_core::Cause;
 use block_assembly::Account;
 use gentl_types::BufferId;
-use gev_types::NoMemory;
+use gev_types::{Cause, NoMemory};
 use gvsp_wire::LeaderInfo;
 
 /// A leader of this block was kept.

@@ -9,7 +9,6 @@ mod block_counts; // blocks by kind
 mod datagram_notes; // notes of datagrams
 mod frame_notes; // notes of blocks and frames
 mod laws; // laws of the definitions, as contracts
-mod lists; // reasons and ids, joined by commas
 mod piece; // a part of a line
 mod writing; // lines from their parts
 

@@ -1,6 +1,5 @@
-use acq_core::Cause;
-use block_assembly::{Lost, Reasons};
 use gentl_types::BufferId;
+use gev_types::{Cause, Lost, Reasons};
 
 /// A simple part of a line.
 #[derive(Clone, Copy)]

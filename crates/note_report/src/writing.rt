@@ -2,16 +2,16 @@
 
 ghost use Rattle.std.specs.Prelude.{◌≡◌, ◌++◌, OnOk};
 ghost use Rattle.std.specs.List.{flat_map};
-ghost use Rattle.script_trace.specs.Texts.{hex_text, span_text, id_text, id_or_none, number_or_none, flag_text, words_line};
-ghost use Rattle.note_report.specs.Pieces.{piece_text, cause_word, packet_text, status_text, front_text};
+ghost use Rattle.script_trace.specs.Texts.{hex_text, id_text, id_or_none, number_or_none, flag_text, words_line};
+ghost use Rattle.gev_report.specs.AccountTexts.{span_text};
+ghost use Rattle.note_report.specs.Pieces.{piece_text, packet_text, status_text, front_text};
 
 use crate::at::At;
 use crate::basics::add_basics;
-use crate::lists::{add_ids, add_why};
 use crate::piece::{Basic, Piece};
-use acq_core::Cause;
 use byteorder::{BigEndian, ByteOrder};
 use gentl_types::BufferId;
+use gev_report::{add_cause, add_ids, add_why};
 use gev_types::NoMemory;
 
 /// Adds the line with these words.
@@ -168,17 +168,5 @@ fn add_id_or_none(out: &mut Vec<u8>, id: Option<BufferId>) -> Result<(), NoMemor
     match id {
         Some(id) => add_id(out, id),
         None => add_basics(out, &[Basic::Text(b"none")]),
-    }
-}
-
-/// Adds why a block retired.
-fn add_cause(out: &mut Vec<u8>, cause: Cause) -> Result<(), NoMemory>
-    ensures { OnOk result (out.new.items ≡ out.old.items ++ cause_word cause) }
-{
-    match cause {
-        Cause::Complete => add_basics(out, &[Basic::Text(b"complete")]),
-        Cause::Old => add_basics(out, &[Basic::Text(b"old")]),
-        Cause::Displaced => add_basics(out, &[Basic::Text(b"displaced")]),
-        Cause::Stopped => add_basics(out, &[Basic::Text(b"stopped")]),
     }
 }

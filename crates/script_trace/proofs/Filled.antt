@@ -137,10 +137,10 @@ of_gap floor b = go (nat_lt floor b) (floor == 1) where
   go true false = refl
   go false w = refl
 
-of_ended : (c : AcqConfig) (b : Board) (ds : List (List Item)) (o : Open) (cause : Cause) (got : Option Given)
-    → told_fills (ended_notes c b ds o cause got) ≡ unless b.closed (fills_in (map item_of (fill_of c.p o got)))
-of_ended c b ds o cause None = sym (unless-nil b.closed)
-of_ended c b ds o cause (Some g) =
+of_ended : (c : AcqConfig) (b : Board) (ds : List (List Item)) (r : Retirement) (got : Option Given)
+    → told_fills (ended_notes c b ds r.was r.cause got) ≡ unless b.closed (fills_in (map item_of (fill_of c.p r got)))
+of_ended c b ds r None = sym (unless-nil b.closed)
+of_ended c b ds r (Some g) =
     both (drop_notes b (first_dropped ds)) _ [] _ (of_drops b (first_dropped ds)) (by b.closed _)
   where
     by : (closed : Bool) (f : ToldFill) → (if not closed then f ∷ [] else []) ++ [] ≡ unless closed (f ∷ [])
@@ -151,11 +151,11 @@ of_retired : (c : AcqConfig) (b : Board) (ds : List (List Item)) (floor : ℕ) (
 of_retired c b ds floor [] = sym (unless-nil b.closed)
 of_retired c b ds floor (r ∷ rs) =
     both (gap floor r.was.block) _ [] _ (of_gap floor r.was.block)
-    (both (ended_notes c b ds r.was r.cause r.was.given) _ (unless b.closed (fills_in (map item_of (fill_of c.p r.was r.was.given)))) (given c b rs)
-    (of_ended c b ds r.was r.cause r.was.given) (of_retired c b (after_end ds r.was.given) (r.was.block + 1) rs))
-    ∙ (sym (unless-append b.closed (fills_in (map item_of (fill_of c.p r.was r.was.given))) (fills_in (map item_of (fills c.p rs))))
-    ∙ (ap (unless b.closed) (sym (map-append fill_told (map item_of (fill_of c.p r.was r.was.given)) (map item_of (fills c.p rs))))
-    ∙ ap (λ l. unless b.closed (fills_in l)) (sym (map-append item_of (fill_of c.p r.was r.was.given) (fills c.p rs)))))
+    (both (ended_notes c b ds r.was r.cause r.was.given) _ (unless b.closed (fills_in (map item_of (fill_of c.p r r.was.given)))) (given c b rs)
+    (of_ended c b ds r r.was.given) (of_retired c b (after_end ds r.was.given) (r.was.block + 1) rs))
+    ∙ (sym (unless-append b.closed (fills_in (map item_of (fill_of c.p r r.was.given))) (fills_in (map item_of (fills c.p rs))))
+    ∙ (ap (unless b.closed) (sym (map-append fill_told (map item_of (fill_of c.p r r.was.given)) (map item_of (fills c.p rs))))
+    ∙ ap (λ l. unless b.closed (fills_in l)) (sym (map-append item_of (fill_of c.p r r.was.given) (fills c.p rs)))))
 
 of_kept : (x : Option StreamPacket) → Silent (kept_note x)
 of_kept None = refl

@@ -50,3 +50,5 @@ pub mod Spans
 pub mod Reasoned
 pub mod Rows
 pub mod OfInputs
+pub mod WorkedEnds
+pub mod Changing

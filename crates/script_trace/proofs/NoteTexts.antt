@@ -17,10 +17,11 @@ use Rattle.acquisition_machine.specs.declared.config.AcqConfig.{AcqConfig}
 use Rattle.acquisition_machine.specs.declared.need.Why.{Why}
 use Rattle.acquisition_machine.specs.declared.need.Why.TheVariants.{Foreign, Late, Repeat, Misfit, Starved, Notice}
 use Rattle.acquisition_machine.specs.Blocks.{Cause, complete, old, displaced, stopped}
-use Rattle.missing_ranges.specs.declared.reasons.Reasons.{Reasons}
+use Rattle.gev_types.specs.declared.reasons.Reasons.{Reasons}
 use Rattle.missing_ranges.specs.Lost.{ids_in}
 use Rattle.script_trace.specs.Notes.{Outcome, Note, idle, ignored, unwidened, leads, opens, asks, first, absent, drops, done, unbuffered}
-use Rattle.script_trace.specs.Texts.{hex_text, span_text, id_text, id_or_none, number_or_none, flag_text, behind_commas, listed, more_text, ids_text, where_so, why_text, cause_text, foreign_words, unwidened_words, packet_words, status_words, payload_length, ignored_packet, ignored_nothing, ignored_words, leader_words, done_words, words_of, words_line, notes_text}
+use Rattle.gev_report.specs.AccountTexts.{behind_commas, listed, where_so, span_text, why_text}
+use Rattle.script_trace.specs.Texts.{hex_text, id_text, id_or_none, number_or_none, flag_text, more_text, ids_text, cause_text, foreign_words, unwidened_words, packet_words, status_words, payload_length, ignored_packet, ignored_nothing, ignored_words, leader_words, done_words, words_of, words_line, notes_text}
 use Rattle.script_trace.specs.Trace.{Trace}
 use Rattle.script_trace.specs.Ending.{as_count}
 use Rattle.acquisition_machine.specs.Runs.{After}

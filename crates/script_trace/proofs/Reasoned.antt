@@ -91,6 +91,7 @@ outcome_reasoned c b r g some = record {
   why = reasons_are_reasons.none c.p r.was.block g.size r.was.heard some;
   lost = λ top known. lost_ids_have_no_packet.up_to_the_top c.p top (kept_in c.p r.was) known;
   nothing = λ unknown. lost_ids_have_no_packet.with_nothing c.p (kept_in c.p r.was) unknown;
+  told = refl;
 }
 
 -- one note tells the end of this block

@@ -127,10 +127,10 @@ mode_silent t n false part is = subst Silent (sym is) tt
 -- ---- the piece of a line
 
 -- what a line adds to the trace's text and to the report, and what it asks for
-record IsPiece (c : AcqConfig) (t : Trace) (l : ScriptLine) (part : Part) (p : Piece) : Type 0 where
-  plain : part.text ≡ piece_printed false p
-  said : (widened : Bool) → said_by c t l widened part.text ≡ piece_printed widened p
-  asked : requests_from c (After c t.inputs) part.inputs ≡ asked_by_piece p
+pub record IsPiece (c : AcqConfig) (t : Trace) (l : ScriptLine) (part : Part) (p : Piece) : Type 0 where
+  pub plain : part.text ≡ piece_printed false p
+  pub said : (widened : Bool) → said_by c t l widened part.text ≡ piece_printed widened p
+  pub asked : requests_from c (After c t.inputs) part.inputs ≡ asked_by_piece p
 
 -- of a line that is no moment
 silent_piece : (c : AcqConfig) (t : Trace) (l : ScriptLine) (part : Part) → ((widened : Bool) → said_by c t l widened part.text ≡ part.text) → Silent part
@@ -159,10 +159,10 @@ tick_piece c t moment part settles =
       asked = ap (λ (p : Part). requests_from c (After c t.inputs) p.inputs) settles.is ∙ append-nil (turn c t.inputs (tick moment)).requests;
     }
 
-abbrev HasPiece : AcqConfig → Trace → ScriptLine → Part → Type 0
+abbrev pub HasPiece : AcqConfig → Trace → ScriptLine → Part → Type 0
 HasPiece c t l part = (p : Piece) × IsPiece c t l part p
 
-line_piece : (c : AcqConfig) (t : Trace) (l : ScriptLine) (part : Part) → Spells c t l part → HasPiece c t l part
+pub line_piece : (c : AcqConfig) (t : Trace) (l : ScriptLine) (part : Part) → Spells c t l part → HasPiece c t l part
 line_piece c t (line.header config) part s = absurd s
 line_piece c t (line.announce size) part (answer, fit, calls) = (says part.text, silent_piece c t (line.announce size) part (λ b. refl) (calls_silent t _ _ part calls))
 line_piece c t (line.queue place generation) part (answer, calls) = (says part.text, silent_piece c t (line.queue place generation) part (λ b. refl) (calls_silent t _ _ part calls))
@@ -228,13 +228,13 @@ begins c t digits part runs (bytes, decoded, hears) = if_running c t bytes ((boa
 
 -- ---- one line more
 
-printed_more : (standard : Bool) (ps : List Piece) (p : Piece) → pieces_printed standard (ps ++ p ∷ []) ≡ pieces_printed standard ps ++ piece_printed standard p
+pub printed_more : (standard : Bool) (ps : List Piece) (p : Piece) → pieces_printed standard (ps ++ p ∷ []) ≡ pieces_printed standard ps ++ piece_printed standard p
 printed_more standard ps p = flat_map-append (piece_printed standard) ps (p ∷ []) ∙ ap (λ l. pieces_printed standard ps ++ l) (append-nil (piece_printed standard p))
 
-asked_more : (ps : List Piece) (p : Piece) → asked_by_pieces (ps ++ p ∷ []) ≡ asked_by_pieces ps ++ asked_by_piece p
+pub asked_more : (ps : List Piece) (p : Piece) → asked_by_pieces (ps ++ p ∷ []) ≡ asked_by_pieces ps ++ asked_by_piece p
 asked_more ps p = flat_map-append asked_by_piece ps (p ∷ []) ∙ ap (λ l. asked_by_pieces ps ++ l) (append-nil (asked_by_piece p))
 
-requests_more : (c : AcqConfig) (t : Trace) (l : ScriptLine) (part : Part) (p : Piece) (before : List Request) → IsPiece c t l part p → before ≡ requests_from c first_state t.inputs
+pub requests_more : (c : AcqConfig) (t : Trace) (l : ScriptLine) (part : Part) (p : Piece) (before : List Request) → IsPiece c t l part p → before ≡ requests_from c first_state t.inputs
     → before ++ asked_by_piece p ≡ requests_from c first_state (t.inputs ++ part.inputs)
 requests_more c t l part p before is e =
     ap (λ rs. rs ++ asked_by_piece p) e ∙ ap (λ rs. requests_from c first_state t.inputs ++ rs) (sym is.asked) ∙ sym (requests_from-append c first_state t.inputs part.inputs)

@@ -22,7 +22,7 @@ use Rattle.script_trace.specs.Adding.{Leads}
 use Rattle.script_trace.specs.Opening.{opening}
 use Rattle.script_trace.specs.Wide.{Wide, nothing_wide, Meaning, itself, wider, none, meaning, said_by, DoesAs, Does, kept_behind}
 use Rattle.script_trace.specs.Standing.{Standing, first, running, config_of, later_kind, first_verdict, last_or_not, later_verdict, replay_verdict, IsBehind, RunsLater, ReplayRuns, ReplayRefuses}
-use Rattle.script_trace.specs.Laws.{StandsWell, ReportsTrace, HasSaid, RunsKeepPromises, LinesAreJudged}
+use Rattle.script_trace.specs.Laws.{StandsWell, ReportsTrace, LinesAreJudged}
 use Rattle.script_trace.proofs.BlockFills.{IsByOther}
 use Rattle.script_trace.proofs.Meanings.{said_plain, wider_version}
 use Rattle.script_trace.proofs.Reported.{Reported, report_on, none_reported}
@@ -170,7 +170,7 @@ headed l lines text new (no_feed, short, are) (mid, front, rest, runs, more, par
     let next : RunsLines ReplayRuns (running c w opening) 1 lines rest new = subst (λ m. RunsLines ReplayRuns m 1 lines rest new) runs.after more in
     record { config = c; some = window_of l runs.config short runs.read; led = well_on c w opening 1 lines rest new are next }
 
-so_far : (lines : List (List ℕ)) (text : List ℕ) (new : Standing) → AreLines lines → RunsLines ReplayRuns first 0 lines text new → StandsWell new
+pub so_far : (lines : List (List ℕ)) (text : List ℕ) (new : Standing) → AreLines lines → RunsLines ReplayRuns first 0 lines text new → StandsWell new
 so_far [] text new are (silent, is) = subst StandsWell (sym is) tt
 so_far (l ∷ lines) text new are runs = let h : Headed (l ∷ lines) new = headed l lines text new are runs in keeps_led h.config new h.some h.led
 
@@ -204,24 +204,34 @@ running_well : (d c : AcqConfig) (w : Wide) (t : Trace) (n : ℕ) (text report :
 running_well d c w t n text report GoesOn new short some led runs = keeps_led c new (some_of d c w t some led) (later_well d c w t text report new short led runs)
 running_well d c w t n text report Ended new short some led runs = subst StandsWell (sym runs.after) (keeps_led d (running c w t) some led)
 
-last : (lines : List (List ℕ)) (text line report : List ℕ) (ran : Ran) (now new : Standing) → AreLines lines → length line ≤ 20000 → RunsLines ReplayRuns first 0 lines text now → ReplayRuns now (length lines + 1) line ran report new → StandsWell new
+pub last : (lines : List (List ℕ)) (text line report : List ℕ) (ran : Ran) (now new : Standing) → AreLines lines → length line ≤ 20000 → RunsLines ReplayRuns first 0 lines text now → ReplayRuns now (length lines + 1) line ran report new → StandsWell new
 last lines text line report ran first new are short runs one = first_well (length lines + 1) line report ran new short one
 last [] text line report ran (running c w t) new are short (silent, is) one = let e = is in absurd cc
 last (l ∷ lines) text line report ran (running c w t) new are short runs one =
     let h : Headed (l ∷ lines) (running c w t) = headed l lines text (running c w t) are runs in
     running_well h.config c w t (length (l ∷ lines) + 1) line report ran new short h.some h.led one
 
+-- the report by the trace, the place of the first datagram that was widened aside
+pub record Reports (c : AcqConfig) (text : List ℕ) (w : Wide) (t : Trace) : Type 0 where
+  pub plain : w.widened ≡ false → t.text ≡ text
+  pub first_version : w.version ≡ 1 → w.widened ≡ false
+  pub reports : ReportsTrace c w.widened text t
+
+abbrev pub HasReport : List ℕ → Standing → Type 0
+HasReport text first = text ≡ []
+HasReport text (running c w t) = Reports c text w t
+
 said_by_led : (text : List ℕ) (new : Standing) (c : AcqConfig) (w : Wide) (t : Trace) → new ≡ running c w t → (w.widened ≡ false → t.text ≡ text) → (w.version ≡ 1 → w.widened ≡ false) → Reported c text new
-    → HasSaid text new
+    → HasReport text new
 said_by_led text new c w t is plain first_version r =
     let e : running c w t ≡ running c r.kept r.to = sym is ∙ r.stands in
     let kept : r.kept ≡ w = cc in
     let to : r.to ≡ t = cc in
     let there : ReportsTrace c w.widened text t = subst (λ (v : Wide). ReportsTrace c v.widened text t) kept (subst (λ (u : Trace). ReportsTrace c r.kept.widened text u) to r.reports) in
-    subst (HasSaid text) (sym is) (record { plain = plain; first_version = first_version; reports = there })
+    subst (HasReport text) (sym is) (record { plain = plain; first_version = first_version; reports = there })
 
-said : (lines : List (List ℕ)) (text : List ℕ) (new : Standing) → RunsLines ReplayRuns first 0 lines text new → HasSaid text new
-said [] text new (silent, is) = subst (HasSaid text) (sym is) silent
+pub said : (lines : List (List ℕ)) (text : List ℕ) (new : Standing) → RunsLines ReplayRuns first 0 lines text new → HasReport text new
+said [] text new (silent, is) = subst (HasReport text) (sym is) silent
 said (l ∷ lines) text new (mid, front, rest, runs, more, parts) =
     let c : AcqConfig = config_of runs.config in
     let w : Wide = nothing_wide runs.config.version in
@@ -230,9 +240,6 @@ said (l ∷ lines) text new (mid, front, rest, runs, more, parts) =
     let whole : rest ≡ text = sym (parts ∙ ap (λ u. u ++ rest) runs.silent) in
     said_by_led text new c led.kept led.to led.stands (λ e. led.plain e ∙ whole) (λ e. led.first_version (sym led.same_version ∙ e) refl)
     (subst (λ u. Reported c u new) whole (report_on c w opening 1 lines [] rest new (none_reported c) next))
-
-pub runs_keep : RunsKeepPromises
-runs_keep = record { so_far = so_far; last = last; said = said }
 
 -- ---- verdicts
 

@@ -137,16 +137,16 @@ pub length_rest : (ds : List (List Item)) → length (rest_dropped ds) ≡ lengt
 length_rest [] = refl
 length_rest (d ∷ ds) = omega arith
 
-length_end : (p : ℕ) (ds : List (List Item)) (o : Open) (got : Option Given) → length (after_end ds got) ≡ length ds - length (fill_of p o got)
-length_end p ds o None = omega arith
-length_end p ds o (Some g) = length_rest ds
+length_end : (p : ℕ) (ds : List (List Item)) (r : Retirement) (got : Option Given) → length (after_end ds got) ≡ length ds - length (fill_of p r got)
+length_end p ds r None = omega arith
+length_end p ds r (Some g) = length_rest ds
 
 pub length_ends : (p : ℕ) (ds : List (List Item)) (rs : List Retirement) → length (after_ends ds rs) ≡ length ds - length (fills p rs)
 length_ends p ds [] = omega arith
 length_ends p ds (r ∷ rs) =
     let rest = length_ends p (after_end ds r.was.given) rs in
-    let one = length_end p ds r.was r.was.given in
-    let all = length-append (fill_of p r.was r.was.given) (fills p rs) in
+    let one = length_end p ds r r.was.given in
+    let all = length-append (fill_of p r r.was.given) (fills p rs) in
     omega (arith, rest, one, all)
 
 nothing_left : (ds : List (List Item)) → length ds ≡ 0 → ◌≡◌ {A = List (List Item)} ds []

@@ -17,11 +17,12 @@ use Rattle.script_trace.specs.Opening.{opening}
 use Rattle.script_trace.specs.Ending.{end_text}
 use Rattle.script_trace.specs.Standing.{running}
 use Rattle.script_trace.specs.Worked.{leader_line, killed_with_block, IsWorked}
+use Rattle.gev_types.specs.declared.block_account.Cause.TheVariants.{Stopped}
 use Rattle.board_machine.specs.Adding.{entries_of}
 use Rattle.board_calls.specs.Calls.{run_word}
 use Rattle.board_calls.specs.Infos.{InfosBy}
 use Rattle.acquisition_machine.specs.Machine.{stop, restart}
-use Rattle.acquisition_machine.specs.Worked.{seen}
+use Rattle.acquisition_machine.specs.Worked.{seen, leader_alone}
 use Rattle.script_trace.specs.StreamLines.{tells, idles, told_twice}
 use Rattle.board_calls.specs.declared.mode.Mode.TheVariants.{OldestFirst}
 use Rattle.script_trace.specs.Modes.{FillsBlock}
@@ -34,7 +35,7 @@ abbrev bytes : List ℕ
 bytes = 0 ∷ 0 ∷ 0 ∷ 0 ∷ 129 ∷ 0 ∷ 0 ∷ 0 ∷ 0 ∷ 0 ∷ 0 ∷ 0 ∷ 0 ∷ 0 ∷ 0 ∷ 1 ∷ 0 ∷ 0 ∷ 0 ∷ 0 ∷ 0 ∷ 0 ∷ 0 ∷ 1 ∷ 0 ∷ 0 ∷ 0 ∷ 0 ∷ 0 ∷ 0 ∷ 0 ∷ 0 ∷ 1 ∷ 8 ∷ 0 ∷ 1 ∷ 0 ∷ 0 ∷ 0 ∷ 3 ∷ 0 ∷ 0 ∷ 0 ∷ 1 ∷ 0 ∷ 0 ∷ 0 ∷ 0 ∷ 0 ∷ 0 ∷ 0 ∷ 0 ∷ 0 ∷ 0 ∷ 0 ∷ 0 ∷ []
 
 abbrev leader_only : Filling
-leader_only = record { bytes = 0 ∷ 0 ∷ 0 ∷ []; rec = record { block = 1; complete = false; larger = false; has_leader = true; data_len = 3; filled = 0; image = seen 3 1 } }
+leader_only = record { bytes = 0 ∷ 0 ∷ 0 ∷ []; rec = record { block = 1; complete = false; larger = false; has_leader = true; data_len = 3; filled = 0; image = seen 3 1; account = Some (leader_alone Stopped) } }
 
 told_pool : InfosBy 1000 0 (LookPool [] ∷ [])
 told_pool = record {

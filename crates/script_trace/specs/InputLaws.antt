@@ -1,11 +1,12 @@
 -- What the notes of an acquisition account for.
 use Rattle.std.specs.Prelude.{◌≡◌, ◌⊎◌, ◌↔◌, ℕ, ◌+◌, ◌≤◌, true, List, [], ◌∷◌, ◌++◌, length, Option, Some, None}
+use Rattle.missing_ranges.specs.Accounts.{lost_of}
 use Rattle.missing_ranges.specs.Missing.{top_of}
-use Rattle.missing_ranges.specs.Reasons.{no_reason}
+use Rattle.gev_types.specs.Reasons.{no_reason}
 use Rattle.missing_ranges.specs.ReasonLaws.{AreLost}
 use Rattle.board_machine.specs.Machine.{Board, Item}
 use Rattle.acquisition_machine.specs.declared.config.AcqConfig.{AcqConfig}
-use Rattle.acquisition_machine.specs.Blocks.{Given, Retirement, kept_in, filling_in}
+use Rattle.acquisition_machine.specs.Blocks.{Given, Retirement, cause_of, kept_in, filling_in}
 use Rattle.acquisition_machine.specs.Machine.{Input, restart, State}
 use Rattle.acquisition_machine.specs.Runs.{no_counts, first_state, After, retired_from}
 use Rattle.acquisition_machine.specs.Laws.{HasNoRestart}
@@ -44,12 +45,14 @@ pub record IsReasoned (c : AcqConfig) (r : Retirement) (given : Given) (o : Outc
   pub of_block : o.block ≡ r.was.block
   pub by : o.cause ≡ r.cause
   pub place : o.buffer.place ≡ given.place
-  pub as_recorded : o.complete ≡ (filling_in c.p r.was given).rec.complete
+  pub as_recorded : o.complete ≡ (filling_in c.p r given).rec.complete
   pub kept : o.kept ≡ length (kept_in c.p r.was)
   pub why : (o.complete ≡ true) ↔ (o.why ≡ no_reason)
   pub lost : (top : ℕ) → top_of c.p (kept_in c.p r.was) ≡ Some top → AreLost (kept_in c.p r.was) top o.lost
   -- where no packet tells a last id
   pub nothing : top_of c.p (kept_in c.p r.was) ≡ None → o.lost ≡ []
+  -- and the record of the buffer tells the same
+  pub told : (filling_in c.p r given).rec.account ≡ Some (record { cause = cause_of o.cause; lost = lost_of o.lost; why = o.why })
 
 -- The note tells how this block ended, with this buffer or none.
 abbrev pub TellsEnd : AcqConfig → Retirement → Option Given → Note → Type 0

@@ -5,6 +5,7 @@ use Rattle.hex.specs.Hex.{decode_of}
 use Rattle.gev_script.specs.Lines as line
 use Rattle.gev_script.specs.Lines.{ScriptLine}
 use Rattle.gev_script.specs.Spelling.{IsScriptLine, IsStep}
+use Rattle.gev_script.specs.Grammar.{line_of}
 use Rattle.gev_report.specs.ReplayLines.{request_line}
 use Rattle.script_runs.specs.declared.ran.Ran.{Ran}
 use Rattle.script_runs.specs.Runs.{RunsLines, AreLines}
@@ -21,7 +22,7 @@ use Rattle.script_trace.specs.Trace.{Trace, board}
 use Rattle.script_trace.specs.Modes.{acquires}
 use Rattle.script_trace.specs.Adding.{Leads}
 use Rattle.script_trace.specs.Opening.{opening}
-use Rattle.script_trace.specs.Wide.{Wide, standard_form}
+use Rattle.script_trace.specs.Wide.{Wide, wider, meaning, standard_form}
 use Rattle.script_trace.specs.Standing.{Standing, first, running, ReplayRuns, ReplayRefuses, replay_verdict, IsBehind}
 use Rattle.script_trace.specs.Fills.{tried_blocks, retired_items, IsRetired, IsHandedSo, IsEmptyElse}
 
@@ -103,12 +104,42 @@ pub record ReportsTrace (c : AcqConfig) (widened : Bool) (text : List ℕ) (t : 
   pub asked : asked_by_pieces front ++ asked_by_pieces rest ≡ requests_from c first_state t.inputs
   pub split : SplitsAtDatagram c widened t.inputs front rest
 
+-- The line is a datagram that is widened.
+pub record IsWidened (w : Wide) (t : Trace) (text : List ℕ) : Type 0 where
+  pub says : ScriptLine
+  pub read : line_of text ≡ Ok says
+  pub block : ℕ
+  pub bytes : List ℕ
+  pub means : meaning w t says ≡ wider block bytes
+
+-- One of the lines is the first whose datagram is widened. The report of those before it is the trace's text, and from it on
+-- the requests have the standard form: all requests behind those that were made before it.
+pub record ChangesAt (lines : List (List ℕ)) (text : List ℕ) (c : AcqConfig) (t : Trace) : Type 0 where
+  pub before : List (List ℕ)
+  pub widens : List ℕ
+  pub behind : List (List ℕ)
+  pub are : lines ≡ before ++ widens ∷ behind
+  pub kept : Wide
+  pub mid : Trace
+  pub said : List ℕ
+  pub runs : RunsLines ReplayRuns first 0 before said (running c kept mid)
+  pub none_before : kept.widened ≡ false
+  pub widened : IsWidened kept mid widens
+  pub plain : mid.text ≡ said
+  pub pieces : List Piece
+  pub trace : t.text ≡ mid.text ++ pieces_printed false pieces
+  pub report : text ≡ said ++ pieces_printed true pieces
+  pub asked : requests_from c first_state mid.inputs ++ asked_by_pieces pieces ≡ requests_from c first_state t.inputs
+
 -- The report is the trace's but for the form of requests. It's the trace's text where no datagram was widened; and in scripts
 -- of version 1 none was.
 pub record HasText (c : AcqConfig) (text : List ℕ) (w : Wide) (t : Trace) : Type 0 where
   pub plain : w.widened ≡ false → t.text ≡ text
   pub first_version : w.version ≡ 1 → w.widened ≡ false
   pub reports : ReportsTrace c w.widened text t
+  -- where one was, lines with this report lead here, and this is so from the first of them whose datagram was widened
+  pub changes :
+      w.widened ≡ true → (lines : List (List ℕ)) × (RunsLines ReplayRuns first 0 lines text (running c w t) × ChangesAt lines text c t)
 
 -- this is the report so far
 abbrev pub HasSaid : List ℕ → Standing → Type 0
@@ -127,6 +158,9 @@ pub record RunsKeepPromises : Type 0 where
   pub said :
       (lines : List (List ℕ)) (text : List ℕ) (new : Standing)
       → RunsLines ReplayRuns first 0 lines text new → HasSaid text new
+  pub changes :
+      (lines : List (List ℕ)) (text : List ℕ) (c : AcqConfig) (w : Wide) (t : Trace)
+      → RunsLines ReplayRuns first 0 lines text (running c w t) → w.widened ≡ true → ChangesAt lines text c t
 
 -- The lines are judged by their numbers and bytes alone.
 abbrev pub LinesAreJudged : Type 0

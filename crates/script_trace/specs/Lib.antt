@@ -29,3 +29,4 @@ pub mod Spans
 pub mod InputLaws
 pub mod Texts
 pub mod WorkedInputs
+pub mod WorkedEnds

@@ -6,7 +6,7 @@ use Rattle.stream_packets.specs.Packets.{StreamPacket}
 use Rattle.gvsp_std.specs.declared.std_error.StdError.{StdError}
 use Rattle.acquisition_machine.specs.declared.need.Why.{Why}
 use Rattle.acquisition_machine.specs.Blocks.{Cause}
-use Rattle.missing_ranges.specs.declared.reasons.Reasons.{Reasons}
+use Rattle.gev_types.specs.declared.reasons.Reasons.{Reasons}
 
 -- of a block that retired with a buffer
 pub record Outcome : Type 0 where

@@ -1,5 +1,5 @@
 -- The lines of notes.
-use Rattle.std.specs.Prelude.{ℕ, ◌==◌, nat_lt, List, [], ◌∷◌, ◌++◌, length, map, take, codes, Bool, Option, Some, None, if◌then◌else◌}
+use Rattle.std.specs.Prelude.{ℕ, nat_lt, List, [], ◌∷◌, ◌++◌, length, map, take, codes, Bool, Option, Some, None, if◌then◌else◌}
 use Rattle.std.specs.List.{concat}
 use Rattle.std.specs.Fmt.{decimal}
 use Rattle.hex.specs.Hex.{encode_lower}
@@ -15,7 +15,7 @@ use Rattle.gvsp_std.specs.declared.std_error.StdError.TheVariants.{Short as TooS
 use Rattle.acquisition_machine.specs.declared.need.Why.{Why}
 use Rattle.acquisition_machine.specs.declared.need.Why.TheVariants.{Foreign, Late, Repeat, Misfit, Starved, Notice}
 use Rattle.acquisition_machine.specs.Blocks.{Cause, complete, old, displaced, stopped}
-use Rattle.missing_ranges.specs.declared.reasons.Reasons.{Reasons}
+use Rattle.gev_report.specs.AccountTexts.{listed, span_text, why_text}
 use Rattle.missing_ranges.specs.Lost.{ids_in}
 use Rattle.script_trace.specs.Notes.{Outcome, Note, idle, ignored, unwidened, leads, opens, asks, first, absent, drops, done, unbuffered}
 
@@ -24,10 +24,6 @@ use Rattle.script_trace.specs.Notes.{Outcome, Note, idle, ignored, unwidened, le
 -- a number of so many bytes, in hex
 abbrev pub hex_text : ℕ → ℕ → List ℕ
 hex_text width n = codes "0x" ++ encode_lower (spelled ((width, n) ∷ []))
-
--- a span of numbers
-abbrev pub span_text : ℕ × ℕ → List ℕ
-span_text r = if r.0 == r.1 then decimal r.0 else concat (decimal r.0 ∷ codes "-" ∷ decimal r.1 ∷ [])
 
 abbrev pub id_text : BufferId → List ℕ
 id_text id = concat (decimal id.place ∷ codes "." ∷ decimal id.generation ∷ [])
@@ -43,30 +39,12 @@ number_or_none (Some n) = decimal n
 abbrev pub flag_text : Bool → List ℕ
 flag_text flag = if flag then codes "1" else codes "0"
 
--- with a comma before each
-abbrev pub behind_commas : List (List ℕ) → List ℕ
-behind_commas [] = []
-behind_commas (x ∷ xs) = codes "," ++ (x ++ behind_commas xs)
-
--- joined by commas, and `-` where there is none
-abbrev pub listed : List (List ℕ) → List ℕ
-listed [] = codes "-"
-listed (x ∷ xs) = x ++ behind_commas xs
-
 -- there are more than the first eight
 abbrev pub more_text : List (ℕ × ℕ) → List (List ℕ)
 more_text rs = if nat_lt 8 (length rs) then codes ".." ∷ [] else []
 
 abbrev pub ids_text : List (ℕ × ℕ) → List ℕ
 ids_text rs = listed (map span_text (take 8 rs) ++ more_text rs)
-
-abbrev pub where_so : Bool → List ℕ → List (List ℕ)
-where_so holds word = if holds then word ∷ [] else []
-
-abbrev pub why_text : Reasons → List ℕ
-why_text r = listed (
-    where_so r.no_leader (codes "leader") ++ (where_so r.small (codes "small") ++ (where_so r.no_trailer (codes "trailer")
-    ++ (where_so r.no_payload (codes "payloads") ++ where_so r.short (codes "short")))))
 
 abbrev pub cause_text : Cause → List ℕ
 cause_text complete = codes "complete"

@@ -56,7 +56,7 @@ board_of_three = record empty_board {
 abbrev pub waited : ℕ → ℕ → Item
 waited place block = record {
   place = place;
-  filling = record { bytes = 97 ∷ 98 ∷ 99 ∷ []; rec = record { block = block; complete = true; larger = false; has_leader = true; data_len = 3; filled = 3; image = seen 3 1 } };
+  filling = record { bytes = 97 ∷ 98 ∷ 99 ∷ []; rec = record { block = block; complete = true; larger = false; has_leader = true; data_len = 3; filled = 3; image = seen 3 1; account = None } };
 }
 
 -- with these lists of what claims and fills dropped

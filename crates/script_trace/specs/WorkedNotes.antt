@@ -12,7 +12,7 @@ use Rattle.script_trace.specs.Drops.{drops_from}
 abbrev pub waiting : ℕ → ℕ → Item
 waiting place block = record {
   place = place;
-  filling = record { bytes = 97 ∷ []; rec = record { block = block; complete = true; larger = false; has_leader = true; data_len = 1; filled = 1; image = seen 1 1 } };
+  filling = record { bytes = 97 ∷ []; rec = record { block = block; complete = true; larger = false; has_leader = true; data_len = 1; filled = 1; image = seen 1 1; account = None } };
 }
 
 abbrev pub fills_with : Item → Entry

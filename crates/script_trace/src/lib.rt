@@ -31,6 +31,6 @@ pub use laws::{
     takes_are_counted, trace_is_one, traces_keep_promises, traces_rest,
 };
 pub use note_laws::{
-    drops_are_worked, explanation_is_one, explanations_are_judged, explanations_hold_reports,
-    scripts_are_accounted,
+    drops_are_worked, ends_are_worked, explanation_is_one, explanations_are_judged,
+    explanations_hold_reports, scripts_are_accounted,
 };

@@ -2,6 +2,7 @@
 
 ghost use Rattle.script_trace.specs.NoteLaws.{ExplanationIsOne, ExplanationsAreJudged, ExplanationsHoldReports, ScriptsAreAccounted};
 ghost use Rattle.script_trace.specs.WorkedNotes.{DropsAreWorked};
+ghost use Rattle.script_trace.specs.WorkedEnds.{EndsAreWorked};
 
 /// The lines of an explained script are run as by a replay, to the same standing, and the replay's report is
 /// what is written with the lines left out that begin with `# `.
@@ -28,4 +29,10 @@ pub fn explanations_are_judged()
 /// What some acts of the acquisition dropped from the output, as they were worked out by hand.
 pub fn drops_are_worked()
     ensures { DropsAreWorked }
+{}
+
+/// The last note of an explanation, in which no two numbers are equal, and the note of a datagram that came while the stream
+/// wasn't running, as they were worked out by hand.
+pub fn ends_are_worked()
+    ensures { EndsAreWorked }
 {}
