@@ -64,18 +64,17 @@ some_pixels width rows some = false_from_ne_true (width == 0 || rows == 0) (λ e
   go (inr e) = let none : rows * width ≡ 0 * width = ap (λ m. m * width) (eqb-true rows 0 e) in omega (arith, none)
 
 pub plain_frames_are_their_pixels : PlainFramesAreTheirPixels
-plain_frames_are_their_pixels frame valid tight_x tight_y format =
+plain_frames_are_their_pixels rec frame valid tight_x tight_y format =
     let info : ImageInfo = frame_info frame frame.rows in
     let len : length frame.pixels ≡ frame.rows * frame.size_x = length_of frame.size_x frame.rows (bits_per_pixel frame.pixel) frame.padding_x frame.padding_y (length frame.pixels)
     (wide_as_format frame.pixel Grey8 format) tight_x tight_y valid.size in
     let some : (frame.size_x == 0 || frame.rows == 0) ≡ false = some_pixels frame.size_x frame.rows (omega (arith, len, valid.in_limits.0)) in
-    let image : List ℕ = take (length frame.pixels) frame.pixels in
+    let image : List ℕ = frame.pixels in
     let whole : frame.size_x * 8 % 8 ≡ 0 = omega arith in
-    ap (λ o. drawn_as o info image) format
-    ∙ cond-false (frame.size_x == 0 || frame.rows == 0) (Err NoPixels) (if frame.size_x * 8 % 8 == 0 then Ok (drawing Grey8 info image) else Err PartBytes) some
-    ∙ cond-true (frame.size_x * 8 % 8 == 0) (Ok (drawing Grey8 info image)) (Err PartBytes) (eq-eqb (frame.size_x * 8 % 8) 0 whole)
-    ∙ ap (λ (image : List ℕ). Ok (drawing Grey8 info image)) (take_all (length frame.pixels) frame.pixels (omega arith))
-    ∙ ap (λ (t : List ℕ). Ok (head_text Grey8 frame.size_x frame.rows ++ t))
+    ap (λ o. drawn_as o rec info image) format
+    ∙ cond-false (frame.size_x == 0 || frame.rows == 0) (Err NoPixels) (if frame.size_x * 8 % 8 == 0 then Ok (drawing Grey8 rec info image) else Err PartBytes) some
+    ∙ cond-true (frame.size_x * 8 % 8 == 0) (Ok (drawing Grey8 rec info image)) (Err PartBytes) (eq-eqb (frame.size_x * 8 % 8) 0 whole)
+    ∙ ap (λ (t : List ℕ). Ok (head_text Grey8 rec info ++ t))
     (grey_rows info frame.pixels frame.rows tight_x (omega (arith, len))
     ∙ ap (λ m. take m frame.pixels) (sym len)
     ∙ take_all (length frame.pixels) frame.pixels (omega arith))

@@ -3,3 +3,4 @@ pub mod Drawing
 pub mod Bits
 pub mod PixelPlaces
 pub mod Truth
+pub mod Heads

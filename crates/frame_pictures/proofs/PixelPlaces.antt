@@ -1,18 +1,18 @@
 -- Where the pixels of a picture stand.
 use Rattle.std.proofs.Common.{◌≡◌, ◌⊎◌, inl, inr, ℕ, zero, suc, ◌+◌, ◌*◌, ◌/◌, ◌<◌, ◌≤◌, List, [], ◌∷◌, ◌++◌, length, take, drop, true, false, Bool, refl, ap, sym, ◌∙◌, subst, arith}
-use Rattle.std.specs.Prelude.{◌==◌, ◌||◌, ◌%◌, ◌^◌, ◌-◌, min, slice_index, Option, Some, None, Ok, Err, if◌then◌else◌}
+use Rattle.std.specs.Prelude.{◌==◌, ◌||◌, ◌%◌, ◌^◌, min, slice_index, Option, Some, Ok, Err, if◌then◌else◌}
 use Rattle.std.proofs.lemmas.Bool.{cases_lt}
 use Rattle.std.proofs.lemmas.List.{length-append, take_all, take-append-le, drop-append-le, length-drop, get_or-drop}
 use Rattle.std.proofs.Math.Seq.{drop-append-add, take-append_seam}
 use Rattle.std.proofs.Math.Nat.{mul-le-mul_right, div-one}
 use Rattle.byteorder.specs.Endian.{big_bytes}
+use Rattle.gev_types.specs.declared.block_record.Record.{Record}
 use Rattle.gev_types.specs.declared.image_info.ImageInfo.{ImageInfo}
-use Rattle.gev_types.specs.FrameSize.{bits_per_pixel}
 use Rattle.frame_pictures.specs.declared.samples.Samples.{Samples}
 use Rattle.frame_pictures.specs.declared.samples.Samples.TheVariants.{Grey8, Grey16, Rgb, Bgr, Rgba, Bgra, Yuyv, Uyvy, Packed10, Packed12, Lsb10, Lsb12}
 use Rattle.frame_pictures.specs.declared.no_picture.NoPicture.TheVariants.{NoPixels, PartBytes}
-use Rattle.frame_pictures.specs.Formats.{samples_of, pixel_bits, fills_bytes}
-use Rattle.frame_pictures.specs.Pictures.{head_text, byte_at, shared_value, running_value, text_at, pixel_text, row_text, row_step, rows_text, drawing, drawn_as}
+use Rattle.frame_pictures.specs.Formats.{samples_of, fills_bytes}
+use Rattle.frame_pictures.specs.Pictures.{head_text, byte_at, shared_value, running_value, text_at, pixel_text, row_text, row_step, rows_text, drawing, drawn_as, drawn}
 use Rattle.frame_pictures.specs.Pixels.{written_bytes, pair_value, bits_from, pixel_in, row_byte, ShowsPixels}
 use Rattle.frame_pictures.specs.Laws.{PicturesAreTheirPixels}
 use Rattle.frame_pictures.proofs.Widths.{wide_as_format}
@@ -201,9 +201,9 @@ pixel_by Lsb12 row byte x same =
 
 -- ---- the whole text
 
-module _ (s : Samples) (info : ImageInfo) (image : List ℕ) (format : samples_of info.pixel ≡ Some s) where
+module _ (s : Samples) (rec : Record) (info : ImageInfo) (image : List ℕ) (format : samples_of info.pixel ≡ Some s) where
   abbrev head : List ℕ
-  head = head_text s info.size_x info.rows
+  head = head_text s rec info
 
   abbrev rows : List ℕ
   rows = rows_text s info image info.rows
@@ -230,7 +230,7 @@ module _ (s : Samples) (info : ImageInfo) (image : List ℕ) (format : samples_o
       let place : info.rows * info.size_x * b ≡ info.rows * (info.size_x * b) = omega arith in
       length-append head rows ∙ ap (λ n. length head + n) (rows_len s info image info.rows ∙ sym place)
 
-  drawing_shows : ShowsPixels s info image (head ++ rows)
+  drawing_shows : ShowsPixels s rec info image (head ++ rows)
   drawing_shows = record {
     long = long_so;
     head = take-append_seam head rows;
@@ -238,15 +238,17 @@ module _ (s : Samples) (info : ImageInfo) (image : List ℕ) (format : samples_o
   }
 
 -- what was drawn is the drawing
-drawn_is : (s : Samples) (info : ImageInfo) (image text : List ℕ) → drawn_as (Some s) info image ≡ Ok text → drawing s info image ≡ text
-drawn_is s info image text e = go (info.size_x == 0 || info.rows == 0) (fills_bytes s info.size_x) e where
-  go : (b c : Bool) → (if b then Err NoPixels else if c then Ok (drawing s info image) else Err PartBytes) ≡ Ok text → drawing s info image ≡ text
+drawn_is : (s : Samples) (rec : Record) (info : ImageInfo) (image text : List ℕ) → drawn_as (Some s) rec info image ≡ Ok text → drawing s rec info image ≡ text
+drawn_is s rec info image text e = go (info.size_x == 0 || info.rows == 0) (fills_bytes s info.size_x) e where
+  go : (b c : Bool) → (if b then Err NoPixels else if c then Ok (drawing s rec info image) else Err PartBytes) ≡ Ok text → drawing s rec info image ≡ text
   go true c h = cc
   go false true h = cc
   go false false h = cc
 
 pub pictures_are_their_pixels : PicturesAreTheirPixels
-pictures_are_their_pixels s info data_len bytes text format e =
-    let image : List ℕ = take data_len bytes in
-    subst (λ t. ShowsPixels s info image t)
-    (drawn_is s info image text (sym (ap (λ (o : Option Samples). drawn_as o info image) format) ∙ e)) (drawing_shows s info image format)
+pictures_are_their_pixels s rec info bytes text told format e =
+    let image : List ℕ = take rec.data_len bytes in
+    subst (λ t. ShowsPixels s rec info image t)
+    (drawn_is s rec info image text
+    (sym (ap (λ (o : Option ImageInfo). drawn o rec image) told ∙ ap (λ (o : Option Samples). drawn_as o rec info image) format) ∙ e))
+    (drawing_shows s rec info image format)

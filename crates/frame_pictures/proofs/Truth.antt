@@ -1,9 +1,9 @@
 -- What pictures show of what buffers hold.
 use Rattle.std.proofs.Common.{◌≡◌, ◌⊎◌, inl, inr, ℕ, ◌+◌, ◌-◌, ◌<◌, ◌≤◌, List, length, take, true, false, ap, sym, ◌∙◌, arith}
-use Rattle.std.specs.Prelude.{Option, Some, Ok}
+use Rattle.std.specs.Prelude.{Option, Some}
 use Rattle.std.specs.List.{Contains}
 use Rattle.std.proofs.lemmas.Bool.{cases_lt}
-use Rattle.std.proofs.lemmas.List.{take_all, get_or-take, length-take}
+use Rattle.std.proofs.lemmas.List.{get_or-take, length-take}
 use Rattle.std.proofs.Math.ListN.{get_or-eq_default}
 use Rattle.gev_types.specs.declared.frame.Frame.{Frame}
 use Rattle.gev_types.specs.declared.image_info.ImageInfo.{ImageInfo}
@@ -16,7 +16,7 @@ use Rattle.block_image.specs.Image.{covers}
 use Rattle.block_image.specs.OneBlock.{HasBytesInPlace}
 use Rattle.block_image.proofs.Covering.{covers_parts}
 use Rattle.block_image.proofs.FrameKept.{some_same}
-use Rattle.frame_pictures.specs.Pictures.{byte_at, drawn, picture, picture_of}
+use Rattle.frame_pictures.specs.Pictures.{byte_at, drawn}
 use Rattle.frame_pictures.specs.Laws.{HeldFramesAreShown, BytesInPlaceAreShown, shown_byte}
 use Rattle.frame_pictures.proofs.PixelPlaces.{pictures_are_their_pixels}
 
@@ -27,8 +27,8 @@ held_frames_are_shown frames b filling h = record {
   frame = h.frame;
   of_block = h.of_block;
   same =
-      ap (λ (told : Option ImageInfo). drawn told (take filling.rec.data_len filling.bytes)) h.image
-      ∙ ap (drawn (Some (frame_info h.frame h.frame.rows))) (h.pixels ∙ sym (take_all (length h.frame.pixels) h.frame.pixels (omega arith)));
+      ap (λ (told : Option ImageInfo). drawn told filling.rec (take filling.rec.data_len filling.bytes)) h.image
+      ∙ ap (drawn (Some (frame_info h.frame h.frame.rows)) filling.rec) h.pixels;
 }
 
 -- ---- any image
@@ -69,7 +69,5 @@ pub bytes_in_place_are_shown : BytesInPlaceAreShown
 bytes_in_place_are_shown frames p b size ks filling f placed within is = record {
   came = came_so frames p b size ks filling f placed within is;
   elsewhere = λ j free. elsewhere_so frames p b size ks filling f placed within is j (cases_lt j filling.rec.data_len) free;
-  pixels = λ s info text told format shown.
-      pictures_are_their_pixels s info filling.rec.data_len filling.bytes text format
-      (sym (ap (λ (o : Option ImageInfo). picture o filling.rec.data_len filling.bytes) told) ∙ shown);
+  pixels = λ s info text told format shown. pictures_are_their_pixels s filling.rec info filling.bytes text told format shown;
 }

@@ -1,6 +1,7 @@
 -- What a picture shows of what its buffer holds, and of its block's frame.
 use Rattle.std.specs.Prelude.{◌≡◌, ℕ, ◌<◌, ◌≤◌, List, ◌++◌, length, take, true, false, Option, Some, Result, Ok}
 use Rattle.std.specs.List.{Contains}
+use Rattle.gev_types.specs.declared.block_record.Record.{Record}
 use Rattle.gev_types.specs.declared.frame.Frame.{Frame}
 use Rattle.gev_types.specs.declared.image_info.ImageInfo.{ImageInfo}
 use Rattle.gev_types.specs.Filling.{Filling}
@@ -15,7 +16,7 @@ use Rattle.frame_pictures.specs.declared.no_picture.NoPicture.{NoPicture}
 use Rattle.frame_pictures.specs.declared.samples.Samples.{Samples}
 use Rattle.frame_pictures.specs.declared.samples.Samples.TheVariants.{Grey8}
 use Rattle.frame_pictures.specs.Formats.{samples_of, pixel_bits}
-use Rattle.frame_pictures.specs.Pictures.{head_text, byte_at, picture, picture_of}
+use Rattle.frame_pictures.specs.Pictures.{head_text, byte_at, drawn, picture, picture_of}
 use Rattle.frame_pictures.specs.Pixels.{ShowsPixels}
 
 -- a pixel that is drawn takes as many bits as its format's code says
@@ -27,34 +28,35 @@ PixelsAreAsWideAsTheirFormat = (pixel : ℕ) (s : Samples) → samples_of pixel 
 -- each picture shows its image's pixels, each in its place, whatever image and bytes these are
 abbrev pub PicturesAreTheirPixels : Type 0
 PicturesAreTheirPixels =
-    (s : Samples) (info : ImageInfo) (data_len : ℕ) (bytes text : List ℕ) → samples_of info.pixel ≡ Some s
-    → picture (Some info) data_len bytes ≡ Ok text → ShowsPixels s info (take data_len bytes) text
+    (s : Samples) (rec : Record) (info : ImageInfo) (bytes text : List ℕ) → rec.image ≡ Some info → samples_of info.pixel ≡ Some s
+    → picture rec bytes ≡ Ok text → ShowsPixels s rec info (take rec.data_len bytes) text
 
 -- ---- frames
 
--- the picture of a frame, of its own image and with its own rows
-abbrev pub frame_picture : Frame → Result (List ℕ) NoPicture
-frame_picture frame = picture (Some (frame_info frame frame.rows)) (length frame.pixels) frame.pixels
+-- The picture of a frame, of its own image, with its own rows and all its pixels. Beside these its head tells the record of
+-- a buffer.
+abbrev pub frame_picture : Record → Frame → Result (List ℕ) NoPicture
+frame_picture rec frame = drawn (Some (frame_info frame frame.rows)) rec frame.pixels
 
 -- What follows the head of a picture are just the frame's pixels, where it has no padding and a byte of grey for
 -- each pixel.
 abbrev pub PlainFramesAreTheirPixels : Type 0
 PlainFramesAreTheirPixels =
-    (frame : Frame) → IsFrame frame → frame.padding_x ≡ 0 → frame.padding_y ≡ 0 → samples_of frame.pixel ≡ Some Grey8
-    → frame_picture frame ≡ Ok (head_text Grey8 frame.size_x frame.rows ++ frame.pixels)
+    (rec : Record) (frame : Frame) → IsFrame frame → frame.padding_x ≡ 0 → frame.padding_y ≡ 0 → samples_of frame.pixel ≡ Some Grey8
+    → frame_picture rec frame ≡ Ok (head_text Grey8 rec (frame_info frame frame.rows) ++ frame.pixels)
 
 -- ---- buffers
 
--- it is the picture of block b's frame
-pub record ShowsFrame (frames : ℕ → Option Frame) (b : ℕ) (shown : Result (List ℕ) NoPicture) : Type 0 where
+-- it is the picture of block b's frame, with this record told in its head
+pub record ShowsFrame (frames : ℕ → Option Frame) (b : ℕ) (rec : Record) (shown : Result (List ℕ) NoPicture) : Type 0 where
   pub frame : Frame
   pub of_block : frames b ≡ Some frame
-  pub same : shown ≡ frame_picture frame
+  pub same : shown ≡ frame_picture rec frame
 
 -- a picture of a buffer that holds block b's frame is the frame's
 abbrev pub HeldFramesAreShown : Type 0
 HeldFramesAreShown =
-    (frames : ℕ → Option Frame) (b : ℕ) (filling : Filling) → HoldsFrame frames b filling → ShowsFrame frames b (picture_of filling)
+    (frames : ℕ → Option Frame) (b : ℕ) (filling : Filling) → HoldsFrame frames b filling → ShowsFrame frames b filling.rec (picture_of filling)
 
 -- the byte that a picture of the buffer finds at position j
 abbrev pub shown_byte : Filling → ℕ → ℕ
@@ -73,7 +75,7 @@ pub record ShowsWhatCame (frame : Frame) (p : ℕ) (ks : List StreamPacket) (fil
       → shown_byte filling j ≡ 0
   pub pixels :
       (s : Samples) (info : ImageInfo) (text : List ℕ) → filling.rec.image ≡ Some info → samples_of info.pixel ≡ Some s
-      → picture_of filling ≡ Ok text → ShowsPixels s info (take filling.rec.data_len filling.bytes) text
+      → picture_of filling ≡ Ok text → ShowsPixels s filling.rec info (take filling.rec.data_len filling.bytes) text
 
 -- so it is of each buffer that has the bytes of its block in place
 abbrev pub BytesInPlaceAreShown : Type 0

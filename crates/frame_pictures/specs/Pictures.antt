@@ -1,8 +1,10 @@
 -- A picture as a text: a PNM file in its binary form, of grey pixels a PGM, of colour a PPM.
-use Rattle.std.specs.Prelude.{ℕ, zero, suc, ◌+◌, ◌-◌, ◌*◌, ◌/◌, ◌%◌, ◌^◌, ◌==◌, ◌||◌, min, List, [], ◌∷◌, ◌++◌, take, drop, slice_index, codes, Option, Some, None, Result, Ok, Err, if◌then◌else◌}
+use Rattle.std.specs.Prelude.{ℕ, zero, suc, ◌+◌, ◌-◌, ◌*◌, ◌/◌, ◌%◌, ◌^◌, ◌==◌, ◌||◌, min, Bool, true, false, List, [], ◌∷◌, ◌++◌, take, drop, slice_index, codes, Option, Some, None, Result, Ok, Err, if◌then◌else◌}
 use Rattle.std.specs.List.{concat}
 use Rattle.std.specs.Fmt.{decimal}
 use Rattle.byteorder.specs.Endian.{big_bytes}
+use Rattle.gev_types.specs.declared.block_account.BlockAccount.{BlockAccount}
+use Rattle.gev_types.specs.declared.block_record.Record.{Record}
 use Rattle.gev_types.specs.declared.image_info.ImageInfo.{ImageInfo}
 use Rattle.gev_types.specs.Filling.{Filling}
 use Rattle.frame_pictures.specs.declared.no_picture.NoPicture.{NoPicture}
@@ -28,10 +30,28 @@ greatest_in Lsb10 = 1023
 greatest_in Lsb12 = 4095
 greatest_in _ = 255
 
-abbrev pub head_text : Samples → ℕ → ℕ → List ℕ
-head_text s width rows = concat (
+abbrev pub flag_digit : Bool → List ℕ
+flag_digit false = codes "0"
+flag_digit true = codes "1"
+
+-- how many packet ids of the block lack, by its account; 0 of a buffer that no retired block filled
+abbrev pub missing_in : Option BlockAccount → ℕ
+missing_in None = 0
+missing_in (Some account) = account.lost.ids
+
+-- A line of comment, as PNM files may have it: which block it is, whether it's whole, how many of its bytes were placed,
+-- how many of its packets are missing, and the camera's time.
+abbrev pub comment_text : Record → ImageInfo → List ℕ
+comment_text rec info = concat (
+    codes "# block=" ∷ decimal rec.block ∷ codes " complete=" ∷ flag_digit rec.complete ∷ codes " filled=" ∷ decimal rec.filled
+    ∷ codes " missing=" ∷ decimal (missing_in rec.account) ∷ codes " time=" ∷ decimal info.timestamp ∷ codes "\n" ∷ [])
+
+-- The head of the picture of a buffer with this record, and with this image in it.
+abbrev pub head_text : Samples → Record → ImageInfo → List ℕ
+head_text s rec info = concat (
     magic s ∷ codes "\n"
-    ∷ decimal width ∷ codes " " ∷ decimal rows ∷ codes "\n"
+    ∷ comment_text rec info
+    ∷ decimal info.size_x ∷ codes " " ∷ decimal info.rows ∷ codes "\n"
     ∷ decimal (greatest_in s) ∷ codes "\n" ∷ [])
 
 -- ---- the pixels
@@ -89,25 +109,26 @@ rows_text s info image (suc n) = rows_text s info image n ++ row_text s (drop (n
 
 -- ---- the picture
 
-abbrev pub drawing : Samples → ImageInfo → List ℕ → List ℕ
-drawing s info image = head_text s info.size_x info.rows ++ rows_text s info image info.rows
+abbrev pub drawing : Samples → Record → ImageInfo → List ℕ → List ℕ
+drawing s rec info image = head_text s rec info ++ rows_text s info image info.rows
 
-abbrev pub drawn_as : Option Samples → ImageInfo → List ℕ → Result (List ℕ) NoPicture
-drawn_as None info image = Err (PixelFormat info.pixel)
-drawn_as (Some s) info image =
+abbrev pub drawn_as : Option Samples → Record → ImageInfo → List ℕ → Result (List ℕ) NoPicture
+drawn_as None rec info image = Err (PixelFormat info.pixel)
+drawn_as (Some s) rec info image =
     if info.size_x == 0 || info.rows == 0 then Err NoPixels
-    else if fills_bytes s info.size_x then Ok (drawing s info image)
+    else if fills_bytes s info.size_x then Ok (drawing s rec info image)
     else Err PartBytes
 
--- the picture of an image of these bytes, or why there is none
-abbrev pub drawn : Option ImageInfo → List ℕ → Result (List ℕ) NoPicture
-drawn None image = Err NoLeader
-drawn (Some info) image = drawn_as (samples_of info.pixel) info image
+-- the picture of an image of these bytes, with this record told in its head, or why there is none
+abbrev pub drawn : Option ImageInfo → Record → List ℕ → Result (List ℕ) NoPicture
+drawn None rec image = Err NoLeader
+drawn (Some info) rec image = drawn_as (samples_of info.pixel) rec info image
 
--- The picture in a buffer with these bytes, of which so many are the image's: what lies behind them counts as 0.
-abbrev pub picture : Option ImageInfo → ℕ → List ℕ → Result (List ℕ) NoPicture
-picture told data_len bytes = drawn told (take data_len bytes)
+-- The picture in a buffer with this record and these bytes, of which the record says how many are the image's: what lies
+-- behind them counts as 0.
+abbrev pub picture : Record → List ℕ → Result (List ℕ) NoPicture
+picture rec bytes = drawn rec.image rec (take rec.data_len bytes)
 
 -- the picture of what a buffer holds, by its record and its bytes alone
 abbrev pub picture_of : Filling → Result (List ℕ) NoPicture
-picture_of filling = picture filling.rec.image filling.rec.data_len filling.bytes
+picture_of filling = picture filling.rec filling.bytes

@@ -2,6 +2,7 @@
 -- bytes lie in the image (Pixel Format Naming Convention).
 use Rattle.std.specs.Prelude.{◌≡◌, ℕ, zero, suc, ◌+◌, ◌*◌, ◌/◌, ◌%◌, ◌^◌, ◌<◌, min, List, [], ◌∷◌, length, take, drop, slice_index}
 use Rattle.byteorder.specs.Endian.{big_bytes}
+use Rattle.gev_types.specs.declared.block_record.Record.{Record}
 use Rattle.gev_types.specs.declared.image_info.ImageInfo.{ImageInfo}
 use Rattle.gev_types.specs.FrameSize.{bits_per_pixel}
 use Rattle.frame_pictures.specs.declared.samples.Samples.{Samples}
@@ -55,11 +56,11 @@ pixel_in Lsb12 row x = big_bytes 2 (bits_from row (12 * x) 12)
 abbrev pub row_byte : ImageInfo → List ℕ → ℕ → ℕ → ℕ
 row_byte info image y i = slice_index image (y * (info.size_x * bits_per_pixel info.pixel / 8 + info.padding_x) + i)
 
--- Behind its head the text has as many pixels as the image, row by row from the top, and nothing else.
-pub record ShowsPixels (s : Samples) (info : ImageInfo) (image text : List ℕ) : Type 0 where
-  pub long : length text ≡ length (head_text s info.size_x info.rows) + info.rows * info.size_x * written_bytes s
-  pub head : take (length (head_text s info.size_x info.rows)) text ≡ head_text s info.size_x info.rows
+-- Behind its head, by this record, the text has as many pixels as the image, row by row from the top, and nothing else.
+pub record ShowsPixels (s : Samples) (rec : Record) (info : ImageInfo) (image text : List ℕ) : Type 0 where
+  pub long : length text ≡ length (head_text s rec info) + info.rows * info.size_x * written_bytes s
+  pub head : take (length (head_text s rec info)) text ≡ head_text s rec info
   pub pixels :
       (x y : ℕ) → x < info.size_x → y < info.rows
-      → take (written_bytes s) (drop (length (head_text s info.size_x info.rows) + (y * info.size_x + x) * written_bytes s) text)
+      → take (written_bytes s) (drop (length (head_text s rec info) + (y * info.size_x + x) * written_bytes s) text)
       ≡ pixel_in s (row_byte info image y) x

@@ -1,7 +1,9 @@
 //! What the definitions promise: each function here does nothing, and its contract is a law.
 
 ghost use Rattle.frame_pictures.specs.Laws.{PixelsAreAsWideAsTheirFormat, PlainFramesAreTheirPixels, PicturesAreTheirPixels, HeldFramesAreShown, BytesInPlaceAreShown};
+ghost use Rattle.frame_pictures.specs.Heads.{HeadsTellTheirRecord, RetiredHeadsTellTheirBlock};
 ghost use Rattle.frame_pictures.specs.Worked.{PicturesAreWorked};
+ghost use Rattle.frame_pictures.specs.WorkedFormats.{FormatsAreWorked};
 
 /// A pixel that is drawn takes as many bits as its format's code says.
 pub fn pixels_are_as_wide_as_their_format()
@@ -20,7 +22,19 @@ pub fn pictures_are_their_pixels()
     ensures { PicturesAreTheirPixels }
 {}
 
-/// The picture of a buffer that holds a block's frame is that of the frame.
+/// Each picture begins with its head: behind the first line a comment with the block, whether the image is whole, how
+/// many bytes were placed, how many packets are missing, and the camera's time, as the record has them.
+pub fn heads_tell_their_record()
+    ensures { HeadsTellTheirRecord }
+{}
+
+/// The head of a block that retired tells of its kept packets: how many are missing, a notice being none, 0 where the
+/// image is whole; and its time is that of the block's frame, complete or not.
+pub fn retired_heads_tell_their_block()
+    ensures { RetiredHeadsTellTheirBlock }
+{}
+
+/// The picture of a buffer that holds a block's frame is that of the frame, with the buffer's record in its head.
 pub fn held_frames_are_shown()
     ensures { HeldFramesAreShown }
 {}
@@ -34,4 +48,9 @@ pub fn bytes_in_place_are_shown()
 /// Some pictures as they were worked out by hand.
 pub fn pictures_are_worked()
     ensures { PicturesAreWorked }
+{}
+
+/// Each pixel format that is drawn, by its name and its code, with how its pixels lie in a buffer.
+pub fn formats_are_worked()
+    ensures { FormatsAreWorked }
 {}

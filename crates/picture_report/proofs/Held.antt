@@ -1,12 +1,12 @@
 -- Text of which a front was written and the rest is held back.
 use Rattle.std.proofs.Common.{◌≡◌, ℕ, zero, suc, ◌+◌, ◌-◌, ◌*◌, ◌≤◌, List, [], ◌++◌, drop, Option, Some, None, Result, Ok, Err, refl, ap, sym, ◌∙◌, subst, append_assoc, append-nil, arith}
-use Rattle.std.specs.Prelude.{OnErr}
+use Rattle.std.specs.Prelude.{OnErr, min}
 use Rattle.std.proofs.lemmas.List.{drop-drop}
 use Rattle.gev_links.specs.Told.{Appends, WritesFront}
 use Rattle.gev_types.specs.declared.image_info.ImageInfo.{ImageInfo}
 use Rattle.frame_pictures.specs.declared.samples.Samples.{Samples}
 use Rattle.frame_pictures.specs.Pictures.{pixel_text, row_text, row_step, rows_text}
-use Rattle.picture_report.specs.Writing.{HoldsBack}
+use Rattle.picture_report.specs.Writing.{HoldsBack, pixels_text}
 
 Appends-same : (w : Option (List ℕ)) → Appends w w []
 Appends-same None = refl
@@ -117,16 +117,34 @@ row_front w x y s row before held n m few h f =
     (ap (λ (t : List ℕ). before ++ t) b.is ∙ sym (append_assoc before (row_text s row n) b.rest)
     ∙ ap (λ (t : List ℕ). t ++ b.rest) (sym (append-nil (before ++ row_text s row n))))
 
--- one pixel more
-pub row_more_held : (w x y : Option (List ℕ)) (s : Samples) (row before held held_now held_after : List ℕ) (n : ℕ)
-    → HoldsBack w x (before ++ row_text s row n) held → HoldsBack x y held held_now → held_after ≡ held_now ++ pixel_text s row n
-    → HoldsBack w y (before ++ row_text s row (n + 1)) held_after
-row_more_held w x y s row before held held_now held_after n h less is =
-    let same : n + 1 ≡ suc n = omega arith in
-    let more = held_more w y (before ++ row_text s row n) held_now (pixel_text s row n) (held_less w x y (before ++ row_text s row n) held held_now h less) in
+-- a row, and pixels behind its begin
+row_parts : (s : Samples) (row : List ℕ) (n k : ℕ) → row_text s row (n + k) ≡ row_text s row n ++ pixels_text s row n k
+row_parts s row n zero = let same : n + 0 ≡ n = omega arith in ap (row_text s row) same ∙ sym (append-nil (row_text s row n))
+row_parts s row n (suc k) =
+    let same : n + suc k ≡ suc (n + k) = omega arith in
+    ap (row_text s row) same
+    ∙ ap (λ (t : List ℕ). t ++ pixel_text s row (n + k)) (row_parts s row n k)
+    ∙ append_assoc (row_text s row n) (pixels_text s row n k) (pixel_text s row (n + k))
+
+-- some pixels more
+row_more_held : (w x y : Option (List ℕ)) (s : Samples) (row before held held_now held_after : List ℕ) (n k m : ℕ) → m ≡ n + k
+    → HoldsBack w x (before ++ row_text s row n) held → HoldsBack x y held held_now → held_after ≡ held_now ++ pixels_text s row n k
+    → HoldsBack w y (before ++ row_text s row m) held_after
+row_more_held w x y s row before held held_now held_after n k m sum h less is =
+    let more = held_more w y (before ++ row_text s row n) held_now (pixels_text s row n k) (held_less w x y (before ++ row_text s row n) held held_now h less) in
     subst (λ (t : List ℕ). HoldsBack w y t held_after)
-    (append_assoc before (row_text s row n) (pixel_text s row n) ∙ ap (λ i. before ++ row_text s row i) (sym same))
-    (subst (λ (t : List ℕ). HoldsBack w y ((before ++ row_text s row n) ++ pixel_text s row n) t) (sym is) more)
+    (append_assoc before (row_text s row n) (pixels_text s row n k) ∙ ap (λ (t : List ℕ). before ++ t) (sym (row_parts s row n k) ∙ ap (row_text s row) (sym sum)))
+    (subst (λ (t : List ℕ). HoldsBack w y ((before ++ row_text s row n) ++ pixels_text s row n k) t) (sym is) more)
+
+-- as many as go into the piece, or as are left of the row
+pub chunk_more_held : (w x y : Option (List ℕ)) (s : Samples) (row before held held_now held_after : List ℕ) (width chunk count : ℕ) → chunk * 4096 ≤ width
+    → count ≡ min 4096 (width - chunk * 4096) → HoldsBack w x (before ++ row_text s row (min width (chunk * 4096))) held → HoldsBack x y held held_now
+    → held_after ≡ held_now ++ pixels_text s row (chunk * 4096) count → HoldsBack w y (before ++ row_text s row (min width ((chunk + 1) * 4096))) held_after
+chunk_more_held w x y s row before held held_now held_after width chunk count low few h less is =
+    let at : min width (chunk * 4096) ≡ chunk * 4096 = omega (arith, low) in
+    let sum : min width ((chunk + 1) * 4096) ≡ chunk * 4096 + count = omega (arith, low, few) in
+    row_more_held w x y s row before held held_now held_after (chunk * 4096) count (min width ((chunk + 1) * 4096)) sum
+    (subst (λ n. HoldsBack w x (before ++ row_text s row n) held) at h) less is
 
 -- writing failed in a row
 pub rows_front : (w x y : Option (List ℕ)) (s : Samples) (info : ImageInfo) (image row before held : List ℕ) (n m : ℕ) → n + 1 ≤ m

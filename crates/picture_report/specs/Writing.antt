@@ -1,7 +1,9 @@
 -- What writing a picture did, by its answer.
-use Rattle.std.specs.Prelude.{◌≡◌, ℕ, List, ◌++◌, Option, Result, Ok, Err}
+use Rattle.std.specs.Prelude.{◌≡◌, ℕ, zero, suc, ◌+◌, List, [], ◌++◌, Option, Result, Ok, Err}
 use Rattle.gev_links.specs.Faults.{Rose}
 use Rattle.gev_links.specs.Told.{Appends, WritesFront}
+use Rattle.frame_pictures.specs.Pictures.{pixel_text}
+use Rattle.frame_pictures.specs.declared.samples.Samples.{Samples}
 use Rattle.frame_pictures.specs.declared.no_picture.NoPicture.{NoPicture}
 use Rattle.picture_report.specs.declared.stop.PictureStop.{PictureStop}
 use Rattle.picture_report.specs.declared.stop.PictureStop.TheVariants as stops
@@ -32,3 +34,8 @@ pub record HoldsBack (written written_after : Option (List ℕ)) (text held : Li
   pub front : List ℕ
   pub parts : text ≡ front ++ held
   pub appended : Appends written written_after front
+
+-- n pixels of the row that begins with these bytes, from pixel x on
+abbrev pub pixels_text : Samples → List ℕ → ℕ → ℕ → List ℕ
+pixels_text s row x zero = []
+pixels_text s row x (suc n) = pixels_text s row x n ++ pixel_text s row (x + n)

@@ -1,11 +1,13 @@
 //! One pixel, from the buffer into the piece.
 
-ghost use Rattle.std.specs.Prelude.{◌≡◌, ◌≤◌, ◌<◌, ◌+◌, ◌*◌, ◌^◌, ◌++◌, ◌∷◌, [], min};
+ghost use Rattle.std.specs.Prelude.{◌≡◌, ◌≤◌, ◌<◌, ◌-◌, ◌+◌, ◌*◌, ◌^◌, ◌++◌, ◌∷◌, [], length, min};
 ghost use Rattle.std.specs.Vec.{vec_len, vec_capacity};
 ghost use Rattle.byteorder.specs.Endian.{big_bytes};
 ghost use Rattle.frame_pictures.specs.Pictures.{byte_at, shared_value, running_value, text_at, pixel_text};
+ghost use Rattle.frame_pictures.specs.declared.samples.Samples.TheVariants.{Grey16};
+ghost use Rattle.picture_report.specs.Writing.{pixels_text};
 
-use byteorder::{BigEndian, ByteOrder, LittleEndian};
+use byteorder::{ByteOrder, LittleEndian};
 use frame_pictures::{Samples, pixel_bits};
 
 /// The byte at this position, and 0 behind the last one.
@@ -69,10 +71,8 @@ fn add_value(value: u16, piece: &mut Vec<u8>)
     ensures len { vec_len piece.new ≡ vec_len piece.old + 2 }
     ensures capacity { vec_capacity piece.new ≡ vec_capacity piece.old }
 {
-    let mut bytes = [0u8; 2];
-    BigEndian::write_u16(&mut bytes, value);
-    piece.push_reserved(bytes[0]);
-    piece.push_reserved(bytes[1]);
+    piece.push_reserved((value / 256) as u8);
+    piece.push_reserved((value % 256) as u8);
 }
 
 /// Adds three bytes.
@@ -93,6 +93,7 @@ fn add_at(samples: Samples, row: &[u8], at: usize, bit: u32, piece: &mut Vec<u8>
     requires near { at ≤ 2 ^ 38 }
     requires within { bit < 8 }
     ensures text { piece.new.items ≡ piece.old.items ++ text_at samples row.now at bit }
+    ensures len { vec_len piece.new ≤ vec_len piece.old + 3 }
     ensures capacity { vec_capacity piece.new ≡ vec_capacity piece.old }
 {
     let first = byte_at(row, at);
@@ -115,11 +116,56 @@ fn add_at(samples: Samples, row: &[u8], at: usize, bit: u32, piece: &mut Vec<u8>
 }
 
 /// Adds pixel x of the row that begins with these bytes.
-pub(crate) fn add_pixel(samples: Samples, row: &[u8], x: u32, piece: &mut Vec<u8>)
+fn add_pixel(samples: Samples, row: &[u8], x: u32, piece: &mut Vec<u8>)
     requires { vec_len piece.old + 3 ≤ vec_capacity piece.old }
     ensures text { piece.new.items ≡ piece.old.items ++ pixel_text samples row.now x }
+    ensures len { vec_len piece.new ≤ vec_len piece.old + 3 }
     ensures capacity { vec_capacity piece.new ≡ vec_capacity piece.old }
 {
     let bits = u64::from(x) * u64::from(pixel_bits(samples));
     add_at(samples, row, (bits / 8) as usize, (bits % 8) as u32, piece);
+}
+
+/// Adds pixels of a row one by one, so many from this one on.
+fn add_each(samples: Samples, row: &[u8], from: u32, count: u32, piece: &mut Vec<u8>)
+    requires within { from + count ≤ 4294967295 }
+    requires room { vec_len piece.old + 3 * count ≤ vec_capacity piece.old }
+    ensures text { piece.new.items ≡ piece.old.items ++ pixels_text samples row.now from count }
+    ensures capacity { vec_capacity piece.new ≡ vec_capacity piece.old }
+{
+    for k in 0..count {
+        add_pixel(samples, row, from + k, piece);
+    }
+}
+
+/// Adds pixels of two bytes each, straight from the row where all of them stand in it.
+fn add_wide(greatest: u16, row: &[u8], from: u32, count: u32, piece: &mut Vec<u8>)
+    requires within { from + count ≤ 4294967295 }
+    requires room { vec_len piece.old + 3 * count ≤ vec_capacity piece.old }
+    ensures text { piece.new.items ≡ piece.old.items ++ pixels_text (Grey16 greatest) row.now from count }
+    ensures capacity { vec_capacity piece.new ≡ vec_capacity piece.old }
+{
+    if row.len() / 2 < (from + count) as usize {
+        add_each(Samples::Grey16(greatest), row, from, count, piece);
+        return;
+    }
+    for k in 0..count {
+        let at = 2 * (from + k) as usize;
+        let value = u16::from(row[at]) + 256 * u16::from(row[at + 1]);
+        let cut = if value < greatest { value } else { greatest };
+        add_value(cut, piece);
+    }
+}
+
+/// Adds pixels of the row that begins with these bytes, so many from this one on.
+pub(crate) fn add_pixels(samples: Samples, row: &[u8], from: u32, count: u32, piece: &mut Vec<u8>)
+    requires within { from + count ≤ 4294967295 }
+    requires room { vec_len piece.old + 3 * count ≤ vec_capacity piece.old }
+    ensures text { piece.new.items ≡ piece.old.items ++ pixels_text samples row.now from count }
+    ensures capacity { vec_capacity piece.new ≡ vec_capacity piece.old }
+{
+    match samples {
+        Samples::Grey16(greatest) => add_wide(greatest, row, from, count, piece),
+        _ => add_each(samples, row, from, count, piece),
+    }
 }

@@ -7,7 +7,7 @@ ghost use Rattle.gev_links.specs.Told.{WritesFront};
 ghost use Rattle.frame_pictures.specs.Pictures.{row_step, row_text, rows_text};
 ghost use Rattle.picture_report.specs.Writing.{HoldsBack};
 
-use crate::pixels::add_pixel;
+use crate::pixels::add_pixels;
 use frame_pictures::{Samples, pixel_bits};
 use gev_links::{Failed, Sink, write_all};
 use gev_types::ImageInfo;
@@ -15,17 +15,20 @@ use gev_types::ImageInfo;
 /// Bytes of the piece from which a picture is written.
 pub(crate) const PIECE: usize = 65_536;
 
-/// Writes the piece where it has no room for a pixel.
+/// Pixels that are added to the piece at once.
+const CHUNK: u32 = 4_096;
+
+/// Writes the piece where it has no room for as many pixels.
 fn make_room<K: Sink>(piece: &mut Vec<u8>, sink: &mut K) -> Result<(), Failed>
     requires { 65536 ≤ vec_capacity piece.old }
     ensures held { OnOk result (HoldsBack (K.written sink.old) (K.written sink.new) piece.old.items piece.new.items) }
-    ensures room { OnOk result (vec_len piece.new + 3 ≤ vec_capacity piece.new) }
+    ensures room { OnOk result (vec_len piece.new + 12288 ≤ vec_capacity piece.new) }
     ensures capacity { 65536 ≤ vec_capacity piece.new }
     ensures no_fault { OnOk result (K.faults sink.new ≡ K.faults sink.old) }
     ensures front { OnErr result (WritesFront (K.written sink.old) (K.written sink.new) piece.old.items) }
     ensures failed { OnErr result (Rose (K.faults sink.old) (K.faults sink.new)) }
 {
-    if piece.len() + 3 <= PIECE {
+    if piece.len() + 12_288 <= PIECE {
         return Ok(());
     }
     write_all(sink, piece.as_slice())?;
@@ -48,9 +51,10 @@ fn write_row<K: Sink>(
     ensures front { OnErr result (WritesFront (K.written sink.old) (K.written sink.new) (piece.old.items ++ row_text samples row.now width)) }
     ensures failed { OnErr result (Rose (K.faults sink.old) (K.faults sink.new)) }
 {
-    for x in 0..width {
+    for chunk in 0..width.div_ceil(CHUNK) {
+        let from = chunk * CHUNK;
         make_room(piece, sink)?;
-        add_pixel(samples, row, x, piece);
+        add_pixels(samples, row, from, CHUNK.min(width - from), piece);
     }
     Ok(())
 }

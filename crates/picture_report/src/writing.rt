@@ -1,8 +1,8 @@
-ghost use Rattle.std.specs.Prelude.{◌≡◌, ◌≤◌, ◌++◌, [], take, IfOk, OnOk, OnErr};
+ghost use Rattle.std.specs.Prelude.{◌≡◌, ◌≤◌, ◌++◌, take, IfOk, OnOk, OnErr};
 ghost use Rattle.std.specs.Vec.{vec_capacity};
 ghost use Rattle.gev_links.specs.Faults.{Rose};
 ghost use Rattle.gev_links.specs.Told.{Appends, WritesFront};
-ghost use Rattle.frame_pictures.specs.Pictures.{head_text, drawing, picture};
+ghost use Rattle.frame_pictures.specs.Pictures.{head_text, rows_text, picture};
 ghost use Rattle.picture_report.specs.Writing.{DrawsBy};
 
 use crate::head::add_head;
@@ -11,16 +11,16 @@ use crate::rows::{PIECE, write_rows};
 use crate::stop::PictureStop;
 use frame_pictures::{NoPicture, Samples, fills_bytes, samples_of};
 use gev_links::{Failed, Sink, write_all};
-use gev_types::{ImageInfo, NoMemory};
+use gev_types::{ImageInfo, NoMemory, Record};
 use std::alloc::Global;
 
 /// The piece, with the picture's head in it.
-fn begin(alloc: Global, samples: Samples, info: ImageInfo) -> Result<Vec<u8>, NoMemory>
-    ensures head { IfOk result (λ piece. piece.items ≡ head_text samples info.size_x info.rows) }
+fn begin(alloc: Global, samples: Samples, rec: Record, info: ImageInfo) -> Result<Vec<u8>, NoMemory>
+    ensures head { IfOk result (λ piece. piece.items ≡ head_text samples rec info) }
     ensures capacity { IfOk result (λ piece. 65536 ≤ vec_capacity piece) }
 {
     let mut piece = Vec::with_capacity(alloc, PIECE)?;
-    add_head(samples, info.size_x, info.rows, &mut piece)?;
+    add_head(samples, rec, info, &mut piece)?;
     Ok(piece)
 }
 
@@ -32,11 +32,10 @@ fn write_drawing<K: Sink>(
     piece: &mut Vec<u8>,
     sink: &mut K,
 ) -> Result<(), Failed>
-    requires head { piece.old.items ≡ head_text samples info.size_x info.rows }
-    requires capacity { 65536 ≤ vec_capacity piece.old }
-    ensures written { OnOk result (Appends (K.written sink.old) (K.written sink.new) (drawing samples info image.now)) }
+    requires { 65536 ≤ vec_capacity piece.old }
+    ensures written { OnOk result (Appends (K.written sink.old) (K.written sink.new) (piece.old.items ++ rows_text samples info image.now info.rows)) }
     ensures no_fault { OnOk result (K.faults sink.new ≡ K.faults sink.old) }
-    ensures front { OnErr result (WritesFront (K.written sink.old) (K.written sink.new) (drawing samples info image.now)) }
+    ensures front { OnErr result (WritesFront (K.written sink.old) (K.written sink.new) (piece.old.items ++ rows_text samples info image.now info.rows)) }
     ensures failed { OnErr result (Rose (K.faults sink.old) (K.faults sink.new)) }
 {
     if let Some(pixels) = plain_pixels(samples, info, image) {
@@ -57,20 +56,19 @@ fn front_of(bytes: &[u8], count: u32) -> &[u8]
     }
 }
 
-/// Writes the picture in a buffer with these bytes, of whose image the record tells this, and of which the first
-/// `data_len` are the image's; what lies behind them counts as 0. It's a PNM file in its binary form.
+/// Writes the picture in a buffer with this record and these bytes, of which the first `data_len` are the image's; what
+/// lies behind them counts as 0. It's a PNM file in its binary form, with the record in a comment of its head.
 ///
 /// All the memory that it takes, 64 KiB and no copy of the image, it takes before it writes.
 pub fn write_picture<K: Sink>(
     alloc: Global,
-    info: Option<ImageInfo>,
-    data_len: u32,
+    rec: Record,
     bytes: &[u8],
     sink: &mut K,
 ) -> Result<(), PictureStop>
-    ensures { DrawsBy result (picture info data_len bytes.now) (K.written sink.old) (K.written sink.new) (K.faults sink.old) (K.faults sink.new) }
+    ensures { DrawsBy result (picture rec bytes.now) (K.written sink.old) (K.written sink.new) (K.faults sink.old) (K.faults sink.new) }
 {
-    let info = match info {
+    let info = match rec.image {
         Some(info) => info,
         None => return Err(PictureStop::NoPicture(NoPicture::NoLeader)),
     };
@@ -86,11 +84,12 @@ pub fn write_picture<K: Sink>(
     if !fills_bytes(samples, info.size_x) {
         return Err(PictureStop::NoPicture(NoPicture::PartBytes));
     }
-    let mut piece = match begin(alloc, samples, info) {
+    let mut piece = match begin(alloc, samples, rec, info) {
         Ok(piece) => piece,
         Err(NoMemory) => return Err(PictureStop::NoMemory),
     };
-    match write_drawing(samples, info, front_of(bytes, data_len), &mut piece, sink) {
+    let image = front_of(bytes, rec.data_len);
+    match write_drawing(samples, info, image, &mut piece, sink) {
         Ok(()) => Ok(()),
         Err(Failed) => Err(PictureStop::WriteFault),
     }

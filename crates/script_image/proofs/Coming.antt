@@ -5,6 +5,7 @@ use Rattle.std.specs.List.{AllByRecursion}
 use Rattle.std.proofs.lemmas.Bool.{eqb-true, eq-eqb}
 use Rattle.std.proofs.lemmas.List.{append-nil}
 use Rattle.gev_links.specs.Told.{Appends}
+use Rattle.gev_types.specs.declared.block_record.Record.{Record}
 use Rattle.gev_types.specs.declared.image_info.ImageInfo.{ImageInfo}
 use Rattle.gev_types.specs.Filling.{Filling}
 use Rattle.board_machine.specs.Machine.{Item, item}
@@ -14,7 +15,7 @@ use Rattle.frame_pictures.specs.declared.no_picture.NoPicture.TheVariants.{Taken
 use Rattle.frame_pictures.specs.declared.samples.Samples.{Samples}
 use Rattle.frame_pictures.specs.declared.samples.Samples.TheVariants.{Grey8, Grey16, Rgb, Bgr, Rgba, Bgra, Yuyv, Uyvy, Packed10, Packed12, Lsb10, Lsb12}
 use Rattle.frame_pictures.specs.Formats.{samples_of, fills_bytes}
-use Rattle.frame_pictures.specs.Pictures.{drawing, drawn_as, picture, picture_of}
+use Rattle.frame_pictures.specs.Pictures.{drawing, drawn_as, drawn, picture, picture_of}
 use Rattle.gev_script.specs.declared.kind.ScriptKind.{ScriptKind}
 use Rattle.gev_script.specs.Grammar.{line_of}
 use Rattle.gev_script.specs.Streams.{IsLine}
@@ -74,59 +75,68 @@ more_text (x ∷ front) back = refl
 -- ---- pictures
 
 -- a picture has a text
-drawing_some : (s : Samples) (info : ImageInfo) (image : List ℕ) → has_text (drawing s info image) ≡ true
-drawing_some Grey8 info image = refl
-drawing_some (Grey16 greatest) info image = refl
-drawing_some Rgb info image = refl
-drawing_some Bgr info image = refl
-drawing_some Rgba info image = refl
-drawing_some Bgra info image = refl
-drawing_some Yuyv info image = refl
-drawing_some Uyvy info image = refl
-drawing_some Packed10 info image = refl
-drawing_some Packed12 info image = refl
-drawing_some Lsb10 info image = refl
-drawing_some Lsb12 info image = refl
+drawing_some : (s : Samples) (rec : Record) (info : ImageInfo) (image : List ℕ) → has_text (drawing s rec info image) ≡ true
+drawing_some Grey8 rec info image = refl
+drawing_some (Grey16 greatest) rec info image = refl
+drawing_some Rgb rec info image = refl
+drawing_some Bgr rec info image = refl
+drawing_some Rgba rec info image = refl
+drawing_some Bgra rec info image = refl
+drawing_some Yuyv rec info image = refl
+drawing_some Uyvy rec info image = refl
+drawing_some Packed10 rec info image = refl
+drawing_some Packed12 rec info image = refl
+drawing_some Lsb10 rec info image = refl
+drawing_some Lsb12 rec info image = refl
 
-drawn_some : (s : Option Samples) (info : ImageInfo) (image text : List ℕ) → drawn_as s info image ≡ Ok text → has_text text ≡ true
-drawn_some None info image text e = cc
-drawn_some (Some s) info image text e = go (info.size_x == 0 || info.rows == 0) (fills_bytes s info.size_x) e
+drawn_some : (s : Option Samples) (rec : Record) (info : ImageInfo) (image text : List ℕ) → drawn_as s rec info image ≡ Ok text → has_text text ≡ true
+drawn_some None rec info image text e = cc
+drawn_some (Some s) rec info image text e = go (info.size_x == 0 || info.rows == 0) (fills_bytes s info.size_x) e
   where
-    go : (b c : Bool) → (if b then Err NoPixels else if c then Ok (drawing s info image) else Err PartBytes) ≡ Ok text → has_text text ≡ true
+    go : (b c : Bool) → (if b then Err NoPixels else if c then Ok (drawing s rec info image) else Err PartBytes) ≡ Ok text → has_text text ≡ true
     go true c h = cc
     go false false h = cc
-    go false true h = let same : drawing s info image ≡ text = cc in ap has_text (sym same) ∙ drawing_some s info image
+    go false true h = let same : drawing s rec info image ≡ text = cc in ap has_text (sym same) ∙ drawing_some s rec info image
 
-picture_some : (told : Option ImageInfo) (data_len : ℕ) (bytes text : List ℕ) → picture told data_len bytes ≡ Ok text → has_text text ≡ true
-picture_some None data_len bytes text e = cc
-picture_some (Some info) data_len bytes text e = drawn_some (samples_of info.pixel) info (take data_len bytes) text e
+picture_some : (rec : Record) (bytes text : List ℕ) → picture rec bytes ≡ Ok text → has_text text ≡ true
+picture_some rec bytes text e = go rec.image e
+  where
+    go : (told : Option ImageInfo) → drawn told rec (take rec.data_len bytes) ≡ Ok text → has_text text ≡ true
+    go None h = cc
+    go (Some info) h = drawn_some (samples_of info.pixel) rec info (take rec.data_len bytes) text h
 
 -- a picture isn't lacking for a count of buffers
-drawn_never : (s : Option Samples) (info : ImageInfo) (image : List ℕ) (count : ℕ) → drawn_as s info image ≡ Err (Taken count) → ⊥
-drawn_never None info image count e = cc
-drawn_never (Some s) info image count e = go (info.size_x == 0 || info.rows == 0) (fills_bytes s info.size_x) e
+drawn_never : (s : Option Samples) (rec : Record) (info : ImageInfo) (image : List ℕ) (count : ℕ) → drawn_as s rec info image ≡ Err (Taken count) → ⊥
+drawn_never None rec info image count e = cc
+drawn_never (Some s) rec info image count e = go (info.size_x == 0 || info.rows == 0) (fills_bytes s info.size_x) e
   where
-    go : (b c : Bool) → (if b then Err NoPixels else if c then Ok (drawing s info image) else Err PartBytes) ≡ Err (Taken count) → ⊥
+    go : (b c : Bool) → (if b then Err NoPixels else if c then Ok (drawing s rec info image) else Err PartBytes) ≡ Err (Taken count) → ⊥
     go true c h = cc
     go false true h = cc
     go false false h = cc
 
-never_taken : (told : Option ImageInfo) (data_len : ℕ) (bytes : List ℕ) (count : ℕ) → picture told data_len bytes ≡ Err (Taken count) → ⊥
-never_taken None data_len bytes count e = cc
-never_taken (Some info) data_len bytes count e = drawn_never (samples_of info.pixel) info (take data_len bytes) count e
-
-drawn_not_of : (s : Option Samples) (info : ImageInfo) (image : List ℕ) (count : ℕ) → drawn_as s info image ≡ Err (NoneOf count) → ⊥
-drawn_not_of None info image count e = cc
-drawn_not_of (Some s) info image count e = go (info.size_x == 0 || info.rows == 0) (fills_bytes s info.size_x) e
+never_taken : (rec : Record) (bytes : List ℕ) (count : ℕ) → picture rec bytes ≡ Err (Taken count) → ⊥
+never_taken rec bytes count e = go rec.image e
   where
-    go : (b c : Bool) → (if b then Err NoPixels else if c then Ok (drawing s info image) else Err PartBytes) ≡ Err (NoneOf count) → ⊥
+    go : (told : Option ImageInfo) → drawn told rec (take rec.data_len bytes) ≡ Err (Taken count) → ⊥
+    go None h = cc
+    go (Some info) h = drawn_never (samples_of info.pixel) rec info (take rec.data_len bytes) count h
+
+drawn_not_of : (s : Option Samples) (rec : Record) (info : ImageInfo) (image : List ℕ) (count : ℕ) → drawn_as s rec info image ≡ Err (NoneOf count) → ⊥
+drawn_not_of None rec info image count e = cc
+drawn_not_of (Some s) rec info image count e = go (info.size_x == 0 || info.rows == 0) (fills_bytes s info.size_x) e
+  where
+    go : (b c : Bool) → (if b then Err NoPixels else if c then Ok (drawing s rec info image) else Err PartBytes) ≡ Err (NoneOf count) → ⊥
     go true c h = cc
     go false true h = cc
     go false false h = cc
 
-never_of : (told : Option ImageInfo) (data_len : ℕ) (bytes : List ℕ) (count : ℕ) → picture told data_len bytes ≡ Err (NoneOf count) → ⊥
-never_of None data_len bytes count e = cc
-never_of (Some info) data_len bytes count e = drawn_not_of (samples_of info.pixel) info (take data_len bytes) count e
+never_of : (rec : Record) (bytes : List ℕ) (count : ℕ) → picture rec bytes ≡ Err (NoneOf count) → ⊥
+never_of rec bytes count e = go rec.image e
+  where
+    go : (told : Option ImageInfo) → drawn told rec (take rec.data_len bytes) ≡ Err (NoneOf count) → ⊥
+    go None h = cc
+    go (Some info) h = drawn_not_of (samples_of info.pixel) rec info (take rec.data_len bytes) count h
 
 -- ---- what a line shows
 
@@ -271,9 +281,9 @@ module _ (line : List ℕ) (n : ℕ) (shown : List ℕ) (s : Taking) (script : O
         → OneEndsBy k s n rest end left reads reads_after written written_after writes writes_after
     drawn_so ends.Done left reads reads_after written written_after writes writes_after drawn = wanted_so (λ p. Draws p written written_after) drawn.0
     drawn_so (ends.NoPicture (Taken count)) left reads reads_after written written_after writes writes_after drawn =
-        absurd (never_taken taking.takes.filling.rec.image taking.takes.filling.rec.data_len taking.takes.filling.bytes count drawn.0)
+        absurd (never_taken taking.takes.filling.rec taking.takes.filling.bytes count drawn.0)
     drawn_so (ends.NoPicture (NoneOf count)) left reads reads_after written written_after writes writes_after drawn =
-        absurd (never_of taking.takes.filling.rec.image taking.takes.filling.rec.data_len taking.takes.filling.bytes count drawn.0)
+        absurd (never_of taking.takes.filling.rec taking.takes.filling.bytes count drawn.0)
     drawn_so (ends.NoPicture NoLeader) left reads reads_after written written_after writes writes_after drawn = (wanted_so (λ p. p ≡ Err NoLeader) drawn.0, drawn.1)
     drawn_so (ends.NoPicture (PixelFormat pixel)) left reads reads_after written written_after writes writes_after drawn = (wanted_so (λ p. p ≡ Err (PixelFormat pixel)) drawn.0, drawn.1)
     drawn_so (ends.NoPicture NoPixels) left reads reads_after written written_after writes writes_after drawn = (wanted_so (λ p. p ≡ Err NoPixels) drawn.0, drawn.1)
@@ -300,7 +310,7 @@ module _ (line : List ℕ) (n : ℕ) (shown : List ℕ) (s : Taking) (script : O
   each_drawn ends.Done written written_after writes writes_after none drawn =
       let d = drawn.0 in
       let text_is : shown_text (picture_of taking.takes.filling) ≡ d.text = ap shown_text d.is in
-      let some : has_text d.text ≡ true = picture_some taking.takes.filling.rec.image taking.takes.filling.rec.data_len taking.takes.filling.bytes d.text d.is in
+      let some : has_text d.text ≡ true = picture_some taking.takes.filling.rec taking.takes.filling.bytes d.text d.is in
       (subst (λ (t : List ℕ). Appends written written_after t) (sym text_is) d.appended, sym (ap has_text text_is ∙ some))
   each_drawn (ends.NoPicture why) written written_after writes writes_after none drawn =
       let text_is : shown_text (picture_of taking.takes.filling) ≡ [] = ap shown_text drawn.0 in (

@@ -38,7 +38,7 @@ pub pictures_show_blocks : PicturesShowBlocks
 pictures_show_blocks c inputs x r frames sent =
     let p : ℕ = c.p in
     let o : Open = r.block.was in
-    let f : Filling = filling_in p o r.given in
+    let f : Filling = filling_in p r.block r.given in
     let holds = r.holds frames sent in
     subst (λ (y : Item). ShowsBlock frames p o y.filling) (sym r.is)
     (record {

@@ -42,7 +42,7 @@ TakenBuffersAreHandedSo =
 -- What the picture of a buffer shows of its block's frame, under a map of frames.
 pub record ShowsBlock (frames : ℕ → Option Frame) (p : ℕ) (o : Open) (filling : Filling) : Type 0 where
   -- marked complete, it's the frame's own
-  pub complete : filling.rec.complete ≡ true → ShowsFrame frames o.block (picture_of filling)
+  pub complete : filling.rec.complete ≡ true → ShowsFrame frames o.block filling.rec (picture_of filling)
   -- in any case it shows the bytes that came, each in its place, and 0 elsewhere
   pub came : (frame : Frame) → frames o.block ≡ Some frame → ShowsWhatCame frame p (kept_in p o) filling
   -- and its sizes and its pixel format are the frame's

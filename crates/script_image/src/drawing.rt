@@ -22,12 +22,11 @@ fn end_by(answer: Result<(), PictureStop>) -> ImageEnd
     }
 }
 
-/// Writes the picture of the buffer at this place, straight from the buffer, by what its record tells of the image.
+/// Writes the picture of the buffer at this place, straight from the buffer, by its record.
 pub(crate) fn draw<K: Sink>(alloc: Global, board: &PlainBoard, place: u8, sink: &mut K) -> ImageEnd
     requires lies { HasBuf board.now place }
     ensures draws { DrawsThere result board.now place (K.written sink.old) (K.written sink.new) (K.faults sink.old) (K.faults sink.new) }
 {
     let buf = board.buf(place);
-    let rec = buf.rec();
-    end_by(write_picture(alloc, rec.image, rec.data_len, buf.bytes(), sink))
+    end_by(write_picture(alloc, buf.rec(), buf.bytes(), sink))
 }

@@ -6,6 +6,7 @@ pub returns : goal.returns
 unfolding digits
 returns c = record {
   grey = refl;
+  incomplete = refl;
   twelve = refl;
   short = refl;
   no_line = refl;

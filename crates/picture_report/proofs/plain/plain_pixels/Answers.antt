@@ -1,4 +1,4 @@
-use Rattle.std.proofs.Common.{◌≡◌, ℕ, List, ◌*◌, ◌≤◌, length, take, refl, ap, ◌∙◌, subst}
+use Rattle.std.proofs.Common.{◌≡◌, ℕ, ◌*◌, ◌≤◌, length, take, refl, ap, ◌∙◌, subst}
 use Rattle.picture_report.proofs.PlainRows.{plain_rows}
 use Rattle.picture_report.proofs.plain.plain_pixels.Goals as goal
 
