@@ -11,3 +11,4 @@ pub mod Sound
 pub mod Sending
 pub mod Order
 pub mod Strangers
+pub mod Renewing

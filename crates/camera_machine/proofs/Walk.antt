@@ -213,7 +213,7 @@ resent_is A s peer bytes moment head c o e = go (is_primary s.holder peer) refl 
     go true p false q f = o.replies head None nothing
     go false p b q f = o.replies head None nothing
 
-obeyed_is : (A : Answered → Type 0) (s : Camera) (peer : Peer) (bytes : List ℕ) (moment : ℕ) (head : CommandHead) (c : Option PlainCommand) → Outcomes A s peer bytes moment
+pub obeyed_is : (A : Answered → Type 0) (s : Camera) (peer : Peer) (bytes : List ℕ) (moment : ℕ) (head : CommandHead) (c : Option PlainCommand) → Outcomes A s peer bytes moment
     → Reads bytes head c → A (obeyed s peer bytes moment head c)
 obeyed_is A s peer bytes moment head c o e =
     any_of A (head.code == PACKETRESEND_CMD) (silent (resent s peer (resend_in head c)))

@@ -5,7 +5,7 @@ use Rattle.gev_types.specs.declared.peer.Peer.{Peer}
 use Rattle.stream_packets.specs.Packets.{StreamPacket}
 use Rattle.control_privilege.specs.declared.holder.Holder.{Holder}
 use Rattle.bootstrap_regs.specs.Addresses.{HEARTBEAT_TIMEOUT, SCP0, SCDA0}
-use Rattle.bootstrap_regs.specs.Words.{word_at, released_words}
+use Rattle.bootstrap_regs.specs.Words.{word_at, with_word, released_words}
 use Rattle.control_privilege.specs.Control.{is_lost}
 use Rattle.resend_store.specs.Shelf.{Shelf, empty_shelf}
 use Rattle.camera_machine.specs.Words.{initial_words}
@@ -52,6 +52,14 @@ new_camera seed shape room = record {
   executed = 0;
   short = false;
 }
+
+-- the register of the current IP address (GigE Vision 2.0, bootstrap registers)
+abbrev pub CURRENT_ADDRESS : ℕ
+CURRENT_ADDRESS = 0x0024
+
+-- the camera with this address in that register
+abbrev pub standing_at : ℕ → Camera → Camera
+standing_at address s = record s { words = with_word s.words CURRENT_ADDRESS address }
 
 -- the stream channel is open while its host port isn't 0
 abbrev pub is_open : Camera → Bool

@@ -8,3 +8,4 @@ pub mod Rows
 pub mod Laws
 pub mod Primary
 pub mod Sending
+pub mod Renewing

@@ -10,6 +10,7 @@ ghost use Rattle.camera_machine.specs.Events.{Event};
 ghost use Rattle.camera_machine.specs.Laws.{NewWordsAreInitial, StateSaysThePast};
 ghost use Rattle.camera_machine.specs.Sending.{FramesAreGenerated, FramesAreShort, PacketsAreSent, PacketsComeInOrder, RepliesSayThePast};
 ghost use Rattle.camera_machine.specs.Primary.{OnePrimary, ControlPasses, StrangerChangesNothing, RefusedWriteEnds, RepeatIsAnswered, BehindIsDropped};
+ghost use Rattle.camera_machine.specs.Renewing.{CommandsRenew, OneControls};
 
 /// At most one peer has control.
 pub fn one_primary()
@@ -92,4 +93,16 @@ pub fn replies_say_the_past()
 /// packets wait give them all, in order, and then nothing waits.
 pub fn packets_come_in_order()
     ensures { (seed : ℕ) (shape : Shape) (room : ℕ) (es : List Event) → PacketsComeInOrder seed shape room es }
+{}
+
+/// Each command of the peer that has control renews its heartbeat: also one that is refused, one that repeats another, and
+/// one whose body hasn't the form of its code.
+pub fn commands_renew_the_heartbeat()
+    ensures { (s : Camera) → CommandsRenew s }
+{}
+
+/// Whoever has control keeps it until it is released or its heartbeat runs out. Until then the writes of all others are
+/// refused, and their datagrams change nothing.
+pub fn one_controls()
+    ensures { (s : Camera) → OneControls s }
 {}

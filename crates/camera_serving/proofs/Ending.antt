@@ -9,20 +9,22 @@ use Rattle.camera_serving.specs.declared.ends.TurnsEnd.TheVariants.{Over, Fault,
 use Rattle.camera_serving.specs.declared.ends.SimulateEnd.TheVariants.{LinkFault}
 use Rattle.camera_serving.specs.Turning.{EndsTurns, WroteEnd}
 
-pub turns_steady : (end : TurnsEnd) (most : ℕ) (with_input : Bool) (left : Option (List ℕ)) (s new : Camera) (v w : Wire) (told now_told : Option (List ℕ))
-    → EndsTurns end most with_input left s new v w told now_told → end ≢ Fault → w.faults ≡ v.faults
-turns_steady (Over turns frames) most with_input left s new v w told now_told ends other = ends.1.on.no_fault
-turns_steady NoMemory most with_input left s new v w told now_told ends other = ends.part.sends.ends ∙ (ends.part.unfailed ∙ ends.begins.on.on.no_fault)
-turns_steady Fault most with_input left s new v w told now_told ends other = absurd (other refl)
+pub turns_steady : (end : TurnsEnd) (rate most : ℕ) (with_input : Bool) (left left_after : Option (List ℕ)) (s new : Camera) (v w : Wire) (told now_told : Option (List ℕ))
+    → EndsTurns end rate most with_input left left_after s new v w told now_told → end ≢ Fault → w.faults ≡ v.faults
+turns_steady (Over turns frames) rate most with_input left left_after s new v w told now_told (inl spent) other = spent.serves.on.no_fault
+turns_steady (Over turns frames) rate most with_input left left_after s new v w told now_told (inr ended) other = ended.serves.on.no_fault
+turns_steady NoMemory rate most with_input left left_after s new v w told now_told ends other =
+    ends.part.sends.ends ∙ (ends.part.unfailed ∙ ends.begins.serves.on.no_fault)
+turns_steady Fault rate most with_input left left_after s new v w told now_told ends other = absurd (other refl)
 
-pub turns_failed : (end : TurnsEnd) (most : ℕ) (with_input : Bool) (left : Option (List ℕ)) (s new : Camera) (v w : Wire) (told now_told : Option (List ℕ))
-    → EndsTurns end most with_input left s new v w told now_told → end ≡ Fault → Rose v.faults w.faults
-turns_failed (Over turns frames) most with_input left s new v w told now_told ends is = let bad : ⊥ = cc in absurd bad
-turns_failed NoMemory most with_input left s new v w told now_told ends is = let bad : ⊥ = cc in absurd bad
-turns_failed Fault most with_input left s new v w told now_told (inl missing) is =
-    subst (λ n. Rose n w.faults) missing.begins.on.on.no_fault missing.misses.rose
-turns_failed Fault most with_input left s new v w told now_told (inr cut) is =
-    subst (λ n. Rose n w.faults) (cut.part.unfailed ∙ cut.begins.on.on.no_fault) cut.part.sends.ends
+pub turns_failed : (end : TurnsEnd) (rate most : ℕ) (with_input : Bool) (left left_after : Option (List ℕ)) (s new : Camera) (v w : Wire) (told now_told : Option (List ℕ))
+    → EndsTurns end rate most with_input left left_after s new v w told now_told → end ≡ Fault → Rose v.faults w.faults
+turns_failed (Over turns frames) rate most with_input left left_after s new v w told now_told ends is = let bad : ⊥ = cc in absurd bad
+turns_failed NoMemory rate most with_input left left_after s new v w told now_told ends is = let bad : ⊥ = cc in absurd bad
+turns_failed Fault rate most with_input left left_after s new v w told now_told (inl missing) is =
+    subst (λ n. Rose n w.faults) missing.begins.serves.on.no_fault missing.misses.rose
+turns_failed Fault rate most with_input left left_after s new v w told now_told (inr cut) is =
+    subst (λ n. Rose n w.faults) (cut.part.unfailed ∙ cut.begins.serves.on.no_fault) cut.part.sends.ends
 
 -- a run ends by a link's fault only where a turn did
 pub faults_of_turns : (turns : TurnsEnd) (written written_after : Option (List ℕ)) → WroteEnd turns LinkFault written written_after → turns ≡ Fault

@@ -1,2 +1,5 @@
 mod Serves
+mod Looks
+mod Ordering
+mod Cutting
 mod Ending

@@ -1,91 +1,126 @@
--- Turns of a simulated camera on the network, how they end, and what is written then.
-use Rattle.std.specs.Prelude.{◌≡◌, ◌⊎◌, ℕ, ◌+◌, ◌<◌, ◌≤◌, Bool, true, List, [], ◌∷◌, codes, length, Option, Some, None}
+-- How the turns of a simulated camera go on and end, and what is written then.
+use Rattle.std.specs.Prelude.{◌≡◌, ◌⊎◌, ℕ, ◌+◌, ◌<◌, ◌≤◌, ◌&&◌, Bool, true, false, List, [], ◌∷◌, codes, Option, Some, None, is_none, Result, Ok, Err}
 use Rattle.std.specs.List.{concat}
 use Rattle.std.specs.Fmt.{decimal}
 use Rattle.camera_machine.specs.Camera.{Camera}
 use Rattle.gev_links.specs.Links.{Adds}
-use Rattle.gev_links.specs.Moments.{TellsEach}
+use Rattle.gev_links.specs.Moments.{Tells, TellsEach}
 use Rattle.gev_links.specs.Told.{Appends, WritesPart, IsSpent}
-use Rattle.gev_serve.specs.Wires.{Wire, SendEnd, send_failed, gave_up}
-use Rattle.gev_serve.specs.Turns.{Served, framed_turn, block_in, after_turns, sent_over, answers_in, moments_in}
-use Rattle.gev_serve.specs.Serving.{MakesPart, MissesReceive}
+use Rattle.gev_serve.specs.Wires.{Wire, SendEnd, all_sent, send_failed, gave_up, Sends}
+use Rattle.gev_serve.specs.Turns.{Served, answer_with}
+use Rattle.gev_serve.specs.Serving.{MissesReceive}
+use Rattle.camera_serving.specs.declared.kinds.TurnKind.{TurnKind}
+use Rattle.camera_serving.specs.declared.kinds.Made.{Made}
+use Rattle.camera_serving.specs.declared.kinds.Cut.{Cut}
+use Rattle.camera_serving.specs.declared.kinds.Cut.TheVariants as cuts
 use Rattle.camera_serving.specs.declared.ends.TurnsEnd.{TurnsEnd}
 use Rattle.camera_serving.specs.declared.ends.TurnsEnd.TheVariants as turns
 use Rattle.camera_serving.specs.declared.ends.SimulateEnd.{SimulateEnd}
 use Rattle.camera_serving.specs.declared.ends.SimulateEnd.TheVariants.{Done, LinkFault, WriteFault, NoMemory}
+use Rattle.camera_serving.specs.Turns.{Turn, sent_by, camera_after, block_by, camera_over, sent_over, answers_over, moments_over, frames_over, frame_turns, next_kind, AreInOrder, is_look_due, LooksSo, LooksOver}
+
+-- ---- one turn
+
+-- A turn received once and read the clock once, and sent what it had to send up to this end.
+pub record TakesPart (kind : TurnKind) (end : SendEnd) (s : Camera) (v w : Wire) (told now_told : Option (List ℕ)) : Type 0 where
+  pub turn : Served
+  pub heard : Wire
+  pub received : Tells v.received heard.received (answer_with turn.arrived)
+  pub unsent : heard.sent ≡ v.sent
+  pub unfailed : heard.faults ≡ v.faults
+  pub moment : Tells told now_told turn.moment
+  pub sends : Sends (sent_by kind s turn) end heard w
+
+-- So it did to its end, left the camera that comes of it, and told this.
+pub record TakesWhole (kind : TurnKind) (made : Made) (s new : Camera) (v w : Wire) (told now_told : Option (List ℕ)) : Type 0 where
+  pub part : TakesPart kind all_sent s v w told now_told
+  pub state : new ≡ camera_after kind s part.turn
+  pub moment : made.moment ≡ part.turn.moment
+  pub is_quiet : made.is_quiet ≡ is_none part.turn.arrived
+  pub block : made.block ≡ block_by kind s part.turn
+
+abbrev pub TakesTurn : TurnKind → Result Made Cut → Camera → Camera → Wire → Wire → Option (List ℕ) → Option (List ℕ) → Type 0
+TakesTurn kind (Ok made) s new v w told now_told = TakesWhole kind made s new v w told now_told
+TakesTurn kind (Err cuts.Fault) s new v w told now_told = MissesReceive s new v w told now_told ⊎ TakesPart kind send_failed s v w told now_told
+TakesTurn kind (Err cuts.NoMemory) s new v w told now_told = TakesPart kind gave_up s v w told now_told
 
 -- ---- whole turns
 
--- one frame, or none
-abbrev pub one_if : Option ℕ → ℕ
-one_if None = 0
-one_if (Some block) = 1
-
--- how many frames were made in these turns from a camera on, over all openings of its channel
-abbrev pub frames_over : Camera → List Served → ℕ
-frames_over s [] = 0
-frames_over s (t ∷ ts) = one_if (block_in s t) + frames_over (framed_turn s t).camera ts
-
 -- These turns were made from a camera on, each to its end: all that they send was sent, in order.
-pub record MakesTurns (s now : Camera) (v w : Wire) (told now_told : Option (List ℕ)) (made : List Served) : Type 0 where
-  pub received : TellsEach v.received w.received (answers_in made)
-  pub moments : TellsEach told now_told (moments_in made)
+pub record MakesTurns (s now : Camera) (v w : Wire) (told now_told : Option (List ℕ)) (made : List Turn) : Type 0 where
+  pub received : TellsEach v.received w.received (answers_over made)
+  pub moments : TellsEach told now_told (moments_over made)
   pub sent : Adds v.sent w.sent (sent_over s made)
   pub no_fault : w.faults ≡ v.faults
-  pub state : now ≡ after_turns s made
+  pub state : now ≡ camera_over s made
 
--- So many were made, with so many frames, of which each turn makes one at most.
-pub record ServesFor (s now : Camera) (v w : Wire) (told now_told : Option (List ℕ)) (turns frames : ℕ) : Type 0 where
-  pub made : List Served
+-- They came in their order, with looks at standard input before those that have to have one. So many of them were frame
+-- turns, with so many frames, of which each makes one at most.
+pub record Serves (rate : ℕ) (with_input : Bool) (s now : Camera) (v w : Wire) (told now_told left now_left : Option (List ℕ)) (turns frames : ℕ) (made : List Turn) : Type 0 where
   pub on : MakesTurns s now v w told now_told made
-  pub number : length made ≡ turns
+  pub order : AreInOrder rate made
+  pub looks : LooksOver with_input made left now_left
+  pub number : frame_turns made ≡ turns
   pub frames_are : frames_over s made ≡ frames
   pub few : frames ≤ turns
   pub count : now.shelf.count ≤ s.shelf.count + turns
 
 -- ---- how they end
 
--- standard input was looked at, and had ended
-pub record HadEnded (with_input : Bool) (left : Option (List ℕ)) : Type 0 where
-  pub looks : with_input ≡ true
-  pub spent : IsSpent left
+-- All frame turns were made.
+pub record EndsSpent (rate : ℕ) (with_input : Bool) (s new : Camera) (v w : Wire) (told now_told left left_after : Option (List ℕ)) (turns frames most : ℕ) : Type 0 where
+  pub made : List Turn
+  pub serves : Serves rate with_input s new v w told now_told left left_after turns frames made
+  pub all : turns ≡ most
 
--- all turns were made, or fewer and standard input had ended
-abbrev pub IsOver : ℕ → ℕ → Bool → Option (List ℕ) → Type 0
-IsOver turns most with_input left = (turns ≡ most) ⊎ ((turns < most) × HadEnded with_input left)
+-- Fewer were made, and standard input, which was to be looked at before the next turn, had ended.
+pub record EndsByInput (rate : ℕ) (with_input : Bool) (s new : Camera) (v w : Wire) (told now_told left left_after : Option (List ℕ)) (turns frames most : ℕ) : Type 0 where
+  pub made : List Turn
+  pub middle : Option (List ℕ)
+  pub serves : Serves rate with_input s new v w told now_told left middle turns frames made
+  pub few : turns < most
+  pub look : LooksSo true (with_input && is_look_due made) middle left_after
+  pub spent : IsSpent left_after
 
--- Fewer turns than there may be were made whole, and one more began.
-pub record Begins (s now : Camera) (v w : Wire) (told now_told : Option (List ℕ)) (most : ℕ) : Type 0 where
+-- Fewer were made, and one more turn began, with a look before it where it has to have one.
+pub record Begins (rate : ℕ) (with_input : Bool) (s now : Camera) (v w : Wire) (told now_told left left_after : Option (List ℕ)) (most : ℕ) : Type 0 where
+  pub made : List Turn
   pub turns : ℕ
   pub frames : ℕ
+  pub middle : Option (List ℕ)
+  pub serves : Serves rate with_input s now v w told now_told left middle turns frames made
   pub few : turns < most
-  pub on : ServesFor s now v w told now_told turns frames
+  pub look : LooksSo false (with_input && is_look_due made) middle left_after
 
 -- its receive failed
-pub record EndsMissing (s new : Camera) (v w : Wire) (told now_told : Option (List ℕ)) (most : ℕ) : Type 0 where
+pub record EndsMissing (rate : ℕ) (with_input : Bool) (s new : Camera) (v w : Wire) (told now_told left left_after : Option (List ℕ)) (most : ℕ) : Type 0 where
   pub camera : Camera
   pub between : Wire
   pub mid_told : Option (List ℕ)
-  pub begins : Begins s camera v between told mid_told most
+  pub begins : Begins rate with_input s camera v between told mid_told left left_after most
   pub misses : MissesReceive camera new between w mid_told now_told
 
 -- it was cut short
-pub record EndsCut (end : SendEnd) (s : Camera) (v w : Wire) (told now_told : Option (List ℕ)) (most : ℕ) : Type 0 where
+pub record EndsCut (end : SendEnd) (rate : ℕ) (with_input : Bool) (s : Camera) (v w : Wire) (told now_told left left_after : Option (List ℕ)) (most : ℕ) : Type 0 where
   pub camera : Camera
   pub between : Wire
   pub mid_told : Option (List ℕ)
-  pub begins : Begins s camera v between told mid_told most
-  pub part : MakesPart end camera between w mid_told now_told
+  pub begins : Begins rate with_input s camera v between told mid_told left left_after most
+  pub part : TakesPart (next_kind rate begins.made) end camera between w mid_told now_told
 
-abbrev pub EndsTurns : TurnsEnd → ℕ → Bool → Option (List ℕ) → Camera → Camera → Wire → Wire → Option (List ℕ) → Option (List ℕ) → Type 0
-EndsTurns (turns.Over turns frames) most with_input left s new v w told now_told =
-    IsOver turns most with_input left × ServesFor s new v w told now_told turns frames
-EndsTurns turns.Fault most with_input left s new v w told now_told =
-    EndsMissing s new v w told now_told most ⊎ EndsCut send_failed s v w told now_told most
-EndsTurns turns.NoMemory most with_input left s new v w told now_told = EndsCut gave_up s v w told now_told most
+abbrev pub EndsTurns : TurnsEnd → ℕ → ℕ → Bool → Option (List ℕ) → Option (List ℕ) → Camera → Camera → Wire → Wire → Option (List ℕ) → Option (List ℕ) → Type 0
+EndsTurns (turns.Over turns frames) rate most with_input left left_after s new v w told now_told =
+    EndsSpent rate with_input s new v w told now_told left left_after turns frames most
+    ⊎ EndsByInput rate with_input s new v w told now_told left left_after turns frames most
+EndsTurns turns.Fault rate most with_input left left_after s new v w told now_told =
+    EndsMissing rate with_input s new v w told now_told left left_after most
+    ⊎ EndsCut send_failed rate with_input s v w told now_told left left_after most
+EndsTurns turns.NoMemory rate most with_input left left_after s new v w told now_told =
+    EndsCut gave_up rate with_input s v w told now_told left left_after most
 
 -- ---- the line
 
+-- the frames, and the frame turns
 abbrev pub simulate_line : ℕ → ℕ → List ℕ
 simulate_line frames turns = concat (codes "simulate frames=" ∷ decimal frames ∷ codes " turns=" ∷ decimal turns ∷ codes "\n" ∷ [])
 

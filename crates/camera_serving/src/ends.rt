@@ -3,7 +3,7 @@
 pub enum TurnsEnd {
     /// All were made, or standard input had ended where it was to be looked at.
     Over {
-        /// How many turns were made.
+        /// How many frame turns were made.
         turns: u64,
         /// How many frames were made in them and sent, over all openings of the stream channel.
         frames: u64,

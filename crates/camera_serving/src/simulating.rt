@@ -9,7 +9,7 @@ use crate::finishing::finish;
 use crate::turning::serve_turns;
 use camera_sim::Camera;
 use camera_words::SimulateWords;
-use gev_far::FarPorts;
+use gev_far::{FarPorts, TimedLink};
 use gev_links::{Sink, Source};
 use gev_types::{Peer, Shape};
 use std::alloc::Global;
@@ -42,8 +42,8 @@ fn control_peer(address: u32) -> Peer
     }
 }
 
-/// Simulates a camera at an address of this machine, over a link that the ports bind at its control port and get back
-/// with the two clocks: as `serve_turns`. Behind the turns it writes a line.
+/// Simulates a camera at an address of this machine, which it tells as its own, over a link that the ports bind at its
+/// control port and get back with the clock: as `serve_turns`. Behind the turns it writes a line.
 pub fn simulate<R: Wait, S: Source, P: FarPorts, K: Sink>(
     rt: &R,
     alloc: Global,
@@ -52,8 +52,10 @@ pub fn simulate<R: Wait, S: Source, P: FarPorts, K: Sink>(
     ports: &mut P,
     sink: &mut K,
 ) -> SimulateEnd
+where
+    P::L: TimedLink,
     ensures simulates { Simulates P.L.received P.L.sent P.L.faults P.C.told P.stands_at words result (P.bound ports.old) (P.bound ports.new)
-        (P.links ports.old) (P.links ports.new) (P.clocks ports.old) (P.clocks ports.new) (S.left source.new) (K.written sink.old) (K.written sink.new) }
+        (P.links ports.old) (P.links ports.new) (P.clocks ports.old) (P.clocks ports.new) (S.left source.old) (S.left source.new) (K.written sink.old) (K.written sink.new) }
     ensures unread { words.with_input ≡ false → S.left source.new ≡ S.left source.old }
     ensures reads_steady { S.faults source.new ≡ S.faults source.old }
     ensures binds { P.binds ports.new ≤ P.binds ports.old + 1 }
@@ -62,14 +64,14 @@ pub fn simulate<R: Wait, S: Source, P: FarPorts, K: Sink>(
     ensures sink_steady { result ≢ SimulateEnd.WriteFault → K.faults sink.new ≡ K.faults sink.old }
     ensures sink_failed { result ≡ SimulateEnd.WriteFault → Rose (K.faults sink.old) (K.faults sink.new) }
 {
-    let Ok(mut camera) = Camera::new(alloc, words.seed, shape(), KEPT_FRAMES) else {
+    let Ok(mut camera) = Camera::new_at(alloc, words.address, words.seed, shape(), KEPT_FRAMES)
+    else {
         return SimulateEnd::NoMemory;
     };
     let Ok((mut link, _)) = ports.bind_at(control_peer(words.address)) else {
         return SimulateEnd::LinkFault;
     };
     let mut clock = ports.clock();
-    let mut rests = ports.clock();
     let end = serve_turns(
         rt,
         alloc,
@@ -78,10 +80,8 @@ pub fn simulate<R: Wait, S: Source, P: FarPorts, K: Sink>(
         &mut camera,
         &mut link,
         &mut clock,
-        &mut rests,
     );
     ports.unbind(link);
     ports.unclock(clock);
-    ports.unclock(rests);
     finish(alloc, sink, end)
 }

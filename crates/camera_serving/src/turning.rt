@@ -1,16 +1,22 @@
 //! Turns over a link.
 
-ghost use Rattle.std.specs.Prelude.{◌≡◌, ◌≢◌, ◌+◌, ◌-◌, ◌^◌, ◌<◌, ◌≤◌, false};
+ghost use Rattle.std.specs.Prelude.{◌≡◌, ◌≢◌, ◌+◌, ◌-◌, ◌^◌, ◌<◌, ◌≤◌, false, length, IfSome};
 ghost use Rattle.gev_links.specs.Faults.{Rose};
-ghost use Rattle.gev_serve.specs.Wires.{wire};
-ghost use Rattle.camera_serving.specs.Turning.{one_if, EndsTurns};
+ghost use Rattle.gev_serve.specs.Wires.{wire, Sends};
+ghost use Rattle.gev_serve.specs.Turns.{arrived};
+ghost use Rattle.gev_serve.specs.Serving.{sends_end, IfGoesOn, IsBlock};
+ghost use Rattle.camera_serving.specs.Turns.{sent_by, camera_after, block_by, one_if, one_if_framing};
+ghost use Rattle.camera_serving.specs.Turning.{TakesTurn, EndsTurns};
 
 use crate::ends::TurnsEnd;
+use crate::kinds::{Cut, Made, TurnKind};
 use crate::pacing::{Pace, has_ended};
 use camera_sim::Camera;
 use camera_words::SimulateWords;
+use gev_far::TimedLink;
 use gev_links::{Clock, Link, Source};
-use gev_serve::{RECEIVE_ROOM, Rooms, ServeTurn, make_turn};
+use gev_serve::{RECEIVE_ROOM, Rooms, ServeTurn, hear_and_send, serve_once};
+use gev_types::Peer;
 use std::alloc::Global;
 use std::sync::Wait;
 
@@ -25,10 +31,80 @@ fn with_frame(frames: u64, block: Option<u64>) -> u64
     }
 }
 
-/// Makes a camera's turns over its link: in each it receives once, reads the clock once, and makes the camera's turn
-/// with what came. Before each it rests, by the other clock, and where the words say so looks whether standard input
-/// has ended, which ends the turns too.
-pub fn serve_turns<R: Wait, S: Source, L: Link, C: Clock>(
+/// So many frame turns, with a turn of this kind.
+fn with_turn(turns: u64, kind: TurnKind) -> u64
+    requires { turns < 2 ^ 64 - 1 }
+    ensures { result ≡ turns + one_if_framing kind }
+{
+    match kind {
+        TurnKind::Serving => turns,
+        TurnKind::Framing => turns + 1,
+    }
+}
+
+/// Makes the camera's turn of this kind with what came: so many of `bytes`. The moment is in milliseconds.
+fn serve_as<L: Link>(
+    alloc: Global,
+    kind: TurnKind,
+    camera: &mut Camera,
+    link: &mut L,
+    came: Option<(usize, Peer)>,
+    bytes: &[u8],
+    moment: u64,
+    rooms: &mut Rooms,
+) -> ServeTurn
+    requires fits { IfSome came (λ datagram. datagram.0 ≤ length bytes.now) }
+    requires count { camera.old.shelf.count < 2 ^ 64 - 1 }
+    ensures sends { Sends (sent_by kind camera.old (record { arrived = arrived came bytes.now; moment = moment })) (sends_end result)
+        (wire (L.received link.old) (L.sent link.old) (L.faults link.old)) (wire (L.received link.new) (L.sent link.new) (L.faults link.new)) }
+    ensures state { IfGoesOn result (camera.new ≡ camera_after kind camera.old (record { arrived = arrived came bytes.now; moment = moment })) }
+    ensures block { IsBlock result (block_by kind camera.old (record { arrived = arrived came bytes.now; moment = moment })) }
+{
+    match kind {
+        TurnKind::Serving => match hear_and_send(camera, link, came, bytes, moment, rooms) {
+            Ok(()) => ServeTurn::GoesOn(None),
+            Err(_failed) => ServeTurn::Fault,
+        },
+        TurnKind::Framing => serve_once(alloc, camera, link, came, bytes, moment, rooms),
+    }
+}
+
+/// Receives once, for so many milliseconds at most where nothing is there, reads the clock once, and makes the camera's turn
+/// of this kind with what came.
+fn make_turn<L: TimedLink, C: Clock>(
+    alloc: Global,
+    kind: TurnKind,
+    wait: u32,
+    camera: &mut Camera,
+    link: &mut L,
+    clock: &mut C,
+    room: &mut [u8; RECEIVE_ROOM],
+    rooms: &mut Rooms,
+) -> Result<Made, Cut>
+    requires { camera.old.shelf.count < 2 ^ 64 - 1 }
+    ensures { TakesTurn kind result camera.old camera.new
+        (wire (L.received link.old) (L.sent link.old) (L.faults link.old)) (wire (L.received link.new) (L.sent link.new) (L.faults link.new))
+        (C.told clock.old) (C.told clock.new) }
+{
+    let Ok(came) = link.recv_within(room, wait) else {
+        return Err(Cut::Fault);
+    };
+    let moment = clock.now();
+    match serve_as(alloc, kind, camera, link, came, room, moment, rooms) {
+        ServeTurn::GoesOn(block) => Ok(Made {
+            moment,
+            is_quiet: came.is_none(),
+            block,
+        }),
+        ServeTurn::Fault => Err(Cut::Fault),
+        ServeTurn::NoMemory => Err(Cut::NoMemory),
+    }
+}
+
+/// Makes a camera's turns over its link: in each it receives once, reads the clock once, and serves what came. So many of
+/// them also make a frame, so many a second; between two of these what comes is served at once. Where the words say so it
+/// looks at standard input before the first turn, and then every 100 milliseconds: where that has ended the turns end too.
+pub fn serve_turns<R: Wait, S: Source, L: TimedLink, C: Clock>(
     rt: &R,
     alloc: Global,
     words: &SimulateWords,
@@ -36,10 +112,9 @@ pub fn serve_turns<R: Wait, S: Source, L: Link, C: Clock>(
     camera: &mut Camera,
     link: &mut L,
     clock: &mut C,
-    rests: &mut C,
 ) -> TurnsEnd
     requires count { camera.old.shelf.count + words.now.turns ≤ 2 ^ 64 - 1 }
-    ensures ends { EndsTurns result words.now.turns words.now.with_input (S.left source.new) camera.old camera.new
+    ensures ends { EndsTurns result words.now.rate words.now.turns words.now.with_input (S.left source.old) (S.left source.new) camera.old camera.new
         (wire (L.received link.old) (L.sent link.old) (L.faults link.old)) (wire (L.received link.new) (L.sent link.new) (L.faults link.new))
         (C.told clock.old) (C.told clock.new) }
     ensures unread { words.now.with_input ≡ false → S.left source.new ≡ S.left source.old }
@@ -50,22 +125,28 @@ pub fn serve_turns<R: Wait, S: Source, L: Link, C: Clock>(
     let mut room = [0; RECEIVE_ROOM];
     let mut rooms = Rooms::new();
     let mut pace = Pace::new(words.rate);
+    let mut turns = 0;
     let mut frames = 0;
-    for turn in 0..words.turns {
-        if has_ended(rt, words.with_input, source, rests, &mut pace) {
-            return TurnsEnd::Over {
-                turns: turn,
-                frames,
-            };
+    'turns: for _ in rt.forever() {
+        if turns >= words.turns {
+            return TurnsEnd::Over { turns, frames };
         }
-        match make_turn(alloc, camera, link, clock, &mut room, &mut rooms) {
-            ServeTurn::GoesOn(block) => frames = with_frame(frames, block),
-            ServeTurn::Fault => return TurnsEnd::Fault,
-            ServeTurn::NoMemory => return TurnsEnd::NoMemory,
+        if has_ended(words.with_input, source, &pace) {
+            return TurnsEnd::Over { turns, frames };
+        }
+        let kind = pace.next_kind();
+        let wait = pace.wait();
+        match make_turn(
+            alloc, kind, wait, camera, link, clock, &mut room, &mut rooms,
+        ) {
+            Ok(made) => {
+                pace.pass(kind, made);
+                frames = with_frame(frames, made.block);
+                turns = with_turn(turns, kind);
+            }
+            Err(Cut::Fault) => return TurnsEnd::Fault,
+            Err(Cut::NoMemory) => return TurnsEnd::NoMemory,
         }
     }
-    TurnsEnd::Over {
-        turns: words.turns,
-        frames,
-    }
+    unreachable!()
 }

@@ -11,7 +11,7 @@ use Rattle.bootstrap_regs.specs.Addresses.{CCP, SCP0, SCPS0, WORDS, END}
 use Rattle.bootstrap_regs.specs.Registers.{register_at, initial_at, is_packet_size, address_refusal, value_refusal}
 use Rattle.bootstrap_regs.specs.Words.{word_at, with_word, released_words}
 use Rattle.bootstrap_regs.specs.Changes.{Holds}
-use Rattle.camera_machine.specs.Camera.{Job}
+use Rattle.camera_machine.specs.Camera.{Job, CURRENT_ADDRESS}
 use Rattle.camera_machine.proofs.Words.{is_word}
 use Rattle.camera_sim.specs.declared.kept.Kept.{Kept as KeptSizes}
 use Rattle.camera_sim.specs.Seen.{AreRegisters, IsCamera}
@@ -155,6 +155,30 @@ written_camera shape short words after waiting kept command answer address value
   command_size = h.command_size;
   answer_size = h.answer_size;
 }
+
+-- the camera's own address is written
+pub standing_camera : (shape : Shape) (short : Bool) (words after : List ℕ) (waiting : List Job) (kept : Option KeptSizes) (command answer : List ℕ) (address : ℕ)
+    → after ≡ with_word words CURRENT_ADDRESS address → IsCamera shape short words waiting kept command answer
+    → IsCamera shape short after waiting kept command answer
+standing_camera shape short words after waiting kept command answer address is h = record {
+  image = h.image;
+  lines = h.lines;
+  registers = subst AreRegisters (sym is) registers;
+  closed = λ z. h.closed (sym port ∙ sym (ap (λ (ws : List ℕ). word_at ws SCP0) is) ∙ z);
+  keeps = h.keeps;
+  command_size = h.command_size;
+  answer_size = h.answer_size;
+}
+  where
+    port : word_at (with_word words CURRENT_ADDRESS address) SCP0 ≡ word_at words SCP0
+    port = other_word words CURRENT_ADDRESS address SCP0 refl refl (λ k. absurd (cc))
+
+    registers : AreRegisters (with_word words CURRENT_ADDRESS address)
+    registers = record {
+      size = simp length-set h.registers.size;
+      port = omega (arith, port, h.registers.port);
+      packet_size = ap is_packet_size (other_word words CURRENT_ADDRESS address SCPS0 refl refl (λ k. absurd (cc))) ∙ h.registers.packet_size;
+    }
 
 -- the port is written, and what waits is dropped where it's 0
 pub port_camera : (shape : Shape) (short : Bool) (words after : List ℕ) (waiting left : List Job) (kept : Option KeptSizes) (command answer : List ℕ) (value : ℕ)

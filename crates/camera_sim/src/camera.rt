@@ -22,10 +22,13 @@ use std::marker::Model;
 // The headers of IP, UDP and the stream, which a packet's size counts.
 const HEADER_BYTES: u32 = 48;
 
+// The register of the camera's own address (GigE Vision 2.0, current IP address).
+const CURRENT_ADDRESS: u32 = 0x0024;
+
 /// A simulated camera with one stream channel.
 ///
-/// Contracts see the state of the machine that the crate `camera_machine` defines. Only `new` and
-/// `frame` take memory, for the list of held frames and for the bytes of one image.
+/// Contracts see the state of the machine that the crate `camera_machine` defines. Only `new`, `new_at`
+/// and `frame` take memory, for the list of held frames and for the bytes of one image.
 #[derive(Drop)]
 pub struct Camera {
     seed: u64,
@@ -68,7 +71,7 @@ impl Camera {
     ghost use Rattle.bootstrap_regs.specs.Registers.{address_refusal};
     ghost use Rattle.bootstrap_regs.specs.Words.{word_at};
     ghost use Rattle.control_privilege.specs.Control.{is_primary};
-    ghost use Rattle.camera_machine.specs.Camera.{new_camera, is_open, stream_peer, released};
+    ghost use Rattle.camera_machine.specs.Camera.{new_camera, standing_at, is_open, stream_peer, released};
     ghost use Rattle.camera_machine.specs.Stream.{payload_size_of, waiting_count, first_waiting};
     ghost use Rattle.camera_machine.specs.Commands.{renewed, commanded};
     ghost use Rattle.camera_machine.specs.Events.{step, command, tick, make_frame, next_packet, set_short};
@@ -99,6 +102,31 @@ impl Camera {
             executed: 0,
             short: false,
         })
+    }
+
+    /// The same of a camera whose register of its own address tells this one.
+    pub fn new_at(
+        alloc: Global,
+        address: u32,
+        seed: u64,
+        shape: Shape,
+        frames: u8,
+    ) -> Result<Camera, NoMemory>
+        requires image { IsImageSize (shape_size shape) }
+        requires some { 1 ≤ frames }
+        requires few { frames ≤ 8 }
+        ensures { IfOk result (λ camera. camera ≡ standing_at address (new_camera seed shape frames)) }
+    {
+        let mut camera = Camera::new(alloc, seed, shape, frames)?;
+        camera.stand_at(address);
+        Ok(camera)
+    }
+
+    // Lets the camera tell this as its own address.
+    fn stand_at(&mut self, address: u32)
+        ensures { self.new ≡ standing_at address self.old }
+    {
+        self.regs.put(CURRENT_ADDRESS, address);
     }
 
     // The word at an address where there is one.

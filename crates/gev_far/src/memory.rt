@@ -4,7 +4,8 @@ ghost use Rattle.std.specs.Prelude.{⊤};
 
 use crate::far_ports::FarPorts;
 use crate::peek_link::PeekLink;
-use gev_links::{CountsFaults, Failed, MemoryLink, MemoryPorts, Ports};
+use crate::timed_link::TimedLink;
+use gev_links::{CountsFaults, Failed, Link, MemoryLink, MemoryPorts, Ports};
 use gev_types::Peer;
 
 impl<'a> PeekLink for MemoryLink<'a> {
@@ -14,6 +15,16 @@ impl<'a> PeekLink for MemoryLink<'a> {
 
     /// A link in memory never waits.
     fn set_waiting(&mut self, _waits: bool) {}
+}
+
+impl<'a> TimedLink for MemoryLink<'a> {
+    fn recv_within(
+        &mut self,
+        out: &mut [u8],
+        _millis: u32,
+    ) -> Result<Option<(usize, Peer)>, Failed> {
+        self.recv(out)
+    }
 }
 
 impl<'a, L: CountsFaults + Send + Drop> FarPorts for MemoryPorts<'a, L> {

@@ -15,5 +15,5 @@ mod working; // the worker, with what it works with by value
 pub use ends::{ServeEnd, ServeTurn};
 pub use rooms::Rooms;
 pub use serving::{RECEIVE_ROOM, make_turn, serve};
-pub use turns::serve_once;
+pub use turns::{hear_and_send, serve_once};
 pub use working::{CameraDone, work_camera};

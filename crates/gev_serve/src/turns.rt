@@ -61,8 +61,9 @@ fn hear<L: Link>(
     }
 }
 
-/// The same, and then sends all packets that wait.
-fn hear_and_send<L: Link>(
+/// A turn that makes no frame: the camera obeys the command that came, or looks at its heartbeat where none came, and its
+/// acknowledge and what waits are sent. The datagram is so many of `bytes`; the moment is in milliseconds.
+pub fn hear_and_send<L: Link>(
     camera: &mut Camera,
     link: &mut L,
     came: Option<(usize, Peer)>,

@@ -10,5 +10,5 @@ returns-clause-link_failed g c =
     (c.serve_turns-end.ensures.link_failed
     (faults_of_turns c.serve_turns-end.result (g.K.Sink.written c.args.sink.now) (g.K.Sink.written c.finish.new.sink)
     (subst (λ end. WroteEnd c.serve_turns-end.result end (g.K.Sink.written c.args.sink.now) (g.K.Sink.written c.finish.new.sink)) is c.finish.ensures.wrote)))
-    (c.clock-rests.ensures.faults ∙ (c.clock-clock.ensures.faults ∙ c.in-Ok-bind_at.ensures.no_fault))
-    c.unbind.ensures.faults (c.unclock-2.ensures.faults ∙ c.unclock.ensures.faults)
+    (c.clock-clock.ensures.faults ∙ c.in-Ok-bind_at.ensures.no_fault)
+    c.unbind.ensures.faults c.unclock.ensures.faults

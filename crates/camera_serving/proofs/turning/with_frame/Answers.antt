@@ -1,6 +1,6 @@
 -- A turn's frame counts as one.
 use Rattle.std.proofs.Common.{◌+◌, ℕ, Option, ap, sym}
-use Rattle.camera_serving.specs.Turning.{one_if}
+use Rattle.camera_serving.specs.Turns.{one_if}
 use Rattle.camera_serving.proofs.turning.with_frame.Goals as goal
 
 pub returns-in-Some : goal.returns-in-Some
