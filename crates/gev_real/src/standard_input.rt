@@ -4,6 +4,7 @@ use gev_links::{Failed, Source};
 use libc::types::pollfd;
 use std::io;
 use std::io::Read;
+use std::os::fd::{AsRawFd, RawFd};
 
 /// How many bytes are dropped at a time.
 const PIECE: usize = 4096;
@@ -11,10 +12,7 @@ const PIECE: usize = 4096;
 /// How often that is done in one look.
 const PIECES: u32 = 16;
 
-/// How often a read is made whose cause of failure the system's call doesn't tell.
-const TRIES: u32 = 16;
-
-/// Standard input as a source. It tells nothing of its bytes.
+/// Standard input as a source, or another input that has a descriptor. It tells nothing of its bytes.
 ///
 /// ```
 /// let mut source = StandardInput::new(rt.reader());
@@ -22,12 +20,12 @@ const TRIES: u32 = 16;
 /// let status = plain_top(rt.alloc(), words, &mut source, &mut sink);
 /// ```
 #[derive(Drop)]
-pub struct StandardInput<R: Read + Drop> {
+pub struct StandardInput<R: Read + AsRawFd + Drop> {
     reader: R,
     faults: u64,
 }
 
-impl<R: Read + Drop> StandardInput<R> {
+impl<R: Read + AsRawFd + Drop> StandardInput<R> {
     /// The source that reads from this reader, of which nothing has failed yet.
     pub fn new(reader: R) -> StandardInput<R>
         ensures { result.faults ≡ 0 }
@@ -36,10 +34,10 @@ impl<R: Read + Drop> StandardInput<R> {
     }
 }
 
-/// Whether a read of standard input gives something at once: bytes, the end or a fault.
-fn is_readable() -> bool {
+/// Whether a read of this descriptor gives something at once: bytes, the end or a fault.
+fn is_readable(descriptor: RawFd) -> bool {
     let mut asked = [pollfd {
-        fd: libc::STDIN_FILENO,
+        fd: descriptor,
         events: libc::net::POLLIN,
         revents: 0,
     }];
@@ -63,19 +61,26 @@ fn read_on<R: Read>(reader: &mut R, out: &mut [u8]) -> io::Result<usize>
     Ok(0)
 }
 
-/// Drops a piece of standard input: how many bytes, 0 where none is left, and less where it can't be read.
-fn drop_piece() -> isize {
+/// Reads a piece and drops it: whether there was one. An input that can't be read has none.
+fn drops_piece<R: Read>(reader: &mut R) -> bool {
     let mut dropped = [0; PIECE];
-    for _ in 1..TRIES {
-        let count = libc::read(libc::STDIN_FILENO, &mut dropped);
-        if count >= 0 {
-            return count;
-        }
-    }
-    -1
+    read_on(reader, &mut dropped).unwrap_or(0) > 0
 }
 
-impl<R: Read + Drop> Source for StandardInput<R> {
+/// Drops what is there: whether the input has ended.
+fn drops_to_the_end<R: Read + AsRawFd>(reader: &mut R) -> bool {
+    for _ in 0..PIECES {
+        if !is_readable(reader.as_raw_fd()) {
+            return false;
+        }
+        if !drops_piece(reader) {
+            return true;
+        }
+    }
+    false
+}
+
+impl<R: Read + AsRawFd + Drop> Source for StandardInput<R> {
     ghost left = { λ _. None };
 
     ghost faults = { λ s. s.faults };
@@ -92,14 +97,6 @@ impl<R: Read + Drop> Source for StandardInput<R> {
 
     /// A look takes at most so many bytes as a pipe holds. An input that can't be read has ended.
     fn has_ended(&mut self) -> bool {
-        for _ in 0..PIECES {
-            if !is_readable() {
-                return false;
-            }
-            if drop_piece() <= 0 {
-                return true;
-            }
-        }
-        false
+        drops_to_the_end(&mut self.reader)
     }
 }

@@ -1,11 +1,15 @@
 ghost use Rattle.std.specs.Prelude.{◌≡◌, ◌≤◌, None, length, IfOk};
 
 use gev_links::{Failed, Sink};
+use libc::types::pollfd;
 use std::io;
 use std::io::Write;
 
 /// How often a write is made whose cause of failure the system's call doesn't tell.
 const TRIES: u32 = 16;
+
+/// How many bytes a pipe with room takes without waiting (POSIX, PIPE_BUF, as Linux has it).
+const PIECE: usize = 4096;
 
 /// Standard output as a sink. It tells nothing of its bytes. `StandardInput` has an example.
 #[derive(Drop)]
@@ -23,13 +27,27 @@ impl<W: Write + Drop> StandardOutput<W> {
     }
 }
 
-/// Writes bytes from the front of these to standard error: how many, none where it takes nothing any more. A write
+/// Whether standard error takes a piece without waiting. (It stays as it was handed in: its terminal, or its pipe, may be
+/// another program's too.)
+fn takes_some() -> bool {
+    let mut asked = [pollfd {
+        fd: libc::STDERR_FILENO,
+        events: libc::net::POLLOUT,
+        revents: 0,
+    }];
+    libc::net::poll(&mut asked, 0) > 0
+}
+
+/// Writes bytes from the front of these to standard error: how many, none where it takes nothing at once. A write
 /// that a signal interrupted is made again.
 fn write_piece(rest: &[u8]) -> usize
     ensures { result ≤ length rest.now }
 {
     for _ in 0..TRIES {
-        let taken = libc::write(libc::STDERR_FILENO, rest);
+        if !takes_some() {
+            return 0;
+        }
+        let taken = libc::write(libc::STDERR_FILENO, &rest[..rest.len().min(PIECE)]);
         if taken >= 0 {
             return taken as usize;
         }
@@ -37,7 +55,7 @@ fn write_piece(rest: &[u8]) -> usize
     0
 }
 
-/// Writes a text to standard error. Where it takes nothing any more the rest is lost.
+/// Writes a text to standard error. Where it takes nothing at once the rest is lost.
 fn write_error(text: &[u8]) {
     let mut rest = text;
     while !rest.is_empty() {
@@ -82,7 +100,7 @@ impl<W: Write + Drop> Sink for StandardOutput<W> {
         Err(Failed)
     }
 
-    /// The lines go to standard error.
+    /// The lines go to standard error. What it doesn't take at once is lost, so that nothing waits for who reads there.
     fn tell(&mut self, text: &[u8]) {
         write_error(text);
     }

@@ -1,10 +1,12 @@
 ghost use Rattle.std.specs.Prelude.{◌≡◌, ◌≤◌, None, length, IfOk, IfSome, OnErr};
 ghost use Rattle.gev_links.specs.Faults.{Rose};
 
-use gev_far::PeekLink;
+use crate::call_fault::{Call, CallFault, bind_fault, connect_fault};
+use crate::sent_commands::{SentCommand, SentCommands};
+use crate::socket_waits::{Patience, comes_within, gather};
+use gev_far::{PeekLink, TimedLink};
 use gev_links::{Failed, Link, ShortLink};
 use gev_types::Peer;
-use libc::types::{pollfd, timespec};
 use std::io;
 use std::net::{IpAddr, Ipv4Addr, Net, SocketAddr, UdpSocket};
 use std::os::fd::AsRawFd;
@@ -15,9 +17,8 @@ const RECEIVE_LIMIT: i32 = 1;
 /// The same of a link towards a device, behind whose images the stream is silent for many milliseconds.
 const FAR_LIMIT: i32 = 4;
 
-/// For how long more datagrams are let come behind a wait that found one, in nanoseconds. The system makes it some
-/// 50 microseconds longer.
-const GATHERING: i64 = 150_000;
+/// The longest wait of a receive that is told how long to wait, in milliseconds.
+const LONGEST_WAIT: u32 = 0x7fff_ffff;
 
 /// How many receives of a link that doesn't wait answer that nothing came, behind a look that found nothing: soon after it
 /// sent or received, when an answer may come, and later.
@@ -28,12 +29,15 @@ const SPARED_LATER: u8 = 63;
 /// How many receives behind what was sent or received are soon.
 const SOON: u32 = 1000;
 
+/// How often a datagram is handed to a system that can't take it and then has room.
+const SEND_TRIES: u32 = 1000;
+
 /// The room that each socket asks for, in bytes, for datagrams that came and weren't received.
 const ROOM: u32 = 0x0200_0000;
 
-/// The room that a socket at the control port of a camera asks for instead, in bytes: for eight commands or so. A camera
-/// that obeys one command in a turn would come to one that waits behind many only when it isn't waited for any more.
-const COMMANDS_ROOM: u32 = 3072;
+/// The room that a socket at the control port of a camera asks for instead, in bytes: for 64 commands, however long each is.
+/// Behind many more a camera would come to a command only when it isn't waited for any more.
+const COMMANDS_ROOM: u32 = 98_304;
 
 /// The port of a camera's control channel (GigE Vision 2.0, GVCP).
 const CONTROL_PORT: u16 = 3956;
@@ -42,6 +46,9 @@ const CONTROL_PORT: u16 = 3956;
 const MOST_ROOM: u32 = 0x7fff_ffff;
 
 /// A UDP socket of IPv4, which is connected to nobody. It tells nothing of what it sends and receives.
+///
+/// A send that the system can't take at once waits for room: between two receives for a second in all. One that fails
+/// behind one that succeeded is as a datagram that was lost on the way, and no fault.
 ///
 /// ```
 /// // the stream of a camera, at port 50000 of each address of this machine
@@ -61,6 +68,10 @@ pub struct UdpLink {
     far: bool,
     spared: u8,
     quiet: u32,
+    patience: Patience,
+    has_sent: bool,
+    commands: Option<SentCommands>,
+    fault: Option<CallFault>,
     faults: u64,
 }
 
@@ -95,10 +106,10 @@ fn peer_at(address: SocketAddr) -> Peer {
 
 /// The address of this machine from which datagrams go to a peer, with a port that the system gives. A socket
 /// that is connected to the peer tells it; nothing is sent.
-pub(crate) fn own_towards<N: Net>(net: &N, peer: Peer) -> io::Result<Peer> {
-    let socket = UdpSocket::bind(net, address_of(ANYWHERE))?;
-    socket.connect(address_of(peer))?;
-    let own = peer_at(socket.local_addr()?);
+pub(crate) fn own_towards<N: Net>(net: &N, peer: Peer) -> Result<Peer, CallFault> {
+    let socket = UdpSocket::bind(net, address_of(ANYWHERE)).map_err(bind_fault)?;
+    socket.connect(address_of(peer)).map_err(connect_fault)?;
+    let own = peer_at(socket.local_addr().map_err(connect_fault)?);
     Ok(Peer {
         address: own.address,
         port: 0,
@@ -150,32 +161,7 @@ fn room_of(socket: &UdpSocket) -> u64 {
     u64::from(u32::from_ne_bytes([a, b, c, d]))
 }
 
-/// Waits until a datagram is there, for at most so many milliseconds: whether one is. The socket's own read timeout comes
-/// out longer: the system rounds it up to its clock ticks.
-fn comes_within(socket: &UdpSocket, limit: i32) -> bool {
-    let mut asked = [pollfd {
-        fd: socket.as_raw_fd(),
-        events: libc::net::POLLIN,
-        revents: 0,
-    }];
-    libc::net::poll(&mut asked, limit) > 0
-}
-
-/// Lets more datagrams come. A wake-up costs more than a datagram: a reader that is faster than its camera would be
-/// woken for each.
-fn gather() {
-    let asked = timespec {
-        tv_sec: 0,
-        tv_nsec: GATHERING,
-    };
-    let mut left = timespec {
-        tv_sec: 0,
-        tv_nsec: 0,
-    };
-    let _ = libc::nanosleep(&asked, &mut left);
-}
-
-/// Whether an error says only that no datagram is there.
+/// Whether an error says only that no datagram is there, or no room for one.
 fn is_nothing(kind: io::ErrorKind) -> bool {
     matches!(
         kind,
@@ -202,7 +188,7 @@ fn receive_waiting(
     socket: &UdpSocket,
     out: &mut [u8],
     stays: bool,
-) -> Result<Option<(usize, Peer)>, Failed>
+) -> io::Result<Option<(usize, Peer)>>
     ensures { IfOk result (λ came. IfSome came (λ datagram. datagram.0 ≤ length out.old)) }
 {
     match receive_or_look(socket, out, stays) {
@@ -211,7 +197,7 @@ fn receive_waiting(
             if is_nothing(error.kind()) {
                 Ok(None)
             } else {
-                Err(Failed)
+                Err(error)
             }
         }
     }
@@ -227,11 +213,40 @@ fn spared_behind(quiet: u32) -> u8 {
 }
 
 /// Whether no datagram was there.
-fn is_none(looked: &Result<Option<(usize, Peer)>, Failed>) -> bool {
+fn is_none<E>(looked: &Result<Option<(usize, Peer)>, E>) -> bool {
     match looked {
         Ok(came) => came.is_none(),
         Err(_) => false,
     }
+}
+
+/// A datagram goes out whole or not at all.
+fn check_whole(count: usize, bytes: &[u8]) -> io::Result<()> {
+    if count == bytes.len() {
+        Ok(())
+    } else {
+        Err(io::Error::from(io::ErrorKind::WriteZero))
+    }
+}
+
+/// Hands a datagram to the system. One that it can't take at once waits for room while the turn has patience.
+fn send_waiting(
+    socket: &UdpSocket,
+    patience: &mut Patience,
+    peer: Peer,
+    bytes: &[u8],
+) -> io::Result<()> {
+    for _ in 0..SEND_TRIES {
+        match socket.send_to(bytes, address_of(peer)) {
+            Ok(count) => return check_whole(count, bytes),
+            Err(error) => {
+                if !is_nothing(error.kind()) || !patience.waits_for_room(socket) {
+                    return Err(error);
+                }
+            }
+        }
+    }
+    Err(io::Error::from(io::ErrorKind::WouldBlock))
 }
 
 impl UdpLink {
@@ -240,7 +255,7 @@ impl UdpLink {
     /// millisecond, and looks once more where something came then; else it looks once, and some receives behind a look
     /// that found nothing don't look. The socket has asked for
     /// room as `ask_room` does, of 32 MiB: by default the system holds fewer than half of a frame's packets. One at
-    /// port 3956, where a camera hears commands, has asked for as little as a few of them need.
+    /// port 3956, where a camera hears commands, has asked for what 64 of them need.
     pub fn open<N: Net>(net: &N, own: Peer, waits: bool) -> io::Result<UdpLink>
         ensures { IfOk result (λ link. link.faults ≡ 0) }
     {
@@ -255,6 +270,10 @@ impl UdpLink {
             far: false,
             spared: 0,
             quiet: 0,
+            patience: Patience::new(),
+            has_sent: false,
+            commands: None,
+            fault: None,
             faults: 0,
         })
     }
@@ -316,10 +335,31 @@ impl UdpLink {
         }
         match looked {
             Ok(came) => Ok(came),
-            Err(_) => {
-                self.faults = self.faults.saturating_add(1);
-                Err(Failed)
-            }
+            Err(error) => Err(self.fail(Call::Receive, error)),
+        }
+    }
+
+    /// Receives; where nothing is there, and something comes within so many milliseconds, does so once more.
+    fn receive_within(
+        &mut self,
+        out: &mut [u8],
+        millis: u32,
+    ) -> Result<Option<(usize, Peer)>, Failed>
+        ensures count { IfOk result (λ came. IfSome came (λ datagram. datagram.0 ≤ length out.old)) }
+        ensures no_fault { IfOk result (λ _. self.new.faults ≡ self.old.faults) }
+        ensures failed { OnErr result (Rose self.old.faults self.new.faults) }
+        ensures never_falls { self.old.faults ≤ self.new.faults }
+        ensures address { self.new.peer ≡ self.old.peer }
+    {
+        self.patience = Patience::new();
+        let limit = millis.min(LONGEST_WAIT) as i32;
+        let mut looked = receive_waiting(&self.socket, out, false);
+        if limit > 0 && is_none(&looked) && comes_within(&self.socket, limit) {
+            looked = receive_waiting(&self.socket, out, false);
+        }
+        match looked {
+            Ok(came) => Ok(came),
+            Err(error) => Err(self.fail(Call::Receive, error)),
         }
     }
 
@@ -332,6 +372,7 @@ impl UdpLink {
         ensures never_falls { self.old.faults ≤ self.new.faults }
         ensures address { self.new.peer ≡ self.old.peer }
     {
+        self.patience = Patience::new();
         self.quiet = self.quiet.saturating_add(1);
         if self.spared > 0 {
             self.spared -= 1;
@@ -344,6 +385,41 @@ impl UdpLink {
             self.spared = spared_behind(self.quiet);
         }
         looked
+    }
+
+    /// Counts a call that failed. The first one is kept.
+    fn fail(&mut self, call: Call, error: io::Error) -> Failed
+        ensures failed { Rose self.old.faults self.new.faults }
+        ensures never_falls { self.old.faults ≤ self.new.faults }
+        ensures address { self.new.peer ≡ self.old.peer }
+    {
+        if self.fault.is_none() {
+            self.fault = Some(CallFault::new(call, error));
+        }
+        self.faults = self.faults.saturating_add(1);
+        Failed
+    }
+
+    /// The last commands that were handed to `send` for a camera's control port, to read or write there.
+    pub(crate) fn commands(&self) -> Option<SentCommands> {
+        self.commands
+    }
+
+    /// Keeps a command that goes to a camera's control port.
+    fn keep_command(&mut self, bytes: &[u8])
+        ensures faults { self.new.faults ≡ self.old.faults }
+        ensures address { self.new.peer ≡ self.old.peer }
+    {
+        if let Some(command) = SentCommand::read(bytes) {
+            let mut commands = self.commands.unwrap_or(SentCommands::new());
+            commands.keep(command);
+            self.commands = Some(commands);
+        }
+    }
+
+    /// The first call that failed.
+    pub fn fault(&self) -> Option<CallFault> {
+        self.fault
     }
 
     /// How many calls failed.
@@ -366,17 +442,19 @@ impl Link for UdpLink {
     fn send(&mut self, peer: Peer, bytes: &[u8]) -> Result<(), Failed> {
         self.quiet = 0;
         self.spared = 0;
-        match self.socket.send_to(bytes, address_of(peer)) {
-            Ok(count) => {
-                if count == bytes.len() {
+        if peer.port == CONTROL_PORT {
+            self.keep_command(bytes);
+        }
+        match send_waiting(&self.socket, &mut self.patience, peer, bytes) {
+            Ok(()) => {
+                self.has_sent = true;
+                Ok(())
+            }
+            Err(error) => {
+                if self.has_sent {
                     return Ok(());
                 }
-                self.faults = self.faults.saturating_add(1);
-                Err(Failed)
-            }
-            Err(_) => {
-                self.faults = self.faults.saturating_add(1);
-                Err(Failed)
+                Err(self.fail(Call::Send, error))
             }
         }
     }
@@ -398,11 +476,22 @@ impl ShortLink for UdpLink {
 
 impl PeekLink for UdpLink {
     fn peek(&mut self, out: &mut [u8]) -> Result<Option<(usize, Peer)>, Failed> {
+        self.patience = Patience::new();
         self.receive(out, true)
     }
 
     fn set_waiting(&mut self, waits: bool) {
         self.waits = waits;
         self.spared = 0;
+    }
+}
+
+impl TimedLink for UdpLink {
+    fn recv_within(
+        &mut self,
+        out: &mut [u8],
+        millis: u32,
+    ) -> Result<Option<(usize, Peer)>, Failed> {
+        self.receive_within(out, millis)
     }
 }
