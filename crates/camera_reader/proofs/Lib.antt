@@ -1,4 +1,5 @@
 pub mod Arriving
+pub mod Steps
 pub mod OneTurn
 pub mod AllTurns
 pub mod Sendings

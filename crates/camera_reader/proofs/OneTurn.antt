@@ -18,10 +18,11 @@ use Rattle.board_calls.specs.declared.mode.Mode.{Mode}
 use Rattle.packet_requests.specs.declared.id_mode.IdMode.{IdMode}
 use Rattle.packet_requests.specs.Requests.{control_request}
 use Rattle.gev_acq.specs.declared.heard.Heard.{Heard}
-use Rattle.gev_acq.specs.Moments.{PacedClock, SaysPaced}
 use Rattle.gev_acq.specs.Turning.{inputs_if, ServesTurn}
 use Rattle.gev_acq.specs.Turns.{bytes_in, SendsAll}
 use Rattle.camera_reader.specs.Hearing.{is_datagram, HearsOnce}
+use Rattle.camera_reader.specs.declared.receiver_clock.ReceiverClock.{ReceiverClock}
+use Rattle.camera_reader.specs.ReceiverClock.{told_at, read_at}
 use Rattle.camera_reader.specs.Turns.{TakesOne}
 
 pub some_came : (came : Option (ℕ × Address)) (out : List ℕ) → is_some came ≡ is_datagram (answer_of (Ok came) out)
@@ -59,17 +60,17 @@ sends_all ends.Fault asks done rest send is whole = (rest, append-nil asks ∙ (
 sends_all (ends.NoAnswer req) asks done rest send is whole = ap (λ l. l ++ []) (done_whole asks done rest is (whole (λ bad. let no : ⊥ = cc in absurd no)))
 sends_all (ends.Refused status) asks done rest send is whole = ap (λ l. l ++ []) (done_whole asks done rest is (whole (λ bad. let no : ⊥ = cc in absurd no)))
 
-pub takes_one : (mode : Mode) (c : AcqConfig) (ids : IdMode) (camera : Address) (Old Mid New : List Input → Type 0) (p q : PacedClock)
+pub takes_one : (mode : Mode) (c : AcqConfig) (ids : IdMode) (camera : Address) (Old Mid New : List Input → Type 0) (p q : ReceiverClock)
     (top refused top_after refused_after : ℕ) (r m h k l : Option (List Answer)) (w v x : Option (List (Address × List ℕ)))
     (d b : Option (List ℕ)) (s u : Client) (answer : Answer) (came : Bool) (heard : Heard) (moment said : ℕ) (requests : List (List ℕ)) (was now : Bool) (end : TurnEnd)
     (before later : Token)
-    → HearsOnce ids top refused top_after refused_after r m answer came → Tells d b moment → SaysPaced p moment said q → (answer ≡ failed → was ≡ true)
+    → HearsOnce ids top refused top_after refused_after r m answer came → Tells d b moment → said ≡ told_at p moment came → q ≡ read_at p moment came → (answer ≡ failed → was ≡ true)
     → ServesTurn mode c Old Mid (bytes_in answer) said heard requests before later → ((i : List Input) → Mid i → New i)
     → SendsOn camera (map (control_request ids) requests) was now w v → k ≡ h → ClientTurn camera s moment now end u k l v x
     → TakesOne mode c ids camera Old New p q top refused top_after refused_after (record { received = r; heard = h; sent = w; told = d; client = s })
     (record { received = m; heard = l; sent = x; told = b; client = u }) moment came end before later
 takes_one mode c ids camera Old Mid New p q top refused top_after refused_after r m h k l w v x d b s u answer came heard moment said requests was now end before later
-    hears told says lost serves keeps sends same turn = record {
+    hears tells is goes lost serves keeps sends same turn = record {
       turned = record {
         answer = answer;
         moment = moment;
@@ -81,7 +82,8 @@ takes_one mode c ids camera Old Mid New p q top refused top_after refused_after 
       };
       arrival = record { answer = hears.arrived; moment = moment };
       ended = refl;
-      says = says;
+      told = is ∙ ap (told_at p moment) hears.came_is;
+      read = goes ∙ ap (read_at p moment) hears.came_is;
       hears = record { moment = refl; heard = hears.heard; greatest = hears.greatest; counted = hears.counted };
       takes = record {
         serves = record {
@@ -111,7 +113,7 @@ takes_one mode c ids camera Old Mid New p q top refused top_after refused_after 
         };
         client = turn.does.state;
         received = hears.told;
-        told = told;
+        told = tells;
         heard = subst (λ (y : Option (List Answer)). TellsEach y l (listed turn.heard)) same turn.told;
         sent = added_then camera w v x sends.done (sent_by end (control_of s turn.heard moment).send) sends.sent turn.does.sent;
       };

@@ -14,7 +14,6 @@ use Rattle.buffer_words.specs.Passes.{Token, Enters}
 use Rattle.buffer_words.proofs.Several.{each_one}
 use Rattle.board_calls.specs.declared.mode.Mode.{Mode}
 use Rattle.gev_acq.specs.Turns.{Turned, Outside}
-use Rattle.gev_acq.specs.Moments.{PacedClock, begins_at, SaysPaced, SaysEach}
 use Rattle.gev_acq.specs.Reading.{FaultsOf}
 use Rattle.packet_requests.specs.declared.id_mode.IdMode.{IdMode}
 use Rattle.camera_control.specs.declared.control_end.ControlEnd.{ControlEnd}
@@ -24,10 +23,13 @@ use Rattle.first_leader.specs.Waiting.{beat_cause}
 use Rattle.camera_reader.specs.declared.listening.Listening.{Listening}
 use Rattle.camera_reader.specs.declared.reader_end.ReaderEnd.TheVariants.{Stopped, Silent, Ended}
 use Rattle.camera_reader.specs.Hearing.{Arrival, is_datagram, top_of, answers_of}
+use Rattle.camera_reader.specs.declared.receiver_clock.ReceiverClock.{ReceiverClock}
+use Rattle.camera_reader.specs.ReceiverClock.{begins_at}
 use Rattle.camera_reader.specs.Listening.{is_silent, listened, is_silent_behind, listened_behind, begins_listening, listened_to, NoneSilent, turn_cause, client_after, NoneEnded}
 use Rattle.camera_reader.specs.Turns.{TakesTurn, TakesOne, TurnsOn}
 use Rattle.camera_reader.specs.Reading.{TakesCameraTurn, KeepsOn, LastTurn, ReadsTurns, stopped, silent, ended, cause_faults}
 use Rattle.camera_reader.proofs.Arriving.{hears_none, hears_more, top_none, top_more}
+use Rattle.camera_reader.proofs.Steps.{clock_behind, told_more, behind_more}
 use Rattle.camera_reader.proofs.AllTurns.{turns_none, turns_more}
 
 -- ---- one more turn
@@ -50,11 +52,6 @@ silent-push : (silence : ℕ) (l : Listening) (xs : List Arrival) (a : Arrival) 
 silent-push silence l [] a none is = (is, tt)
 silent-push silence l (x ∷ xs) a none is = (none.0, silent-push silence (listened_behind silence l x) xs a none.1 is)
 
-says-push : (p q r : PacedClock) (ts : List Turned) (t : Turned) → SaysEach SaysPaced p ts q → SaysPaced q t.moment t.told r → SaysEach SaysPaced p (ts ++ t ∷ []) r
-says-push p q r [] t each one =
-    let first : SaysPaced p t.moment t.told r = subst (λ (c : PacedClock). SaysPaced c t.moment t.told r) each one in (r, first, refl)
-says-push p q r (x ∷ xs) t each one = (each.0, each.1, says-push each.0 q r xs t each.2 one)
-
 -- what a turn of this moment, in which a datagram came or none, makes of a silence
 silent_so : (silence : ℕ) (l : Listening) (a : Arrival) (moment : ℕ) (came b : Bool) → moment ≡ a.moment → came ≡ is_datagram a.answer
     → is_silent silence l moment came ≡ b → is_silent_behind silence l a ≡ b
@@ -69,15 +66,16 @@ listened_so silence l next a moment came at so is =
 -- ---- so far
 
 -- the turns so far, and what is known behind them
-pub record SoFar (mode : Mode) (c : AcqConfig) (ids : IdMode) (camera : Address) (silence begin : ℕ) (Old New : List Input → Type 0) (o n : Outside) (clock : PacedClock)
+pub record SoFar (mode : Mode) (c : AcqConfig) (ids : IdMode) (camera : Address) (silence begin : ℕ) (Old New : List Input → Type 0) (o n : Outside) (clock : ReceiverClock)
     (top refused : ℕ) (l : Listening) (s u : Token) : Type 0 where
   pub made : List Turned
   pub arrivals : List Arrival
-  pub keeps : KeepsOn mode c ids camera silence begin Old New o n clock refused made arrivals s u
+  pub keeps : KeepsOn mode c ids camera silence begin Old New o n refused made arrivals s u
+  pub ticks : clock ≡ clock_behind (begins_at begin) arrivals
   pub greatest : top ≡ top_of ids (answers_of arrivals)
   pub listens : l ≡ listened_to silence (begins_listening begin) arrivals
 
-pub nothing_yet : (mode : Mode) (c : AcqConfig) (ids : IdMode) (camera : Address) (silence begin : ℕ) (Old : List Input → Type 0) (o : Outside) (clock : PacedClock)
+pub nothing_yet : (mode : Mode) (c : AcqConfig) (ids : IdMode) (camera : Address) (silence begin : ℕ) (Old : List Input → Type 0) (o : Outside) (clock : ReceiverClock)
     (top refused : ℕ) (s : Token)
     → clock ≡ begins_at begin → top ≡ 0 → refused ≡ 0 → SoFar mode c ids camera silence begin Old Old o o clock top refused (begins_listening begin) s s
 nothing_yet mode c ids camera silence begin Old o clock top refused s is new none = record {
@@ -86,11 +84,12 @@ nothing_yet mode c ids camera silence begin Old o clock top refused s is new non
   keeps = record {
     on = turns_none mode c ids camera Old o s;
     hears = hears_none ids refused none;
-    says = is;
+    told = refl;
     client = refl;
     controlled = tt;
     heard = tt;
   };
+  ticks = is;
   greatest = top_none ids top new;
   listens = refl;
 }
@@ -106,22 +105,21 @@ looks_on mode c d ids camera Old Mid New o m n made arrivals turned a run s t u 
 
 -- the turn was the last one
 last_turn : (mode : Mode) (c d : AcqConfig) (ids : IdMode) (camera : Address) (silence begin : ℕ) (Old Mid New : List Input → Type 0) (o m n : Outside)
-    (clock later : PacedClock) (top refused top_after refused_after : ℕ) (l : Listening) (moment : ℕ) (came : Bool) (cause : Option ControlEnd) (run : ℕ) (s t u v : Token)
+    (clock later : ReceiverClock) (top refused top_after refused_after : ℕ) (l : Listening) (moment : ℕ) (came : Bool) (cause : Option ControlEnd) (run : ℕ) (s t u v : Token)
     → (so : SoFar mode c ids camera silence begin Old Mid o m clock top refused l s t) → d ≡ c → Enters t (LookRun run) u → run ≡ 1
     → (takes : TakesCameraTurn mode d ids camera Mid New clock later top refused top_after refused_after m n moment came cause u v)
     → LastTurn mode c ids camera silence begin Old New o n refused_after so.made takes.turned so.arrivals takes.arrival cause s v
 last_turn mode c d ids camera silence begin Old Mid New o m n clock later top refused top_after refused_after l moment came cause run s t u v so config look one takes = record {
-  clock = later;
   on = looks_on mode c d ids camera Old Mid New o m n so.made so.arrivals takes.turned takes.arrival run s t u v so.keeps.on config look one takes.takes;
   hears = hears_more ids so.made so.arrivals takes.turned takes.arrival top refused top_after refused_after so.greatest so.keeps.hears takes.hears;
-  says = says-push (begins_at begin) clock later so.made takes.turned so.keeps.says takes.says;
+  told = told_more begin clock so.made so.arrivals takes.turned takes.arrival so.ticks so.keeps.told takes.told;
   controlled = so.keeps.controlled;
   heard = so.keeps.heard;
   cause_is = ap (λ (k : Client). turn_cause k takes.turned) (sym so.keeps.client) ∙ takes.cause_is;
 }
 
 pub one_more : (mode : Mode) (c d : AcqConfig) (ids : IdMode) (camera : Address) (silence begin : ℕ) (Old Mid New : List Input → Type 0) (o m n : Outside)
-    (clock later : PacedClock) (top refused top_after refused_after : ℕ) (l next : Listening) (moment : ℕ) (came : Bool) (run : ℕ) (s t u v : Token)
+    (clock later : ReceiverClock) (top refused top_after refused_after : ℕ) (l next : Listening) (moment : ℕ) (came : Bool) (run : ℕ) (s t u v : Token)
     → SoFar mode c ids camera silence begin Old Mid o m clock top refused l s t → d ≡ c → Enters t (LookRun run) u → run ≡ 1
     → TakesCameraTurn mode d ids camera Mid New clock later top refused top_after refused_after m n moment came None u v → is_silent silence l moment came ≡ false
     → next ≡ listened silence l moment came → SoFar mode c ids camera silence begin Old New o n later top_after refused_after next s v
@@ -131,7 +129,7 @@ one_more mode c d ids camera silence begin Old Mid New o m n clock later top ref
   keeps = record {
     on = looks_on mode c d ids camera Old Mid New o m n so.made so.arrivals takes.turned takes.arrival run s t u v so.keeps.on config look one takes.takes;
     hears = hears_more ids so.made so.arrivals takes.turned takes.arrival top refused top_after refused_after so.greatest so.keeps.hears takes.hears;
-    says = says-push (begins_at begin) clock later so.made takes.turned so.keeps.says takes.says;
+    told = told_more begin clock so.made so.arrivals takes.turned takes.arrival so.ticks so.keeps.told takes.told;
     client =
         takes.takes.client
         ∙ (ap (λ (k : Client). (control_of k takes.turned.heard takes.turned.moment).state) so.keeps.client ∙ sym (client-push o.client so.made takes.turned));
@@ -142,6 +140,7 @@ one_more mode c d ids camera silence begin Old Mid New o m n clock later top ref
         (ap (λ (k : Listening). is_silent_behind silence k takes.arrival) (sym so.listens)
         ∙ silent_so silence l takes.arrival moment came false takes.moment_is takes.came_is loud);
   };
+  ticks = behind_more begin clock later so.arrivals takes.arrival so.ticks takes.read;
   greatest = top_more ids so.arrivals takes.turned takes.arrival top refused top_after refused_after so.greatest takes.hears;
   listens =
       listened_so silence l next takes.arrival moment came takes.moment_is takes.came_is follows
@@ -150,7 +149,7 @@ one_more mode c d ids camera silence begin Old Mid New o m n clock later top ref
 }
 
 -- the same turn, by what became of control
-pub caused : (mode : Mode) (d : AcqConfig) (ids : IdMode) (camera : Address) (Mid New : List Input → Type 0) (clock later : PacedClock)
+pub caused : (mode : Mode) (d : AcqConfig) (ids : IdMode) (camera : Address) (Mid New : List Input → Type 0) (clock later : ReceiverClock)
     (top refused top_after refused_after : ℕ) (m n : Outside) (moment : ℕ) (came : Bool) (x y : Option ControlEnd) (u v : Token)
     → TakesCameraTurn mode d ids camera Mid New clock later top refused top_after refused_after m n moment came x u v → x ≡ y
     → TakesCameraTurn mode d ids camera Mid New clock later top refused top_after refused_after m n moment came y u v
@@ -159,14 +158,14 @@ caused mode d ids camera Mid New clock later top refused top_after refused_after
 
 -- ---- the ends
 
-pub ends_stopped : (mode : Mode) (c : AcqConfig) (ids : IdMode) (camera : Address) (silence begin : ℕ) (Old New : List Input → Type 0) (o n : Outside) (clock : PacedClock)
+pub ends_stopped : (mode : Mode) (c : AcqConfig) (ids : IdMode) (camera : Address) (silence begin : ℕ) (Old New : List Input → Type 0) (o n : Outside) (clock : ReceiverClock)
     (top refused : ℕ) (l : Listening) (run : ℕ) (s t u : Token) → SoFar mode c ids camera silence begin Old New o n clock top refused l s t → Enters t (LookRun run) u
     → run ≢ 1 → ReadsTurns mode c ids camera silence begin Old New o n refused s u Stopped
 ends_stopped mode c ids camera silence begin Old New o n clock top refused l run s t u so look other =
-    stopped clock so.made so.arrivals t so.keeps (record { run = run; stopped = other; enters = each_one t u (LookRun run) look refl })
+    stopped so.made so.arrivals t so.keeps (record { run = run; stopped = other; enters = each_one t u (LookRun run) look refl })
 
 pub ends_silent : (mode : Mode) (c d : AcqConfig) (ids : IdMode) (camera : Address) (silence begin : ℕ) (Old Mid New : List Input → Type 0) (o m n : Outside)
-    (clock later : PacedClock) (top refused top_after refused_after : ℕ) (l : Listening) (moment : ℕ) (came : Bool) (cause : Option ControlEnd) (run : ℕ) (s t u v : Token)
+    (clock later : ReceiverClock) (top refused top_after refused_after : ℕ) (l : Listening) (moment : ℕ) (came : Bool) (cause : Option ControlEnd) (run : ℕ) (s t u v : Token)
     → SoFar mode c ids camera silence begin Old Mid o m clock top refused l s t → d ≡ c → Enters t (LookRun run) u → run ≡ 1
     → TakesCameraTurn mode d ids camera Mid New clock later top refused top_after refused_after m n moment came cause u v → cause ≡ None
     → is_silent silence l moment came ≡ true
@@ -181,7 +180,7 @@ ends_silent mode c d ids camera silence begin Old Mid New o m n clock later top 
     takes = caused mode d ids camera Mid New clock later top refused top_after refused_after m n moment came cause None u v takes_so is
 
 pub ends_ended : (mode : Mode) (c d : AcqConfig) (ids : IdMode) (camera : Address) (silence begin : ℕ) (Old Mid New : List Input → Type 0) (o m n : Outside)
-    (clock later : PacedClock) (top refused top_after refused_after : ℕ) (l : Listening) (moment : ℕ) (came : Bool) (told : Option ControlEnd) (cause : ControlEnd) (run : ℕ)
+    (clock later : ReceiverClock) (top refused top_after refused_after : ℕ) (l : Listening) (moment : ℕ) (came : Bool) (told : Option ControlEnd) (cause : ControlEnd) (run : ℕ)
     (s t u v : Token)
     → SoFar mode c ids camera silence begin Old Mid o m clock top refused l s t → d ≡ c → Enters t (LookRun run) u → run ≡ 1
     → TakesCameraTurn mode d ids camera Mid New clock later top refused top_after refused_after m n moment came told u v → told ≡ Some cause
@@ -203,7 +202,7 @@ was_waiting false None so = let bad : false ≡ true = so.1 refl in absurd (cc)
 was_waiting false (Some asked) so = refl
 
 -- the turn of the receiver and the client, by what became of control
-pub camera_turn : (mode : Mode) (c : AcqConfig) (ids : IdMode) (camera : Address) (Old New : List Input → Type 0) (p q : PacedClock)
+pub camera_turn : (mode : Mode) (c : AcqConfig) (ids : IdMode) (camera : Address) (Old New : List Input → Type 0) (p q : ReceiverClock)
     (top refused top_after refused_after : ℕ) (o n : Outside) (moment : ℕ) (came : Bool) (end : TurnEnd)
     (waited : Bool) (s u : Token) (cause : Option ControlEnd)
     → TakesOne mode c ids camera Old New p q top refused top_after refused_after o n moment came end s u
@@ -214,7 +213,8 @@ camera_turn mode c ids camera Old New p q top refused top_after refused_after o 
     record {
       turned = one.turned;
       arrival = one.arrival;
-      says = one.says;
+      told = one.told;
+      read = one.read;
       hears = one.hears;
       takes = one.takes;
       moment_is = one.moment_is;

@@ -1,4 +1,5 @@
 pub mod Hearing
+pub mod ReceiverClock
 pub mod Listening
 pub mod Asking
 pub mod Turns

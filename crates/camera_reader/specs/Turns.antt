@@ -16,9 +16,10 @@ use Rattle.gev_acq.specs.declared.turn.Turn.{Turn}
 use Rattle.gev_acq.specs.Claims.{Claims, ServesOn}
 use Rattle.gev_acq.specs.Turns.{Turned, Outside, inputs_of, Notes}
 use Rattle.gev_acq.specs.Acquired.{inputs_in, heards_in, sends_in, moments_in, ServesTurns, NoteEach}
-use Rattle.gev_acq.specs.Moments.{PacedClock, SaysPaced}
 use Rattle.packet_requests.specs.declared.id_mode.IdMode.{IdMode}
 use Rattle.camera_reader.specs.Hearing.{Arrival, is_datagram, heard_answer, top_behind, refused_of, answers_of}
+use Rattle.camera_reader.specs.declared.receiver_clock.ReceiverClock.{ReceiverClock}
+use Rattle.camera_reader.specs.ReceiverClock.{told_with, read_with}
 use Rattle.camera_reader.specs.Asking.{IsControlled, ControlEach}
 
 -- ---- one turn
@@ -44,12 +45,13 @@ pub record HearsTurn (ids : IdMode) (top refused top_after refused_after : ℕ) 
   pub counted : refused_after ≡ min (refused + refused_of ids top a.answer) (2 ^ 64 - 1)
 
 -- The same of some turn of this moment that ended so, told by the receiver's clock; in it a datagram came, or none.
-pub record TakesOne (mode : Mode) (c : AcqConfig) (ids : IdMode) (camera : Address) (Old New : List Input → Type 0) (p q : PacedClock)
+pub record TakesOne (mode : Mode) (c : AcqConfig) (ids : IdMode) (camera : Address) (Old New : List Input → Type 0) (p q : ReceiverClock)
     (top refused top_after refused_after : ℕ) (o n : Outside) (moment : ℕ) (came : Bool) (end : TurnEnd) (s u : Token) : Type 0 where
   pub turned : Turned
   pub arrival : Arrival
   pub ended : turned.end ≡ end
-  pub says : SaysPaced p turned.moment turned.told q
+  pub told : turned.told ≡ told_with p arrival
+  pub read : q ≡ read_with p arrival
   pub hears : HearsTurn ids top refused top_after refused_after turned arrival
   pub takes : TakesTurn mode c ids camera Old New o n turned arrival s u
   pub moment_is : moment ≡ arrival.moment

@@ -18,7 +18,7 @@ use acq_core::Acq;
 use buffer_words::{Board, Pass};
 use camera_control::ControlEnd;
 use first_leader::beat_cause;
-use gev_acq::{Host, Moments, TurnEnd, serve_turn};
+use gev_acq::{Host, TurnEnd, serve_turn};
 use gev_control::{client_turn, heartbeat_value};
 use gev_links::{Clock, Gate, Link};
 use std::sync::Wait;
@@ -50,7 +50,7 @@ fn hear_once<R: Wait, L: Link, M: Link, C: Clock, G: Gate>(
     requires fills { waiting_fills acq.old ≡ [] }
     requires requests { waiting_requests acq.old ≡ [] }
     requires backs { Backs pass.old (buffers acq.old) }
-    ensures takes { TakesOne words.mode (config_of acq.old) words.ids words.camera (Stands acq.old) (Stands acq.new) state.old.moments state.new.moments
+    ensures takes { TakesOne words.mode (config_of acq.old) words.ids words.camera (Stands acq.old) (Stands acq.new) state.old.clock state.new.clock
         state.old.hearing.widener state.old.hearing.refused state.new.hearing.widener state.new.hearing.refused
         (record { received = L.received host.old.stream; heard = M.received host.old.control; sent = M.sent host.old.control; told = C.told host.old.clock; client = host.old.client })
         (record { received = L.received host.new.stream; heard = M.received host.new.control; sent = M.sent host.new.control; told = C.told host.new.clock; client = host.new.client })
@@ -65,7 +65,7 @@ fn hear_once<R: Wait, L: Link, M: Link, C: Clock, G: Gate>(
 {
     let (received, came) = receive(&mut host.stream, words.ids, &mut state.hearing);
     let moment = host.clock.now();
-    let told = state.moments.tell(moment);
+    let told = state.clock.tell(moment, came);
     let lost = has_failed(&received);
     let bytes = bytes_of(received, &state.hearing.out);
     serve_turn(rt, board, pass, acq, gate, bytes, told, words.mode);
@@ -96,7 +96,7 @@ pub(crate) fn take_turn<R: Wait, L: Link, M: Link, C: Clock, G: Gate>(
     requires fills { waiting_fills acq.old ≡ [] }
     requires requests { waiting_requests acq.old ≡ [] }
     requires backs { Backs pass.old (buffers acq.old) }
-    ensures takes { TakesCameraTurn words.mode (config_of acq.old) words.ids words.camera (Stands acq.old) (Stands acq.new) state.old.moments state.new.moments
+    ensures takes { TakesCameraTurn words.mode (config_of acq.old) words.ids words.camera (Stands acq.old) (Stands acq.new) state.old.clock state.new.clock
         state.old.hearing.widener state.old.hearing.refused state.new.hearing.widener state.new.hearing.refused
         (record { received = L.received host.old.stream; heard = M.received host.old.control; sent = M.sent host.old.control; told = C.told host.old.clock; client = host.old.client })
         (record { received = L.received host.new.stream; heard = M.received host.new.control; sent = M.sent host.new.control; told = C.told host.new.clock; client = host.new.client })

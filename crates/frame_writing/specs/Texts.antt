@@ -16,7 +16,7 @@ picture_text (Err why) = []
 
 -- of a buffer: its line, the picture that it has by its own record, or nothing
 abbrev pub text_of : Output → BufferId → Filling → List ℕ
-text_of Lines id filling = frame_line id filling
+text_of (Lines digest) id filling = frame_line digest id filling
 text_of Pictures id filling = picture_text (picture_of filling)
 text_of Counts id filling = []
 

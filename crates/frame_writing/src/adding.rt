@@ -6,6 +6,7 @@ ghost use Rattle.frame_writing.specs.Pieces.{piece_text};
 
 use crate::piece::Piece;
 use byteorder::{BigEndian, ByteOrder};
+use gev_report::{add_cause, add_ids, add_why};
 use gev_types::NoMemory;
 use itoa::Buffer;
 
@@ -36,6 +37,9 @@ fn add_piece(out: &mut Vec<u8>, piece: &Piece<'_>) -> Result<(), NoMemory>
         Piece::Flag(flag) => out.push(if *flag { b'1' } else { b'0' })?,
         Piece::Hex(bytes) => add_hex(out, bytes)?,
         Piece::Code(code) => add_hex(out, &code_bytes(*code))?,
+        Piece::Cause(cause) => add_cause(out, *cause)?,
+        Piece::Why(why) => add_why(out, *why)?,
+        Piece::Ids(lost) => add_ids(out, lost)?,
     }
     Ok(())
 }

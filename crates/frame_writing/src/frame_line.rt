@@ -1,10 +1,12 @@
 ghost use Rattle.std.specs.Prelude.{◌≡◌, ◌++◌, OnOk, OnErr};
-ghost use Rattle.frame_writing.specs.FrameLine.{told_image, line_with, frame_line};
+ghost use Rattle.frame_writing.specs.FrameLine.{told_image, digest_word, image_fields, account_fields, frame_line};
+ghost use Rattle.frame_writing.specs.Pieces.{piece_text};
 
 use crate::adding::add;
 use crate::piece::Piece;
+use camera_words::LineDigest;
 use gentl_types::BufferId;
-use gev_types::{Buf, ImageInfo, NoMemory};
+use gev_types::{BlockAccount, Buf, ImageInfo, NoMemory};
 use sha2::{Digest, Sha256};
 
 /// What the record tells of the image; zeros where no leader was kept.
@@ -27,23 +29,48 @@ fn told_image(image: Option<ImageInfo>) -> ImageInfo
     }
 }
 
-/// Adds the line of a frame that the application took: the buffer's id, its record, the SHA-256 digest of its image, and
-/// the image's width and height in pixels, pixel format and time in the camera's ticks.
-pub fn add_frame(out: &mut Vec<u8>, id: BufferId, buf: &Buf) -> Result<(), NoMemory>
-    ensures line { OnOk result (out.new.items ≡ out.old.items ++ frame_line id buf.now) }
+/// Adds the line of a frame that the application took: the buffer's id, its record, the digest of its image, the image's
+/// width and height in pixels, pixel format and time in the camera's ticks, and what became of its block. Without a digest
+/// none is computed.
+pub fn add_frame(
+    out: &mut Vec<u8>,
+    id: BufferId,
+    buf: &Buf,
+    digest: LineDigest,
+) -> Result<(), NoMemory>
+    ensures line { OnOk result (out.new.items ≡ out.old.items ++ frame_line digest id buf.now) }
     ensures unchanged { OnErr result (out.new.items ≡ out.old.items) }
 {
-    let info = told_image(buf.rec().image);
-    add_line(out, id, buf, info)
+    let start = out.len();
+    add_image(out, id, buf, digest)?;
+    let added = add_account(out, buf.rec().account);
+    if added.is_err() {
+        out.truncate(start);
+    }
+    added
 }
 
-/// The same, with this of the image.
-fn add_line(out: &mut Vec<u8>, id: BufferId, buf: &Buf, info: ImageInfo) -> Result<(), NoMemory>
-    ensures line { OnOk result (out.new.items ≡ out.old.items ++ line_with id buf.now info) }
+/// Adds the line's fields of the image, with its digest or without.
+fn add_image(out: &mut Vec<u8>, id: BufferId, buf: &Buf, digest: LineDigest) -> Result<(), NoMemory>
+    ensures text { OnOk result (out.new.items ≡ out.old.items ++ image_fields id buf.now (told_image buf.now.rec.image) (digest_word digest buf.now)) }
+    ensures unchanged { OnErr result (out.new.items ≡ out.old.items) }
+{
+    match digest {
+        LineDigest::Sha256 => {
+            let image = &buf.bytes()[..buf.rec().data_len as usize];
+            add_fields(out, id, buf, Piece::Hex(&Sha256::digest(image)))
+        }
+        LineDigest::Omitted => add_fields(out, id, buf, Piece::Text(b"-")),
+    }
+}
+
+/// Adds the line's fields of the image, with this for its digest.
+fn add_fields(out: &mut Vec<u8>, id: BufferId, buf: &Buf, digest: Piece<'_>) -> Result<(), NoMemory>
+    ensures text { OnOk result (out.new.items ≡ out.old.items ++ image_fields id buf.now (told_image buf.now.rec.image) (piece_text digest.entry)) }
     ensures unchanged { OnErr result (out.new.items ≡ out.old.items) }
 {
     let rec = buf.rec();
-    let digest = Sha256::digest(&buf.bytes()[..rec.data_len as usize]);
+    let info = told_image(rec.image);
     add(
         out,
         &[
@@ -64,7 +91,7 @@ fn add_line(out: &mut Vec<u8>, id: BufferId, buf: &Buf, info: ImageInfo) -> Resu
             Piece::Text(b" filled="),
             Piece::Number(u64::from(rec.filled)),
             Piece::Text(b" sha256="),
-            Piece::Hex(&digest),
+            digest,
             Piece::Text(b" width="),
             Piece::Number(u64::from(info.size_x)),
             Piece::Text(b" height="),
@@ -73,7 +100,30 @@ fn add_line(out: &mut Vec<u8>, id: BufferId, buf: &Buf, info: ImageInfo) -> Resu
             Piece::Code(info.pixel),
             Piece::Text(b" time="),
             Piece::Number(info.timestamp),
-            Piece::Text(b"\n"),
         ],
     )
+}
+
+/// Adds the line's fields of what became of the block, and the line feed.
+fn add_account(out: &mut Vec<u8>, account: Option<BlockAccount>) -> Result<(), NoMemory>
+    ensures text { OnOk result (out.new.items ≡ out.old.items ++ account_fields account) }
+    ensures unchanged { OnErr result (out.new.items ≡ out.old.items) }
+{
+    match account {
+        Some(account) => add(
+            out,
+            &[
+                Piece::Text(b" cause="),
+                Piece::Cause(account.cause),
+                Piece::Text(b" missing="),
+                Piece::Number(u64::from(account.lost.ids)),
+                Piece::Text(b" why="),
+                Piece::Why(account.why),
+                Piece::Text(b" ids="),
+                Piece::Ids(&account.lost),
+                Piece::Text(b"\n"),
+            ],
+        ),
+        None => add(out, &[Piece::Text(b" cause=- missing=0 why=- ids=-\n")]),
+    }
 }

@@ -1,3 +1,5 @@
+use gev_types::{Cause, Lost, Reasons};
+
 /// A part of a line.
 #[derive(Clone, Copy)]
 pub(crate) enum Piece<'a> {
@@ -11,4 +13,10 @@ pub(crate) enum Piece<'a> {
     Hex(&'a [u8]),
     /// A code of four bytes, as eight lower-case hex digits.
     Code(u32),
+    /// Why a block retired.
+    Cause(Cause),
+    /// Why its image isn't whole.
+    Why(Reasons),
+    /// Which of its packets are missing.
+    Ids(&'a Lost),
 }

@@ -6,7 +6,7 @@ ghost use Rattle.frame_writing.specs.Turns.{WritesBy};
 
 use crate::add_frame;
 use crate::write_stop::WriteStop;
-use camera_words::Output;
+use camera_words::{LineDigest, Output};
 use gentl_types::BufferId;
 use gev_links::{Failed, Sink, write_all};
 use gev_types::Buf;
@@ -18,12 +18,13 @@ fn write_line<K: Sink>(
     alloc: Global,
     id: BufferId,
     buf: &Buf,
+    digest: LineDigest,
     sink: &mut K,
 ) -> Result<(), WriteStop>
-    ensures { WritesBy result (frame_line id buf.now) (K.written sink.old) (K.written sink.new) (K.faults sink.old) (K.faults sink.new) }
+    ensures { WritesBy result (frame_line digest id buf.now) (K.written sink.old) (K.written sink.new) (K.faults sink.old) (K.faults sink.new) }
 {
     let mut line = Vec::new(alloc);
-    if add_frame(&mut line, id, buf).is_err() {
+    if add_frame(&mut line, id, buf, digest).is_err() {
         return Err(WriteStop::NoMemory);
     }
     match write_all(sink, line.as_slice()) {
@@ -36,8 +37,7 @@ fn write_line<K: Sink>(
 fn write_image<K: Sink>(alloc: Global, buf: &Buf, sink: &mut K) -> Result<(), WriteStop>
     ensures { WritesBy result (picture_text (picture_of buf.now)) (K.written sink.old) (K.written sink.new) (K.faults sink.old) (K.faults sink.new) }
 {
-    let rec = buf.rec();
-    match write_picture(alloc, rec.image, rec.data_len, buf.bytes(), sink) {
+    match write_picture(alloc, buf.rec(), buf.bytes(), sink) {
         Ok(()) => Ok(()),
         Err(PictureStop::NoPicture(_)) => Ok(()),
         Err(PictureStop::WriteFault) => Err(WriteStop::WriteFault),
@@ -56,7 +56,7 @@ pub(crate) fn write_frame<K: Sink>(
     ensures { WritesBy result (text_of output id buf.now) (K.written sink.old) (K.written sink.new) (K.faults sink.old) (K.faults sink.new) }
 {
     match output {
-        Output::Lines => write_line(alloc, id, buf, sink),
+        Output::Lines(digest) => write_line(alloc, id, buf, digest, sink),
         Output::Pictures => write_image(alloc, buf, sink),
         Output::Counts => Ok(()),
     }

@@ -25,13 +25,14 @@ use Rattle.gev_acq.specs.Claims.{Claims, ServesOn}
 use Rattle.gev_acq.specs.Turns.{Turned, Outside}
 use Rattle.gev_acq.specs.Acquired.{inputs_in, moments_in}
 use Rattle.gev_acq.specs.Kinds.{is_readers}
-use Rattle.gev_acq.specs.Moments.{PacedClock, begins_at, SaysPaced, SaysEach}
+use Rattle.gev_acq.specs.Moments.{told_in}
 use Rattle.gev_acq.proofs.Owning.{claims_none, claims_then}
 use Rattle.gev_acq.proofs.OfKind.{served_are, turns_are}
 use Rattle.camera_control.specs.declared.control_end.ControlEnd.{ControlEnd}
 use Rattle.camera_reader.specs.declared.reader_end.ReaderEnd.{ReaderEnd}
 use Rattle.camera_reader.specs.declared.reader_end.ReaderEnd.TheVariants.{Stopped, Silent, Ended}
 use Rattle.camera_reader.specs.Hearing.{Arrival, HearsEach}
+use Rattle.camera_reader.specs.ReceiverClock.{receiver_moments}
 use Rattle.camera_reader.specs.Turns.{TurnsOn}
 use Rattle.camera_reader.specs.Reading.{LastTurn, ReadsTurns, stopped, silent, ended}
 use Rattle.gev_receive.specs.Reader.{EndsLast, EndsReading, LastLook, ReadsOn, inputs_from, ReadsTo, with_refused, ReadsFrames}
@@ -48,15 +49,14 @@ told_all old first new begin ms begun rest = tells_then old first new (begin ∷
 
 -- turns and what they told, from a receiver that was told a moment
 turns_on : (mode : Mode) (c : AcqConfig) (ids : IdMode) (camera : Address) (silence begin : ℕ) (Old New : List Input → Type 0) (r m h k : Option (List Answer))
-    (w v : Option (List (Address × List ℕ))) (d first e : Option (List ℕ)) (x y : Client) (refused : ℕ) (end : ReaderEnd) (clock : PacedClock) (made : List Turned)
+    (w v : Option (List (Address × List ℕ))) (d first e : Option (List ℕ)) (x y : Client) (refused : ℕ) (end : ReaderEnd) (made : List Turned)
     (arrivals : List Arrival) (last : List Event) (s t : Token)
     → Old (tick begin ∷ []) → Tells d first begin
     → (on : TurnsOn mode c ids camera Old New (record { received = r; heard = h; sent = w; told = first; client = x }) (record { received = m; heard = k; sent = v; told = e; client = y }) made arrivals s t)
-    → HearsEach ids made arrivals refused → SaysEach SaysPaced (begins_at begin) made clock → EndsReading end silence begin x made arrivals → LastLook end last
+    → HearsEach ids made arrivals refused → told_in made ≡ receiver_moments begin arrivals → EndsReading end silence begin x made arrivals → LastLook end last
     → ReadsOn mode c ids camera silence begin (record { received = r; heard = h; sent = w; told = d; client = x }) (record { received = m; heard = k; sent = v; told = e; client = y }) refused end made on.events last
-turns_on mode c ids camera silence begin Old New r m h k w v d first e x y refused end clock made arrivals last s t stands begun on hears says ends looks = record {
+turns_on mode c ids camera silence begin Old New r m h k w v d first e x y refused end made arrivals last s t stands begun on hears says ends looks = record {
   serves = on.serves (tick begin ∷ []) stands;
-  clock = clock;
   says = says;
   controlled = on.controlled (tick begin ∷ []) stands;
   entries = on.entries;
@@ -96,13 +96,13 @@ reads_so : (mode : Mode) (c : AcqConfig) (ids : IdMode) (camera : Address) (sile
     (w v : Option (List (Address × List ℕ))) (d first e : Option (List ℕ)) (x y : Client) (refused : ℕ) (end : ReaderEnd) (s u : Token) → Old (tick begin ∷ []) → Tells d first begin
     → ReadsTurns mode c ids camera silence begin Old New (record { received = r; heard = h; sent = w; told = first; client = x }) (record { received = m; heard = k; sent = v; told = e; client = y }) refused s u end
     → ReadsTo mode c ids camera silence New (record { received = r; heard = h; sent = w; told = d; client = x }) (record { received = m; heard = k; sent = v; told = e; client = y }) refused end s u
-reads_so mode c ids camera silence begin Old New r m h k w v d first e x y refused Stopped s u stands begun (stopped clock made arrivals middle keeps finds) = record {
+reads_so mode c ids camera silence begin Old New r m h k w v d first e x y refused Stopped s u stands begun (stopped made arrivals middle keeps finds) = record {
   begin = begin;
   made = made;
   turned = keeps.on.events;
   last = LookRun finds.run ∷ [];
-  on = turns_on mode c ids camera silence begin Old New r m h k w v d first e x y refused Stopped clock made arrivals (LookRun finds.run ∷ []) s middle stands begun keeps.on
-      keeps.hears keeps.says (keeps.controlled, keeps.heard) (finds.run, finds.stopped, refl);
+  on = turns_on mode c ids camera silence begin Old New r m h k w v d first e x y refused Stopped made arrivals (LookRun finds.run ∷ []) s middle stands begun keeps.on
+      keeps.hears keeps.told (keeps.controlled, keeps.heard) (finds.run, finds.stopped, refl);
   enters = each_then s middle u keeps.on.events (LookRun finds.run ∷ []) keeps.on.enters finds.enters;
   claims = claims_on mode (inputs_in made) s middle u keeps.on.enters.number keeps.on.claims (look_claims mode middle u finds.run finds.enters);
   stands = keeps.on.stands (tick begin ∷ []) stands;
@@ -112,8 +112,8 @@ reads_so mode c ids camera silence begin Old New r m h k w v d first e x y refus
   made = before ++ last ∷ [];
   turned = ends.on.events;
   last = [];
-  on = turns_on mode c ids camera silence begin Old New r m h k w v d first e x y refused Silent ends.clock (before ++ last ∷ []) (earlier ++ arrival ∷ []) [] s u stands begun ends.on
-      ends.hears ends.says (ends_last mode c ids camera silence begin Old New _ _ refused before last earlier arrival None s u ends, quiet) refl;
+  on = turns_on mode c ids camera silence begin Old New r m h k w v d first e x y refused Silent (before ++ last ∷ []) (earlier ++ arrival ∷ []) [] s u stands begun ends.on
+      ends.hears ends.told (ends_last mode c ids camera silence begin Old New _ _ refused before last earlier arrival None s u ends, quiet) refl;
   enters = subst (λ l. EntersEach s l u) (sym (append-nil ends.on.events)) ends.on.enters;
   claims = ends.on.claims;
   stands = ends.on.stands (tick begin ∷ []) stands;
@@ -123,8 +123,8 @@ reads_so mode c ids camera silence begin Old New r m h k w v d first e x y refus
   made = before ++ last ∷ [];
   turned = ends.on.events;
   last = [];
-  on = turns_on mode c ids camera silence begin Old New r m h k w v d first e x y refused (Ended cause) ends.clock (before ++ last ∷ []) (earlier ++ arrival ∷ []) [] s u stands begun
-      ends.on ends.hears ends.says (ends_last mode c ids camera silence begin Old New _ _ refused before last earlier arrival (Some cause) s u ends) refl;
+  on = turns_on mode c ids camera silence begin Old New r m h k w v d first e x y refused (Ended cause) (before ++ last ∷ []) (earlier ++ arrival ∷ []) [] s u stands begun
+      ends.on ends.hears ends.told (ends_last mode c ids camera silence begin Old New _ _ refused before last earlier arrival (Some cause) s u ends) refl;
   enters = subst (λ l. EntersEach s l u) (sym (append-nil ends.on.events)) ends.on.enters;
   claims = ends.on.claims;
   stands = ends.on.stands (tick begin ∷ []) stands;

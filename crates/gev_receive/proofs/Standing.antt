@@ -109,7 +109,7 @@ told_rank (status.TurnsSpent turns frames) is = absurd (cc)
 told_rank status.ReadFault is = absurd (cc)
 
 last_rank : (output : Output) (answer : Status) → has_last output answer ≡ true → 4 ≤ rank answer
-last_rank Lines answer is = told_rank answer is
+last_rank (Lines digest) answer is = told_rank answer is
 last_rank Pictures answer is = absurd (cc)
 last_rank Counts answer is = told_rank answer is
 

@@ -12,7 +12,7 @@ use Rattle.gev_receive.specs.Answers.{is_told}
 
 -- It comes with lines and with counts, where the answer wants it.
 abbrev pub has_last : Output → Status → Bool
-has_last Lines answer = is_told answer
+has_last (Lines digest) answer = is_told answer
 has_last Pictures answer = false
 has_last Counts answer = is_told answer
 

@@ -19,12 +19,13 @@ use Rattle.gev_acq.specs.Serving.{Serves}
 use Rattle.gev_acq.specs.Claims.{Claims}
 use Rattle.gev_acq.specs.Turns.{Turned, Outside}
 use Rattle.gev_acq.specs.Acquired.{inputs_in, moments_in, heards_in, sends_in, ServesTurns, NoteEach}
-use Rattle.gev_acq.specs.Moments.{PacedClock, begins_at, SaysPaced, SaysEach}
+use Rattle.gev_acq.specs.Moments.{told_in}
 use Rattle.packet_requests.specs.declared.id_mode.IdMode.{IdMode}
 use Rattle.camera_control.specs.declared.control_end.ControlEnd.{ControlEnd}
 use Rattle.camera_reader.specs.declared.reader_end.ReaderEnd.{ReaderEnd}
 use Rattle.camera_reader.specs.declared.reader_end.ReaderEnd.TheVariants.{Stopped, Silent, Ended}
 use Rattle.camera_reader.specs.Hearing.{Arrival, answers_of, HearsEach}
+use Rattle.camera_reader.specs.ReceiverClock.{receiver_moments}
 use Rattle.camera_reader.specs.Listening.{is_silent_behind, begins_listening, listened_to, NoneSilent, turn_cause, client_after, NoneEnded}
 use Rattle.camera_reader.specs.Asking.{ControlEach}
 
@@ -65,13 +66,12 @@ LastLook (Ended cause) es = es ≡ []
 pub record ReadsOn (mode : Mode) (c : AcqConfig) (ids : IdMode) (camera : Address) (silence begin : ℕ) (o n : Outside) (refused : ℕ) (end : ReaderEnd)
     (made : List Turned) (turned last : List Event) : Type 0 where
   pub serves : ServesTurns mode c (After c (tick begin ∷ [])) made turned
-  pub clock : PacedClock
-  pub says : SaysEach SaysPaced (begins_at begin) made clock
   pub controlled : ControlEach ids c (tick begin ∷ []) o.client made n.client
   pub entries : List Turn
   pub notes : NoteEach c (tick begin ∷ []) made entries
   pub arrivals : List Arrival
   pub hears : HearsEach ids made arrivals refused
+  pub says : told_in made ≡ receiver_moments begin arrivals
   pub ends : EndsReading end silence begin o.client made arrivals
   pub looks : LastLook end last
   pub received : TellsEach o.received n.received (answers_of arrivals)

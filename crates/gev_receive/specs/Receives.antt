@@ -81,7 +81,7 @@ patience_of settings taken = record { packet_size = taken.packet_size; silence =
 
 -- with pictures images that have none end the run
 abbrev pub picture_missing : Output → FirstLeader → Option NoPicture
-picture_missing Lines leader = None
+picture_missing (Lines digest) leader = None
 picture_missing Pictures leader = lacks_picture leader.info
 picture_missing Counts leader = None
 

@@ -17,7 +17,7 @@ fn has_last(output: Output, status: Status) -> bool
     ensures { result ≡ has_last output status }
 {
     match output {
-        Output::Lines => is_told(status),
+        Output::Lines(_) => is_told(status),
         Output::Pictures => false,
         Output::Counts => is_told(status),
     }
@@ -34,6 +34,17 @@ fn write_last<K: Sink>(alloc: Global, sink: &mut K, first: Status, counts: &Rece
     match write_all(sink, line.as_slice()) {
         Ok(()) => first,
         Err(_) => Status::WriteFault,
+    }
+}
+
+/// Tells the last line on standard error, where pictures alone are written. Where memory is wanting for it it's left out.
+fn tell_last<K: Sink>(alloc: Global, sink: &mut K, counts: &ReceiveCounts)
+    ensures written { K.written sink.new ≡ K.written sink.old }
+    ensures faults { K.faults sink.new ≡ K.faults sink.old }
+{
+    let mut line = Vec::new(alloc);
+    if add_receive(&mut line, counts).is_ok() {
+        sink.tell(line.as_slice());
     }
 }
 
@@ -61,9 +72,12 @@ pub(crate) fn finish<K: Sink>(
         counts,
         lost: _,
     } = ran;
+    let last = with_strangers(counts, strangers);
     if !has_last(output, status) {
+        if is_told(status) {
+            tell_last(alloc, sink, &last);
+        }
         return status;
     }
-    let last = with_strangers(counts, strangers);
     write_last(alloc, sink, status, &last)
 }

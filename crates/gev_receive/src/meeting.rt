@@ -61,7 +61,7 @@ fn picture_missing(output: Output, leader: FirstLeader) -> Option<NoPicture>
 {
     match output {
         Output::Pictures => lacks_picture(leader.info),
-        Output::Lines => None,
+        Output::Lines(_) => None,
         Output::Counts => None,
     }
 }

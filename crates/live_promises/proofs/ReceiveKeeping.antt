@@ -22,9 +22,12 @@ use Rattle.script_trace.proofs.Handing.{taken_all}
 use Rattle.gev_links.specs.Links.{Address, Answer}
 use Rattle.gev_links.specs.Moments.{TellsEach}
 use Rattle.gev_acq.specs.Turns.{Turned, Outside}
-use Rattle.gev_acq.specs.Acquired.{answers_in}
+use Rattle.gev_acq.specs.Acquired.{answers_in, moments_in}
+use Rattle.gev_acq.specs.Moments.{told_in}
 use Rattle.packet_requests.specs.declared.id_mode.IdMode.{IdMode}
-use Rattle.camera_reader.specs.Hearing.{Arrival, answers_of, heard_as}
+use Rattle.camera_reader.specs.Hearing.{Arrival, answers_of, moments_of, heard_as}
+use Rattle.camera_reader.specs.ReceiverClock.{receiver_moments, InOrder, steps_from, cut_steps}
+use Rattle.camera_reader.proofs.Steps.{cuts_steps}
 use Rattle.std.proofs.lemmas.List.{append_cancel_left}
 use Rattle.gev_live.specs.Kinds.{is_filling, is_taking}
 use Rattle.gev_live.specs.Acquirers.{handed_out, takers}
@@ -43,7 +46,7 @@ use Rattle.gev_receive.specs.Starting.{config_of, mode_of, buffer_size}
 use Rattle.gev_receive.specs.Reader.{inputs_from}
 use Rattle.gev_receive.specs.Frames.{Pair, FramesHistory}
 use Rattle.live_promises.specs.FramesRun.{FramesRun}
-use Rattle.live_promises.specs.ReceivePromises.{reader_of, KeepsFrames}
+use Rattle.live_promises.specs.ReceivePromises.{reader_of, TellsByClock, KeepsFrames}
 use Rattle.live_promises.specs.ReceiveLaws.{FramesRunsKeepPromises}
 use Rattle.live_promises.proofs.Meaning.{answer_means, texts_written}
 
@@ -108,6 +111,18 @@ heard_since ids old answers received received_after made arrivals before behind 
     told : old ++ answers ≡ old ++ answers_of arrivals
     told = subst (λ (r : Option (List Answer)). TellsEach (Some old) r (answers_of arrivals)) behind (subst (λ (r : Option (List Answer)). TellsEach r received_after (answers_of arrivals)) before tells)
 
+-- the moments told are those of the receiver's clock
+told_by_clock : (o n : Outside) (begin : ℕ) (made : List Turned) (arrivals : List Arrival) → TellsEach o.received n.received (answers_of arrivals)
+    → TellsEach o.told n.told (begin ∷ moments_in made) → moments_of arrivals ≡ moments_in made → told_in made ≡ receiver_moments begin arrivals
+    → TellsByClock o n begin (told_in made)
+told_by_clock o n begin made arrivals received told read says = record {
+  arrivals = arrivals;
+  received = received;
+  read = subst (λ l. TellsEach o.told n.told (begin ∷ l)) (sym read) told;
+  moments = says;
+  steps = λ order. ap (steps_from begin) says ∙ cuts_steps begin arrivals order;
+}
+
 -- ---- a run
 
 module _ (settings : Settings) (camera : Address) (leader : FirstLeader) (resends : Bool) (o n : Outside) (stream stream_after control control_after : ℕ)
@@ -138,6 +153,8 @@ module _ (settings : Settings) (camera : Address) (leader : FirstLeader) (resend
     account = reader_account (mode_of settings.mode) (buffer_size settings leader) settings.buffers run.crew (reader_of run) h refl run.history run.application_part.all;
     handed = handed;
     heard = λ old answers before behind. heard_since leader.ids old answers o.received n.received run.reader_part.made run.reader_part.on.arrivals before behind run.reader_part.on.received run.reader_part.on.hears.heard;
+    clocked = told_by_clock o n run.reader_part.begin run.reader_part.made run.reader_part.on.arrivals run.reader_part.on.received run.reader_part.on.told
+        run.reader_part.on.hears.moments run.reader_part.on.says;
     framed = λ frames sent.
         all_weaker (IsRetired c told) (HoldsUnder frames c told) (λ x r. blocks_frames frames c told x r (inputs_sent frames c.p run.reader_part.made sent)) (handed_items h) handed;
     p_told = ap (λ (x : ReceiveCounts). x.p) run.counts_are;

@@ -244,7 +244,7 @@ last_told : (output : Output) (first : Status) → has_last output first ≡ tru
 last_told output first has = go output has
   where
     go : (x : Output) → has_last x first ≡ true → is_told first ≡ true
-    go outputs.Lines is = is
+    go (outputs.Lines digest) is = is
     go outputs.Pictures is = absurd (cc)
     go outputs.Counts is = is
 

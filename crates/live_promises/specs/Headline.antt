@@ -69,4 +69,4 @@ pub record KeepsHeadline (c : AcqConfig) (acquirers : List Acquirer) (h : List E
 -- filled, it is marked complete.
 pub record HoldsUnder (frames : ℕ → Option Frame) (c : AcqConfig) (inputs : List Input) (x : Item) : Type 0 where
   pub retired : IsRetired c inputs x
-  pub holds : HoldsOfFrame frames c.p retired.block.was retired.given
+  pub holds : HoldsOfFrame frames c.p retired.block retired.given

@@ -10,7 +10,7 @@ invariant-turns g l = record {
   so : SoFar l.words.mode (config_of l.fn.acq) l.words.ids l.words.camera l.words.silence l.begin (Stands l.fn.acq) (Stands l.acq)
       (record { received = g.L.Link.received l.fn.host.stream; heard = g.M.Link.received l.fn.host.control; sent = g.M.Link.sent l.fn.host.control; told = g.C.Clock.told l.fn.host.clock; client = l.fn.host.client })
       (record { received = g.L.Link.received l.host.stream; heard = g.M.Link.received l.host.control; sent = g.M.Link.sent l.host.control; told = g.C.Clock.told l.host.clock; client = l.host.client })
-      l.state.moments l.state.hearing.widener l.state.hearing.refused l.listening l.fn.pass l.pass;
+      l.state.clock l.state.hearing.widener l.state.hearing.refused l.listening l.fn.pass l.pass;
   stream_count : g.L.Link.faults l.host.stream ≡ g.L.Link.faults l.fn.host.stream;
   control_count : g.M.Link.faults l.host.control ≡ g.M.Link.faults l.fn.host.control;
   table : l.pass.table ≡ l.fn.pass.table;

@@ -11,9 +11,9 @@ use Rattle.frame_writing.specs.Texts.{picture_text}
 use Rattle.frame_writing.proofs.Written.{wrote_nothing}
 use Rattle.frame_writing.proofs.writing.write_image.Goals as goal
 
-pictured : (filling : Filling) (rec : Record) (bytes : List ℕ) → rec ≡ filling.rec → bytes ≡ filling.bytes → picture rec.image rec.data_len bytes ≡ picture_of filling
+pictured : (filling : Filling) (rec : Record) (bytes : List ℕ) → rec ≡ filling.rec → bytes ≡ filling.bytes → picture rec bytes ≡ picture_of filling
 pictured filling rec bytes one two =
-    ap (λ (r : Record). picture r.image r.data_len bytes) one ∙ ap (λ (b : List ℕ). picture filling.rec.image filling.rec.data_len b) two
+    ap (λ (r : Record). picture r bytes) one ∙ ap (λ (b : List ℕ). picture filling.rec b) two
 
 drawn : (shown own : Result (List ℕ) NoPicture) (w x : Option (List ℕ)) (n m : ℕ) → shown ≡ own → Draws shown w x × (m ≡ n) → Appends w x (picture_text own) × (m ≡ n)
 drawn shown own w x n m same did = (subst (λ (t : List ℕ). Appends w x t) (sym (ap picture_text (sym same ∙ did.0.is))) did.0.appended, did.1)
@@ -28,16 +28,16 @@ begun shown own w x n m same did = (subst (λ (t : List ℕ). WritesFront w x t)
 
 pub returns-in-Ok : goal.returns-in-Ok
 returns-in-Ok g c =
-    drawn _ _ _ _ _ _ (pictured c.args.buf.now c.rec-rec.result c.bytes.result.now c.rec-rec.ensures.value c.bytes.ensures.value) c.in-Ok.ensures
+    drawn _ _ _ _ _ _ (pictured c.args.buf.now c.rec.result c.bytes.result.now c.rec.ensures.value c.bytes.ensures.value) c.in-Ok.ensures
 
 pub returns-in-Err-NoPicture : goal.returns-in-Err-NoPicture
 returns-in-Err-NoPicture g c =
-    undrawn _ _ _ _ _ _ _ (pictured c.args.buf.now c.rec-rec.result c.bytes.result.now c.rec-rec.ensures.value c.bytes.ensures.value)
+    undrawn _ _ _ _ _ _ _ (pictured c.args.buf.now c.rec.result c.bytes.result.now c.rec.ensures.value c.bytes.ensures.value)
     (rw c.in-Err-NoPicture.field-0-is at c.in-Err-NoPicture.ensures)
 
 pub returns-in-Err-WriteFault : goal.returns-in-Err-WriteFault
 returns-in-Err-WriteFault g c =
-    begun _ _ _ _ _ _ (pictured c.args.buf.now c.rec-rec.result c.bytes.result.now c.rec-rec.ensures.value c.bytes.ensures.value)
+    begun _ _ _ _ _ _ (pictured c.args.buf.now c.rec.result c.bytes.result.now c.rec.ensures.value c.bytes.ensures.value)
     (rw c.in-Err-WriteFault.field-0-is at c.in-Err-WriteFault.ensures)
 
 pub returns-in-Err-NoMemory : goal.returns-in-Err-NoMemory
