@@ -39,7 +39,7 @@ all_one : (c : PlainCommand) (s : Client) (before : List OrderTurned) (last : Or
 all_one c s [] last idle = first_one c s last idle
 all_one c s (t ∷ ts) last idle = turns_one c (order_turn (c ∷ []) (progress s 0) t).state (ts ++ last ∷ []) (first_one c s t idle)
 
-one_submitted : (camera : Address) (c : PlainCommand) (o n : ControlSide) (end : AcqEnd) (carried : CarriesOut camera (c ∷ []) o n end) → IsIdle o.client
+pub one_submitted : (camera : Address) (c : PlainCommand) (o n : ControlSide) (end : AcqEnd) (carried : CarriesOut camera (c ∷ []) o n end) → IsIdle o.client
     → list_submitted (c ∷ []) o carried ≡ c ∷ []
 one_submitted camera c o n end carried idle =
     in_order (c ∷ []) o.client (carried.before ++ carried.last ∷ []) ∙ ap (λ k. take k (c ∷ [])) (all_one c o.client carried.before carried.last idle)

@@ -1,10 +1,12 @@
 -- One step: what is outstanding, how it ends, and what is left.
 use Rattle.std.proofs.Common.{◌≡◌, ℕ, Bool, true, false, List, [], ◌∷◌, Option, Some, None, IsSome, refl, ap, sym, ◌∙◌, subst}
-use Rattle.std.specs.Prelude.{length, ◌==◌, if◌then◌else◌}
+use Rattle.std.specs.Prelude.{length, nat_lt, ◌==◌, if◌then◌else◌}
 use Rattle.gvcp_wire.specs.Messages.{PlainCommand}
 use Rattle.client_machine.specs.declared.outcome.Outcome.{Outcome}
 use Rattle.client_machine.specs.declared.outcome.Outcome.TheVariants.{Waiting, Idle, Acked, Refused, NoAnswer}
-use Rattle.client_machine.specs.Machine.{Client, IsIdle, ticked, received, taken}
+use Rattle.client_machine.specs.Times.{SENDS}
+use Rattle.client_machine.specs.Commands.{heartbeat}
+use Rattle.client_machine.specs.Machine.{Asked, Client, IsIdle, outcome_after, goes_on, with_command, is_heartbeat_due, is_late, sent_again, ticked_with, ticked, received, taken}
 use Rattle.client_machine.specs.Events.{Event, ticks}
 use Rattle.client_machine.specs.Laws.{IsAnswered}
 use Rattle.client_machine.proofs.Ends.{ends_exact}
@@ -79,6 +81,73 @@ list_idle camera orders o n end carried done =
     subst IsIdle (sym (carried.client ∙ ap (λ (s : Progress). s.client) (after_more orders (progress o.client 0) carried.before carried.last)))
     (turn_idle orders (orders_after orders (progress o.client 0) carried.before) carried.last end carried.ended done)
 
+-- ---- none is outstanding, also where it had no answer
+
+never_spent : (camera : Address) (orders : List PlainCommand) (o n : ControlSide) → CarriesOut camera orders o n how.Spent → ⊥
+never_spent camera orders o n carried =
+    (ends_as_told orders (orders_after orders (progress o.client 0) carried.before) carried.last).never_spent carried.ended
+
+late_idle : (s : Client) (asked : Asked) (moment req : ℕ) (late more : Bool)
+    → (if late then (if more then goes_on (record s { asked = Some (sent_again s.limit asked moment) })
+    else record { client = record s { asked = None }; outcome = NoAnswer asked.req }) else goes_on s).outcome ≡ NoAnswer req
+    → s.asked ≡ Some asked
+    → IsIdle (if late then (if more then goes_on (record s { asked = Some (sent_again s.limit asked moment) })
+    else record { client = record s { asked = None }; outcome = NoAnswer asked.req }) else goes_on s).client
+late_idle s asked moment req true false told there = refl
+late_idle s asked moment req true true told there = let bad : ⊥ = cc in absurd bad
+late_idle s asked moment req false more told there =
+    let bad : Waiting asked.req ≡ NoAnswer req = ap outcome_after (sym there) ∙ told in absurd (cc)
+
+due_outcome : (s : Client) (moment req : ℕ) (due : Bool) → s.asked ≡ None → (goes_on (if due then with_command s heartbeat moment else s)).outcome ≡ NoAnswer req → ⊥
+due_outcome s moment req true none told = cc
+due_outcome s moment req false none told = let bad : Idle ≡ NoAnswer req = ap outcome_after (sym none) ∙ told in cc
+
+given_up_idle : (s : Client) (moment req : ℕ) (asked : Option Asked) → s.asked ≡ asked → (ticked_with asked s moment).outcome ≡ NoAnswer req
+    → IsIdle (ticked_with asked s moment).client
+given_up_idle s moment req None there told = absurd (due_outcome s moment req (is_heartbeat_due s.ended moment) there told)
+given_up_idle s moment req (Some asked) there told = late_idle s asked moment req (is_late asked moment) (nat_lt asked.sends SENDS) told there
+
+-- no receive tells it
+stops_only : (last : Bool) (req : ℕ) → (if last then Some how.Stopped else None) ≡ Some (how.NoAnswer req) → ⊥
+stops_only true req e = cc
+stops_only false req e = cc
+
+outcome_answers : (size begun : ℕ) (o : Outcome) (req : ℕ) → end_at size begun o ≡ Some (how.NoAnswer req) → ⊥
+outcome_answers size begun (Waiting n) req e = cc
+outcome_answers size begun Idle req e = cc
+outcome_answers size begun Acked req e = stops_only (begun == size) req e
+outcome_answers size begun (Refused status) req e = cc
+outcome_answers size begun (NoAnswer n) req e = cc
+
+hears_no_end : (size : ℕ) (s : Client) (begun moment req : ℕ) (heard : Option Answer) → (hears_order size s begun moment heard).end ≡ Some (how.NoAnswer req) → ⊥
+hears_no_end size s begun moment req None e = cc
+hears_no_end size s begun moment req (Some failed) e = cc
+hears_no_end size s begun moment req (Some nothing) e = cc
+hears_no_end size s begun moment req (Some (came bytes peer)) e = outcome_answers size begun (received s bytes moment).outcome req e
+
+unanswered_idle : (size : ℕ) (es : List Event) (s : Client) (moment : ℕ) (o : Outcome) (begun : ℕ) (t : OrderTurned) (req : ℕ) → (ticked s moment).outcome ≡ o
+    → (after_send size (after_tick es (ticked s moment).client o).end (after_tick es (ticked s moment).client o) begun t).end ≡ Some (how.NoAnswer req)
+    → IsIdle (after_send size (after_tick es (ticked s moment).client o).end (after_tick es (ticked s moment).client o) begun t).client
+unanswered_idle size es s moment (Waiting n) begun t req told e = absurd (hears_no_end size (taken (ticked s moment).client) begun t.moment req t.heard e)
+unanswered_idle size es s moment Idle begun t req told e = absurd (hears_no_end size (taken (ticked s moment).client) begun t.moment req t.heard e)
+unanswered_idle size es s moment Acked begun t req told e = absurd (hears_no_end size (taken (ticked s moment).client) begun t.moment req t.heard e)
+unanswered_idle size es s moment (Refused n) begun t req told e = absurd (hears_no_end size (taken (ticked s moment).client) begun t.moment req t.heard e)
+unanswered_idle size es s moment (NoAnswer n) begun t req told e = given_up_idle s moment n s.asked refl told
+
+-- the client has none outstanding where a list ended without a fault
+pub idle_unless_fault : (camera : Address) (orders : List PlainCommand) (o n : ControlSide) (end : AcqEnd) (carried : CarriesOut camera orders o n end)
+    → is_fault_end end ≡ false → IsIdle n.client
+idle_unless_fault camera orders o n how.Stopped carried whole = list_idle camera orders o n how.Stopped carried refl
+idle_unless_fault camera orders o n (how.Refused status) carried whole = list_idle camera orders o n (how.Refused status) carried refl
+idle_unless_fault camera orders o n how.Spent carried whole = absurd (never_spent camera orders o n carried)
+idle_unless_fault camera orders o n how.Fault carried whole = let bad : ⊥ = cc in absurd bad
+idle_unless_fault camera orders o n (how.NoAnswer req) carried whole =
+    let s : Progress = orders_after orders (progress o.client 0) carried.before in
+    let k : Client = (next_part orders s carried.last.moment).state.client in
+    subst IsIdle (sym (carried.client ∙ ap (λ (p : Progress). p.client) (after_more orders (progress o.client 0) carried.before carried.last)))
+    (unanswered_idle (length orders) (ticks carried.last.moment ∷ []) k carried.last.moment (ticked k carried.last.moment).outcome
+    (next_part orders s carried.last.moment).state.begun carried.last req refl carried.ended)
+
 -- ---- how it ends
 
 passed_done : (s : Step) (end : AcqEnd) (told : Option ℕ) → cause_of s end told ≡ None → IsDone end
@@ -91,10 +160,6 @@ passed_done s (how.Refused status) told is = refl
 pub idle_then : (camera : Address) (s : Step) (o n : ControlSide) (end : AcqEnd) (told : Option ℕ) → CarriesOut camera (commands_in s) o n end
     → cause_of s end told ≡ None → IsIdle n.client
 idle_then camera s o n end told carried is = list_idle camera (commands_in s) o n end carried (passed_done s end told is)
-
-never_spent : (camera : Address) (orders : List PlainCommand) (o n : ControlSide) → CarriesOut camera orders o n how.Spent → ⊥
-never_spent camera orders o n carried =
-    (ends_as_told orders (orders_after orders (progress o.client 0) carried.before) carried.last).never_spent carried.ended
 
 -- no fault is told by what was read, or by a refusal
 abbrev pub IsPlain : Option ControlEnd → Type 0

@@ -24,4 +24,4 @@ pub use register_write::RegisterWrite;
 pub use step::Step;
 pub use stream_wish::StreamWish;
 pub use taken::{NotTaken, Taken};
-pub use taking::take_camera;
+pub use taking::{gain_control, take_camera};

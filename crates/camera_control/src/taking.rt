@@ -19,8 +19,9 @@ use gev_links::{Clock, Link};
 use gev_types::Peer;
 use std::sync::Wait;
 
-// Takes control where no other application has it.
-fn gain_control<R: Wait, L: Link, C: Clock>(
+/// Takes control of a camera where no other application has it: reads who has it, and asks for it once that was
+/// acknowledged. The client has no command outstanding.
+pub fn gain_control<R: Wait, L: Link, C: Clock>(
     rt: &R,
     client: &mut Client,
     control: &mut L,

@@ -1,3 +1,4 @@
 pub mod Once
 pub mod WordByWord
 pub mod Further
+pub mod AccessByAccess

@@ -4,7 +4,7 @@ use Rattle.std.specs.Result.{result_ok}
 use Rattle.std.specs.Str.{bytes_eq}
 use Rattle.gev_script.specs.Numbers.{number_in}
 use Rattle.camera_words.specs.declared.setting.Setting.{Setting}
-use Rattle.camera_words.specs.declared.setting.Setting.TheVariants.{Packet, Buffers, Bytes, Mode, Window, Timeout, Age, Rounds, Silence, Output, Until, Progress}
+use Rattle.camera_words.specs.declared.setting.Setting.TheVariants.{Packet, Buffers, Bytes, Mode, Window, Timeout, Age, Rounds, Silence, Output, Until, Progress, Digest}
 use Rattle.camera_words.specs.declared.setting.Choice.{Choice}
 
 -- ---- what a word may set
@@ -23,6 +23,7 @@ setting_named name =
     else if bytes_eq name (codes "as") then Some Output
     else if bytes_eq name (codes "until") then Some Until
     else if bytes_eq name (codes "progress") then Some Progress
+    else if bytes_eq name (codes "digest") then Some Digest
     else None
 
 abbrev pub number_within : ℕ → ℕ → List ℕ → Option ℕ
@@ -34,6 +35,13 @@ output_in text =
     if bytes_eq text (codes "lines") then Some 0
     else if bytes_eq text (codes "pictures") then Some 1
     else if bytes_eq text (codes "counts") then Some 2
+    else None
+
+-- `sha256` or `none`, by their numbers from 0
+abbrev pub digest_in : List ℕ → Option ℕ
+digest_in text =
+    if bytes_eq text (codes "sha256") then Some 0
+    else if bytes_eq text (codes "none") then Some 1
     else None
 
 -- `frames` or `stdin`, by their numbers from 0
@@ -62,6 +70,7 @@ value_in Silence text = number_within 1 3600000 text
 value_in Output text = output_in text
 value_in Until text = until_in text
 value_in Progress text = none_or_from 100 (number_within 0 60000 text)
+value_in Digest text = digest_in text
 
 -- ---- what was set
 
@@ -79,6 +88,7 @@ number_of Silence = 8
 number_of Output = 9
 number_of Until = 10
 number_of Progress = 11
+number_of Digest = 12
 
 abbrev pub is_same : Setting → Setting → Bool
 is_same a b = number_of a == number_of b
@@ -111,6 +121,7 @@ Fits Silence n = (1 ≤ n) × (n ≤ 3600000)
 Fits Output n = n ≤ 2
 Fits Until n = n ≤ 1
 Fits Progress n = n ≤ 60000
+Fits Digest n = n ≤ 1
 
 -- All of them do.
 abbrev pub AllFit : List Choice → Type 0

@@ -5,3 +5,4 @@ pub mod SimulateWords
 pub mod Writes
 pub mod Choices
 pub mod Receiving
+pub mod Accesses

@@ -9,6 +9,8 @@ use Rattle.camera_words.specs.declared.setting.Setting.TheVariants as settings
 use Rattle.camera_words.specs.declared.setting.Choice.{Choice}
 use Rattle.camera_words.specs.declared.setting.ReceiveWord.{ReceiveWord}
 use Rattle.camera_words.specs.declared.setting.ReceiveWord.TheVariants.{Write, Choose}
+use Rattle.camera_words.specs.declared.settings.LineDigest.{LineDigest}
+use Rattle.camera_words.specs.declared.settings.LineDigest.TheVariants.{Sha256, Omitted}
 use Rattle.camera_words.specs.declared.settings.Output.{Output}
 use Rattle.camera_words.specs.declared.settings.Output.TheVariants.{Lines, Pictures, Counts}
 use Rattle.camera_words.specs.declared.settings.Settings.{Settings}
@@ -100,9 +102,13 @@ words_from place s (word ∷ words) = go_on place (with_word s word) (λ t. word
 
 -- ---- what they ask for
 
--- what is written, by its number
-abbrev pub output_of : ℕ → Output
-output_of n = if n == 0 then Lines else if n == 1 then Pictures else Counts
+-- the digest in a line, by its number
+abbrev pub digest_of : ℕ → LineDigest
+digest_of n = if n == 0 then Sha256 else Omitted
+
+-- what is written, by its number and that of the digest in a line
+abbrev pub output_of : ℕ → ℕ → Output
+output_of n digest = if n == 0 then Lines (digest_of digest) else if n == 1 then Pictures else Counts
 
 abbrev pub is_stdin : ℕ → Bool
 is_stdin n = n == 1
@@ -119,10 +125,10 @@ settings_of camera frames s = record {
   mode = chosen settings.Mode 0 s.choices;
   window = chosen settings.Window 4 s.choices;
   timeout = chosen settings.Timeout 200 s.choices;
-  age = chosen settings.Age 5 s.choices;
+  age = chosen settings.Age 10 s.choices;
   rounds = chosen settings.Rounds 3 s.choices;
   silence = chosen settings.Silence 5000 s.choices;
-  output = output_of (chosen settings.Output 0 s.choices);
+  output = output_of (chosen settings.Output 0 s.choices) (chosen settings.Digest 0 s.choices);
   until_input_ends = is_stdin (chosen settings.Until 0 s.choices);
   progress = chosen settings.Progress 0 s.choices;
 }

@@ -52,7 +52,7 @@ with_until s (Some input) = Some (record s { with_input = Some input })
 abbrev pub with_setting : List ℕ → List ℕ → SimulateSettings → Option SimulateSettings
 with_setting name value s =
     if bytes_eq name (codes "seed") then with_seed s (set_first s.seed (number_of 0 (2 ^ 64 - 1) value))
-    else if bytes_eq name (codes "rate") then with_rate s (set_first s.rate (number_of 4 1000 value))
+    else if bytes_eq name (codes "rate") then with_rate s (set_first s.rate (number_of 1 1000 value))
     else if bytes_eq name (codes "turns") then with_turns s (set_first s.turns (number_of 1 (2 ^ 32 - 1) value))
     else if bytes_eq name (codes "until") then with_until s (set_first s.with_input (until_of value))
     else None

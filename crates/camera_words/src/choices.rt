@@ -1,5 +1,5 @@
 ghost use Rattle.std.specs.Prelude.{◌≡◌, ◌≤◌, IfSome, Some, None};
-ghost use Rattle.camera_words.specs.Choices.{setting_named, number_within, output_in, until_in, none_or_from, value_in, number_of, is_same, found, chosen, Fits, AllFit};
+ghost use Rattle.camera_words.specs.Choices.{setting_named, number_within, output_in, digest_in, until_in, none_or_from, value_in, number_of, is_same, found, chosen, Fits, AllFit};
 
 use crate::parts::is;
 use crate::setting::{Choice, Setting};
@@ -33,6 +33,8 @@ pub(crate) fn setting_named(name: &[u8]) -> Option<Setting>
         Some(Setting::Until)
     } else if is(name, b"progress") {
         Some(Setting::Progress)
+    } else if is(name, b"digest") {
+        Some(Setting::Digest)
     } else {
         None
     }
@@ -60,6 +62,20 @@ fn output_in(text: &[u8]) -> Option<u32>
         Some(1)
     } else if is(text, b"counts") {
         Some(2)
+    } else {
+        None
+    }
+}
+
+/// The digest in a line, by its number.
+fn digest_in(text: &[u8]) -> Option<u32>
+    ensures value { result ≡ digest_in text.now }
+    ensures within { IfSome result (λ n. n ≤ 1) }
+{
+    if is(text, b"sha256") {
+        Some(0)
+    } else if is(text, b"none") {
+        Some(1)
     } else {
         None
     }
@@ -114,6 +130,7 @@ pub(crate) fn value_in(setting: Setting, text: &[u8]) -> Option<u32>
         Setting::Output => output_in(text),
         Setting::Until => until_in(text),
         Setting::Progress => progress_in(text),
+        Setting::Digest => digest_in(text),
     }
 }
 
@@ -134,6 +151,7 @@ fn number_of(setting: Setting) -> u8
         Setting::Output => 9,
         Setting::Until => 10,
         Setting::Progress => 11,
+        Setting::Digest => 12,
     }
 }
 

@@ -16,7 +16,7 @@ use std::marker::Model;
 #[derive(Drop)]
 pub(crate) struct Reading {
     pub writes: ArrayVec<RegisterWrite, 64>,
-    pub choices: ArrayVec<Choice, 12>,
+    pub choices: ArrayVec<Choice, 13>,
 }
 
 impl Model for Reading {

@@ -1,11 +1,11 @@
 ghost use Rattle.std.specs.Prelude.{◌≡◌, ◌≤◌, map, drop, slice_get, IfOk};
 ghost use Rattle.std.specs.String.{string_bytes};
-ghost use Rattle.camera_words.specs.Receiving.{output_of, is_stdin, settings_of, frames_of, receive_of, IsInRange};
+ghost use Rattle.camera_words.specs.Receiving.{digest_of, output_of, is_stdin, settings_of, frames_of, receive_of, IsInRange};
 
 use crate::choices::{chosen, found};
 use crate::reading::{Reading, read_words};
 use crate::setting::Setting;
-use crate::settings::{Output, Settings};
+use crate::settings::{LineDigest, Output, Settings};
 use crate::words::camera_at;
 use gev_script::number_in;
 
@@ -30,12 +30,23 @@ fn behind_three(words: &[String]) -> &[String]
     if words.len() > 3 { &words[3..] } else { &[] }
 }
 
-/// What is written, by its number.
-fn output_of(number: u32) -> Output
-    ensures { result ≡ output_of number }
+/// The digest in a line, by its number.
+fn digest_of(number: u32) -> LineDigest
+    ensures { result ≡ digest_of number }
 {
     if number == 0 {
-        Output::Lines
+        LineDigest::Sha256
+    } else {
+        LineDigest::Omitted
+    }
+}
+
+/// What is written, by its number and that of the digest in a line.
+fn output_of(number: u32, digest: u32) -> Output
+    ensures { result ≡ output_of number digest }
+{
+    if number == 0 {
+        Output::Lines(digest_of(digest))
     } else if number == 1 {
         Output::Pictures
     } else {
@@ -56,10 +67,11 @@ fn settings_of(camera: u32, frames: u32, reading: Reading) -> Settings
     let mode = chosen(Setting::Mode, 0, choices) as u8;
     let window = chosen(Setting::Window, 4, choices) as u8;
     let timeout = chosen(Setting::Timeout, 200, choices);
-    let age = chosen(Setting::Age, 5, choices);
+    let age = chosen(Setting::Age, 10, choices);
     let rounds = chosen(Setting::Rounds, 3, choices) as u8;
     let silence = chosen(Setting::Silence, 5000, choices);
-    let output = output_of(chosen(Setting::Output, 0, choices));
+    let digest = chosen(Setting::Digest, 0, choices);
+    let output = output_of(chosen(Setting::Output, 0, choices), digest);
     let until_input_ends = chosen(Setting::Until, 0, choices) == 1;
     let progress = chosen(Setting::Progress, 0, choices);
     Settings {

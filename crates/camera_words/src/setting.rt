@@ -16,6 +16,7 @@ pub(crate) enum Setting {
     Output,
     Until,
     Progress,
+    Digest,
 }
 
 /// What a word sets, and to what.

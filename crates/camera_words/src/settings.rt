@@ -1,11 +1,20 @@
 use crate::register_write::RegisterWrite;
 use arrayvec::ArrayVec;
 
+/// The digest of the image in a frame's line.
+#[derive(Clone, Copy, Debug, PartialEq, Eq)]
+pub enum LineDigest {
+    /// SHA-256 (FIPS 180-4).
+    Sha256,
+    /// None: the line has `-`, and no digest is computed.
+    Omitted,
+}
+
 /// What is written of the frames that are received.
 #[derive(Clone, Copy, Debug, PartialEq, Eq)]
 pub enum Output {
-    /// A line of each frame, and one at the end.
-    Lines,
+    /// A line of each frame, with this digest, and one at the end.
+    Lines(LineDigest),
     /// The picture of each frame that has one.
     Pictures,
     /// The line at the end alone.

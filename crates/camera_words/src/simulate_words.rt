@@ -16,9 +16,9 @@ pub struct SimulateWords {
     pub address: u32,
     /// The seed of its images.
     pub seed: u64,
-    /// How many turns it makes in a second, from 4 to 1000.
+    /// How many of its turns make a frame in a second, from 1 to 1000.
     pub rate: u64,
-    /// The most turns, from 1 to 4,294,967,295.
+    /// How many turns make a frame at most, from 1 to 4,294,967,295.
     pub turns: u64,
     /// Whether it also ends where standard input has ended.
     pub with_input: bool,
@@ -124,7 +124,7 @@ fn with_setting(name: &[u8], value: &[u8], settings: SimulateSettings) -> Option
         return with_seed(settings, seed);
     }
     if is(name, b"rate") {
-        let rate = set_first(settings.rate, number_of(4, 1000, value));
+        let rate = set_first(settings.rate, number_of(1, 1000, value));
         return with_rate(settings, rate);
     }
     if is(name, b"turns") {

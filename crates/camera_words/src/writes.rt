@@ -42,7 +42,7 @@ fn hex_number(digits: &[u8]) -> Option<u32>
 }
 
 /// The number that a word is: `0x` and hex digits, or decimal without leading zeros.
-fn register_number(word: &[u8]) -> Option<u32>
+pub(crate) fn register_number(word: &[u8]) -> Option<u32>
     ensures { result ≡ register_number word.now }
 {
     if begins_hex(word) {

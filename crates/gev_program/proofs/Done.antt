@@ -7,7 +7,7 @@ use Rattle.gev_links.specs.Links.{Address}
 use Rattle.gev_status.specs.declared.status.Status.{Status}
 use Rattle.gev_status.specs.declared.status.Status.TheVariants.{LinkFault}
 use Rattle.gev_top.specs.declared.errand.Errand.{Errand}
-use Rattle.gev_top.specs.declared.errand.Errand.TheVariants.{Plain, Live, Record, Discover, Description, Simulate, Receive}
+use Rattle.gev_top.specs.declared.errand.Errand.TheVariants.{Plain, Live, Record, Discover, Description, Simulate, Receive, Register}
 use Rattle.gev_top.specs.Completeness.{NoneRose, CompletesErrand}
 use Rattle.gev_top.specs.LiveWords.{IfPorts, IfCameras}
 use Rattle.gev_program.specs.Runs.{RunsNothing}
@@ -34,6 +34,7 @@ unread_of L C K by stands_at o e seen kept status (Discover address) does = tt
 unread_of L C K by stands_at o e seen kept status (Description camera) does = tt
 unread_of L C K by stands_at o e seen kept status (Simulate asked) does = tt
 unread_of L C K by stands_at o e seen kept status (Receive asked) does = tt
+unread_of L C K by stands_at o e seen kept status (Register asked) does = tt
 
 pub none_of : (L C K : Type 0) (by : Tales L C) (stands_at : Address → Address → Type 0) (o e : Outside L C) (seen : K → List Entry) (kept : Option K) (status : Status)
     (asked : Errand) → Does by stands_at o e seen kept status asked → kept ≡ None
@@ -45,6 +46,7 @@ none_of L C K by stands_at o e seen kept status (Discover address) does none = t
 none_of L C K by stands_at o e seen kept status (Description camera) does none = tt
 none_of L C K by stands_at o e seen kept status (Simulate asked) does none = tt
 none_of L C K by stands_at o e seen kept status (Receive asked) does none = tt
+none_of L C K by stands_at o e seen kept status (Register asked) does none = tt
 
 pub cameras_of : (L C K : Type 0) (by : Tales L C) (stands_at : Address → Address → Type 0) (o e : Outside L C) (seen : K → List Entry) (kept : Option K) (status : Status)
     (asked : Errand) → Does by stands_at o e seen kept status asked → IfCameras asked ((e.left ≡ o.left) × (e.reads ≡ o.reads) × (kept ≡ None))
@@ -55,6 +57,7 @@ cameras_of L C K by stands_at o e seen kept status (Discover address) does = (do
 cameras_of L C K by stands_at o e seen kept status (Description camera) does = (does.unread.left, does.unread.reads, does.unkept)
 cameras_of L C K by stands_at o e seen kept status (Simulate asked) does = tt
 cameras_of L C K by stands_at o e seen kept status (Receive asked) does = tt
+cameras_of L C K by stands_at o e seen kept status (Register asked) does = (does.unread.left, does.unread.reads, does.unkept)
 
 pub writes_steady_of : (L C K : Type 0) (by : Tales L C) (stands_at : Address → Address → Type 0) (o e : Outside L C) (seen : K → List Entry) (kept : Option K) (status : Status)
     (asked : Errand) → Does by stands_at o e seen kept status asked → WritesSteady asked status o.writes e.writes
@@ -65,6 +68,7 @@ writes_steady_of L C K by stands_at o e seen kept status (Discover address) does
 writes_steady_of L C K by stands_at o e seen kept status (Description camera) does = does.writes_steady
 writes_steady_of L C K by stands_at o e seen kept status (Simulate asked) does = does.writes_steady
 writes_steady_of L C K by stands_at o e seen kept status (Receive asked) does = does.writes_steady
+writes_steady_of L C K by stands_at o e seen kept status (Register asked) does = does.writes_steady
 
 -- where no count of faults rose
 pub complete_of : (L C K : Type 0) (by : Tales L C) (stands_at : Address → Address → Type 0) (o e : Outside L C) (seen : K → List Entry) (kept : Option K) (status : Status)
@@ -78,3 +82,4 @@ complete_of L C K by stands_at o e seen kept status (Discover address) does link
 complete_of L C K by stands_at o e seen kept status (Description camera) does link_fault none none_written none_failed = does.complete none_written none_failed
 complete_of L C K by stands_at o e seen kept status (Simulate asked) does link_fault none none_written none_failed = does.complete none_written none_failed
 complete_of L C K by stands_at o e seen kept status (Receive asked) does link_fault none none_written none_failed = does.complete none_written none_failed
+complete_of L C K by stands_at o e seen kept status (Register asked) does link_fault none none_written none_failed = does.complete none_written none_failed

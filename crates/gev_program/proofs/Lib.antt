@@ -8,6 +8,7 @@ pub mod Promised
 pub mod Recorded
 pub mod Completing
 pub mod Faced
+pub mod Accessed
 pub mod Simulated
 pub mod Received
 pub mod Done

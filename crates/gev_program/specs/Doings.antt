@@ -9,12 +9,12 @@ use Rattle.gev_status.specs.declared.status.Status.TheVariants.{WriteFault, Link
 use Rattle.script_runs.specs.Verdicts.{IfTold}
 use Rattle.gev_top.specs.declared.command.Command.{Command}
 use Rattle.gev_top.specs.declared.errand.Errand.{Errand}
-use Rattle.gev_top.specs.declared.errand.Errand.TheVariants.{Plain, Live, Record, Discover, Description, Simulate, Receive}
+use Rattle.gev_top.specs.declared.errand.Errand.TheVariants.{Plain, Live, Record, Discover, Description, Simulate, Receive, Register}
 use Rattle.gev_top.specs.Answers.{Answers, IsDecided, ReadsSteady}
-use Rattle.gev_top.specs.Completeness.{NoneRose, EndsLive, EndsSearch, EndsDescription, EndsSimulation, EndsReception}
+use Rattle.gev_top.specs.Completeness.{NoneRose, EndsLive, EndsSearch, EndsDescription, EndsSimulation, EndsReception, EndsRegisters}
 use Rattle.live_promises.specs.Over.{ReceivesSo}
 use Rattle.gev_program.specs.Runs.{IsBound, RunsOver, RecordsOver, RunsNothing}
-use Rattle.gev_program.specs.Cameras.{DiscoversOver, DescribesOver}
+use Rattle.gev_program.specs.Cameras.{DiscoversOver, DescribesOver, RegistersOver}
 use Rattle.gev_program.specs.Simulation.{SimulatesSo}
 
 -- what links and clocks tell
@@ -73,6 +73,14 @@ pub record DoesSimulate {L C K : Type 0} (by : Tales L C) (stands_at : Address �
   pub writes_steady : status ≢ WriteFault → e.writes ≡ o.writes
   pub complete : NoneRose o.writes e.writes → NoneRose o.failed e.failed → EndsSimulation status
 
+-- Registers of a camera are read and written: nothing is read of the source, and nothing kept.
+pub record DoesRegister {L C K : Type 0} (o e : Outside L C) (kept : Option K) (status : Status) (Does : Type 0) : Type 0 where
+  pub registers : Does
+  pub unread : ReadsNothing o e
+  pub unkept : kept ≡ None
+  pub writes_steady : status ≢ WriteFault → status ≢ LinkFault → e.writes ≡ o.writes
+  pub complete : NoneRose o.writes e.writes → NoneRose o.failed e.failed → EndsRegisters status
+
 -- The frames of a camera.
 pub record DoesReceive {L C K : Type 0} (by : Tales L C) (o e : Outside L C) (seen : K → List Entry) (kept : Option K) (status : Status) (asked : Settings) : Type 0 where
   pub receives : ReceivesSo by.heard by.sent by.faults by.told asked status o.bound e.bound o.links e.links o.clocks e.clocks e.left o.written e.written o.writes e.writes (option_map seen kept)
@@ -92,3 +100,5 @@ Does by stands_at o e seen kept status (Description camera) =
     DoesAsk o e kept status (DescribesOver by.heard by.sent by.told camera status o.links e.links o.clocks e.clocks o.written e.written) EndsDescription
 Does by stands_at o e seen kept status (Simulate asked) = DoesSimulate by stands_at o e kept status asked
 Does by stands_at o e seen kept status (Receive asked) = DoesReceive by o e seen kept status asked
+Does by stands_at o e seen kept status (Register asked) =
+    DoesRegister o e kept status (RegistersOver by.heard by.sent by.told asked status o.links e.links o.clocks e.clocks o.written e.written)

@@ -21,6 +21,6 @@ pub record SimulatesSo {L C : Type 0} (heard : L → Option (List Answer)) (sent
     (clocks clocks_after : Option (List C)) (left left_after : Option (List ℕ)) (reads reads_after : ℕ) (written written_after : Option (List ℕ)) : Type 0 where
   pub end : SimulateEnd
   pub answered : answer ≡ simulate_status end
-  pub simulates : Simulates heard sent faults told stands_at w end bound bound_after links links_after clocks clocks_after left_after written written_after
+  pub simulates : Simulates heard sent faults told stands_at w end bound bound_after links links_after clocks clocks_after left left_after written written_after
   pub unread : w.with_input ≡ false → left_after ≡ left
   pub reads_steady : reads_after ≡ reads

@@ -7,7 +7,7 @@ ghost use Rattle.gev_program.specs.Simulation.{simulate_status, SimulatesSo};
 
 use camera_serving::{SimulateEnd, simulate};
 use camera_words::SimulateWords;
-use gev_far::FarPorts;
+use gev_far::{FarPorts, TimedLink};
 use gev_links::{Sink, Source};
 use gev_status::Status;
 use std::alloc::Global;
@@ -34,6 +34,8 @@ pub(crate) fn run_simulate<R: Wait, S: Source, P: FarPorts, K: Sink>(
     ports: &mut P,
     sink: &mut K,
 ) -> Status
+where
+    P::L: TimedLink,
     ensures simulates { SimulatesSo P.L.received P.L.sent P.L.faults P.C.told P.stands_at asked result (P.bound ports.old) (P.bound ports.new)
         (P.links ports.old) (P.links ports.new) (P.clocks ports.old) (P.clocks ports.new) (S.left source.old) (S.left source.new)
         (S.faults source.old) (S.faults source.new) (K.written sink.old) (K.written sink.new) }

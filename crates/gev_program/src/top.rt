@@ -16,23 +16,24 @@ ghost use Rattle.gev_top.specs.Answers.{Answers, IsDecided, ReadsSteady};
 ghost use Rattle.gev_top.specs.LiveWords.{IsErrand, IfPorts, IfCameras, errand_of, errand_fault};
 ghost use Rattle.gev_top.specs.Completeness.{NoneRose, CompletesErrand};
 ghost use Rattle.gev_program.specs.Runs.{IsBound, RunsOver, RecordsOver, RunsNothing};
-ghost use Rattle.gev_program.specs.Cameras.{DiscoversOver, DescribesOver};
+ghost use Rattle.gev_program.specs.Cameras.{DiscoversOver, DescribesOver, RegistersOver};
 ghost use Rattle.gev_program.specs.Simulation.{SimulatesSo};
 ghost use Rattle.gev_program.specs.Reception.{WritesSteady};
 ghost use Rattle.live_promises.specs.Over.{ReceivesSo};
+ghost use Rattle.camera_words.specs.declared.access.RegisterWords.{RegisterWords};
 ghost use Rattle.camera_words.specs.declared.settings.Settings.{Settings};
 ghost use Rattle.camera_words.specs.declared.simulate_words.SimulateWords.{SimulateWords};
 ghost use Rattle.gev_program.specs.Replayed.{ReplaysByHeadline};
 ghost use Rattle.gev_program.specs.Explained.{ExplainsByHeadline};
 ghost use Rattle.gev_program.specs.Doings.{Does};
 
-use crate::meeting::{run_description, run_discover};
+use crate::meeting::{run_description, run_discover, run_register};
 use crate::reception::run_receive;
 use crate::recording::run_recorded;
 use crate::running::run_live;
 use crate::simulation::run_simulate;
 use buffer_words::{Board, Pass};
-use gev_far::{FarPorts, PeekLink};
+use gev_far::{FarPorts, PeekLink, TimedLink};
 use gev_links::{Gate, Sink, Source};
 use gev_status::Status;
 use gev_top::{Errand, read_errand, run_command};
@@ -55,6 +56,9 @@ use std::thread::Threads;
 /// `discover` with an address or none looks for cameras over a link of the ports and writes a line for each,
 /// `description` with a camera's address writes the description that lies in it. Nothing is kept.
 ///
+/// `register` with a camera's address and accesses reads and writes its registers over a link of the ports, in order, and
+/// writes a line for each that was read. Nothing is kept.
+///
 /// `simulate` with an address of this machine and settings simulates a camera there, over a link of the ports, and
 /// writes a line behind its turns. Nothing is kept.
 ///
@@ -72,7 +76,7 @@ pub fn gevacq_top<R: Threads + Wait + Sync, S: Source, K: Sink, P: FarPorts, G: 
     kept: &mut Option<(Board, Pass)>,
 ) -> Status
 where
-    P::L: PeekLink,
+    P::L: PeekLink + TimedLink,
     requires unkept { kept.old ≡ None }
 
     // Words that aren't a command line are answered by their place, and nothing is read, written or bound.
@@ -123,7 +127,7 @@ where
     ensures few_binds { P.binds ports.new ≤ P.binds ports.old + 3 }
 
     // A search for cameras, and a description: what was written is what the link of the ports gave, which came back.
-    // They read nothing, and nothing is kept.
+    // They read nothing, and nothing is kept; so of accesses to registers.
     ensures discovers { (address : ℕ) → errand_of (map (λ word. string_bytes word) words.now) ≡ Ok (errands.Discover address)
         → DiscoversOver P.L.received P.L.sent P.C.told address result (P.links ports.old) (P.links ports.new)
         (P.clocks ports.old) (P.clocks ports.new) (K.written sink.old) (K.written sink.new) }
@@ -132,6 +136,12 @@ where
         (P.clocks ports.old) (P.clocks ports.new) (K.written sink.old) (K.written sink.new) }
     ensures cameras { (errand : Errand) → errand_of (map (λ word. string_bytes word) words.now) ≡ Ok errand
         → IfCameras errand ((S.left source.new ≡ S.left source.old) × (S.faults source.new ≡ S.faults source.old) × (kept.new ≡ None)) }
+
+    // Registers of a camera: over a link of the ports, which came back, the accesses were made in order, with control of the
+    // camera where any of them writes, and the lines are what was read.
+    ensures registers { (asked : RegisterWords) → errand_of (map (λ word. string_bytes word) words.now) ≡ Ok (errands.Register asked)
+        → RegistersOver P.L.received P.L.sent P.C.told asked result (P.links ports.old) (P.links ports.new)
+        (P.clocks ports.old) (P.clocks ports.new) (K.written sink.old) (K.written sink.new) }
 
     // A simulated camera: what was sent over the link of the ports, which came back, are the answers and packets of the
     // camera's machine for what was received there, and the line tells the turns that were made. Nothing is kept.
@@ -154,8 +164,8 @@ where
         → NoneRose (P.faults ports.old) (P.faults ports.new) → CompletesErrand errand (S.left source.old) result }
 
     // A count of faults changes only with the answer that tells of it; of a capture, that of the source may also
-    // have changed where writing failed or memory ran out behind a read that failed, and of a camera's frames that
-    // of the sink where a link failed.
+    // have changed where writing failed or memory ran out behind a read that failed, and of a camera's frames and
+    // registers that of the sink where a link failed.
     ensures reads_steady { (command : Command) → errand_of (map (λ word. string_bytes word) words.now) ≡ Ok (errands.Plain command)
         → ReadsSteady command result (S.faults source.old) (S.faults source.new) }
     ensures writes_steady { (errand : Errand) → errand_of (map (λ word. string_bytes word) words.now) ≡ Ok errand
@@ -181,7 +191,7 @@ fn run_errand<R: Threads + Wait + Sync, S: Source, K: Sink, P: FarPorts, G: Gate
     kept: &mut Option<(Board, Pass)>,
 ) -> Status
 where
-    P::L: PeekLink,
+    P::L: PeekLink + TimedLink,
     requires within { IsErrand errand }
     requires unkept { kept.old ≡ None }
     ensures understood { (place : ℕ) → result ≢ Status.Usage place }
@@ -225,5 +235,6 @@ where
         Errand::Receive(settings) => {
             run_receive(rt, alloc, &settings, source, ports, gate, sink, kept)
         }
+        Errand::Register(asked) => run_register(rt, &asked, ports, sink),
     }
 }

@@ -14,7 +14,7 @@ use Rattle.script_runs.specs.Runs.{RunsLines, AreLines}
 use Rattle.script_runs.specs.Outcomes.{RunEnds}
 use Rattle.script_trace.specs.Standing.{Standing, running, config_of, ReplayRuns}
 use Rattle.script_trace.specs.Standing.{first as at_first}
-use Rattle.script_trace.proofs.Scripts.{runs_keep}
+use Rattle.script_trace.proofs.Changing.{runs_keep}
 use Rattle.script_trace.specs.Notes.{Note}
 use Rattle.script_trace.specs.Explaining.{Telling, untold, ExplainsFrom, ExplainRuns, ExplainRefuses}
 use Rattle.script_trace.specs.NoteLaws.{HasSizes, StandsTold, HoldsReport, HoldsLast}

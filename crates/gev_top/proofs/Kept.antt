@@ -3,7 +3,7 @@ use Rattle.std.proofs.Common.{ℕ, ◌+◌, List, length, Option}
 use Rattle.script_runs.specs.Outcomes.{RunEnds}
 use Rattle.script_trace.specs.Standing as replay
 use Rattle.script_trace.specs.Laws.{StandsWell, HasSaid}
-use Rattle.script_trace.proofs.Scripts.{runs_keep}
+use Rattle.script_trace.proofs.Changing.{runs_keep}
 use Rattle.camera_replay.specs.Standing as camera
 use Rattle.camera_replay.specs.Laws.{IsTold, CameraTells, HasOnePrimary}
 use Rattle.camera_replay.proofs.Telling.{reports_told}

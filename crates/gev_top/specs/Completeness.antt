@@ -8,7 +8,7 @@ use Rattle.gev_top.specs.declared.command.Command.{Command}
 use Rattle.gev_top.specs.declared.command.Command.TheVariants.{Replay, Explain, Image, Streams, Capture, Camera, Make, Soak}
 use Rattle.gev_top.specs.Answers.{IsDecided}
 use Rattle.gev_top.specs.declared.errand.Errand.{Errand}
-use Rattle.gev_top.specs.declared.errand.Errand.TheVariants.{Plain, Live, Record, Discover, Description, Simulate, Receive}
+use Rattle.gev_top.specs.declared.errand.Errand.TheVariants.{Plain, Live, Record, Discover, Description, Simulate, Receive, Register}
 
 -- the count of faults didn't rise
 abbrev pub NoneRose : ℕ → ℕ → Type 0
@@ -102,6 +102,16 @@ EndsReception (ControlLost frames) = ⊤
 EndsReception NoMemory = ⊤
 EndsReception _ = ⊥
 
+-- the registers were read and written; a command had no answer or was refused, or another application controlled the
+-- camera
+abbrev pub EndsRegisters : Status → Type 0
+EndsRegisters Done = ⊤
+EndsRegisters (NoAnswer req) = ⊤
+EndsRegisters (RefusedAt register code) = ⊤
+EndsRegisters Controlled = ⊤
+EndsRegisters NoMemory = ⊤
+EndsRegisters _ = ⊥
+
 -- ---- the commands, a row each
 
 abbrev pub IsComplete : Command → Status → Type 0
@@ -128,3 +138,4 @@ CompletesErrand (Discover address) left status = EndsSearch status
 CompletesErrand (Description camera) left status = EndsDescription status
 CompletesErrand (Simulate asked) left status = EndsSimulation status
 CompletesErrand (Receive s) left status = EndsReception status
+CompletesErrand (Register asked) left status = EndsRegisters status

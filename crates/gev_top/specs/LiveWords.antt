@@ -7,10 +7,11 @@ use Rattle.board_calls.specs.declared.mode.Mode.TheVariants.{OldestFirst}
 use Rattle.script_trace.specs.Modes.{mode_of}
 use Rattle.camera_words.specs.Words.{discover_of, description_of}
 use Rattle.camera_words.specs.SimulateWords.{simulate_of}
+use Rattle.camera_words.specs.Accesses.{register_of}
 use Rattle.camera_words.specs.Receiving.{receive_of, IsInRange as IsReceivable}
 use Rattle.gev_top.specs.declared.live_numbers.LiveNumbers.{LiveNumbers}
 use Rattle.gev_top.specs.declared.errand.Errand.{Errand}
-use Rattle.gev_top.specs.declared.errand.Errand.TheVariants.{Plain, Live, Record, Discover, Description, Simulate, Receive}
+use Rattle.gev_top.specs.declared.errand.Errand.TheVariants.{Plain, Live, Record, Discover, Description, Simulate, Receive, Register}
 use Rattle.gev_top.specs.Usage as plain
 use Rattle.gev_top.specs.Usage.{Said, ◌>>=◌, read_at, number_at, none_at, named}
 
@@ -70,6 +71,7 @@ IsErrand (Discover address) = ⊤
 IsErrand (Description camera) = ⊤
 IsErrand (Simulate asked) = ⊤
 IsErrand (Receive s) = IsReceivable s
+IsErrand (Register asked) = ⊤
 
 -- the words of which the first is this name
 abbrev pub errand_named : List ℕ → List (List ℕ) → Said Errand
@@ -80,6 +82,7 @@ errand_named name words =
     else if bytes_eq name (codes "description") then (description_of words >>= λ camera. Ok (Description camera))
     else if bytes_eq name (codes "receive") then (receive_of words >>= λ s. Ok (Receive s))
     else if bytes_eq name (codes "simulate") then (simulate_of words >>= λ asked. Ok (Simulate asked))
+    else if bytes_eq name (codes "register") then (register_of words >>= λ asked. Ok (Register asked))
     else (named name words >>= λ command. Ok (Plain command))
 
 abbrev pub errand_of : List (List ℕ) → Said Errand
@@ -103,8 +106,9 @@ IfPorts (Discover address) P = ⊤
 IfPorts (Description camera) P = ⊤
 IfPorts (Simulate asked) P = ⊤
 IfPorts (Receive s) P = ⊤
+IfPorts (Register asked) P = ⊤
 
--- this, where a camera on the network is asked for what it tells of itself
+-- this, where a camera on the network is asked for what it tells of itself, or its registers are read and written
 abbrev pub IfCameras : Errand → Type 0 → Type 0
 IfCameras (Plain command) P = ⊤
 IfCameras (Live n) P = ⊤
@@ -113,3 +117,4 @@ IfCameras (Discover address) P = P
 IfCameras (Description camera) P = P
 IfCameras (Simulate asked) P = ⊤
 IfCameras (Receive s) P = ⊤
+IfCameras (Register asked) P = P

@@ -1,6 +1,6 @@
 use crate::command::Command;
 use crate::live_numbers::LiveNumbers;
-use camera_words::{Settings, SimulateWords};
+use camera_words::{RegisterWords, Settings, SimulateWords};
 
 /// What the words of any command line ask for.
 #[derive(Drop)]
@@ -19,4 +19,6 @@ pub enum Errand {
     Simulate(SimulateWords),
     /// The frames of a camera on the network.
     Receive(Settings),
+    /// Registers of a camera that are read and written by themselves.
+    Register(RegisterWords),
 }

@@ -10,7 +10,7 @@ use crate::errand::Errand;
 use crate::live_numbers::LiveNumbers;
 use crate::usage::{is, none_at, number_at, read_named};
 use board_calls::Mode;
-use camera_words::{read_description, read_discover, read_receive, read_simulate};
+use camera_words::{read_description, read_discover, read_receive, read_register, read_simulate};
 use gev_script::number_in;
 
 /// What the words ask for, or the place, from 0, of the first word with which no command line goes on. Where more words
@@ -53,6 +53,10 @@ fn read_errand_named(name: &[u8], words: &[String]) -> Result<Errand, u32>
     if is(name, b"simulate") {
         let asked = read_simulate(words)?;
         return Ok(Errand::Simulate(asked));
+    }
+    if is(name, b"register") {
+        let asked = read_register(words)?;
+        return Ok(Errand::Register(asked));
     }
     let command = read_named(name, words)?;
     Ok(Errand::Plain(command))

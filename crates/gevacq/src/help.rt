@@ -17,6 +17,12 @@ gevacq description <camera>
     Writes the description of the camera's registers, as it lies in the camera at
     this address: mostly a zip file, else XML.
 
+gevacq register <camera> <access> [<access>..]
+    Reads and writes registers of the camera at this address, in order: an access
+    is `<register>` to read it, `<register>=<value>` to write it, 1 to 64 in all.
+    Writes a line for each that was read. For writes alone it takes control, and
+    gives it away.
+
 gevacq receive <camera> <frames> [<word>..]
     Takes control of the camera at this address, makes it send, and writes a line
     for each image that is handed out; then it stops the camera, gives control
@@ -32,7 +38,7 @@ gevacq receive <camera> <frames> [<word>..]
       window=<n>      open blocks at once, 1 to 4, else 4
       timeout=<ms>    1 to 60000, else 200: a block of which nothing came for so
                       long is given up
-      age=<ms>        1 to 60000, else 5: missing packets are asked for after so long
+      age=<ms>        1 to 60000, else 10: missing packets are asked for after so long
       rounds=<n>      how often they are, 0 to 8, else 3
       silence=<ms>    1 to 3600000, else 5000: ends where nothing came for so long
       as=pictures     pictures in place of all lines; as=counts the last line alone;
@@ -76,12 +82,12 @@ gevacq camera
 To try it without a camera:
 
 gevacq simulate <address> [<word>..]
-    Simulates a camera at this address of the machine: it answers a command a
-    turn, sends an image a turn while its stream is open, and writes at last how
-    many images and turns there were. Its words, in any order: seed=<seed> of the
-    images, else 1; rate=<n>, 4 to 1000 turns a second, else 20; turns=<n>, 1 to
-    4294967295, else the most; until=stdin to end where standard input has ended,
-    else until=turns.
+    Simulates a camera at this address of the machine: it obeys each command when
+    it comes, sends an image a turn while its stream is open, and writes at last
+    how many images and turns there were. Its words, in any order: seed=<seed> of
+    the images, else 1; rate=<n>, 1 to 1000 turns a second, else 20; turns=<n>, 1
+    to 4294967295, else the most; until=stdin to end where standard input has
+    ended, else until=turns.
 
 gevacq make <seed> <frames> <loss> <repeat> <swap>
     Writes a replay script of so many test images behind a network that loses,
@@ -153,10 +159,11 @@ usage: gevacq discover [<address>]
 usage: gevacq description <camera>
 usage: gevacq receive <camera> <frames> [<word>..]
 usage: gevacq simulate <address> [<word>..]
+usage: gevacq register <camera> <access> [<access>..]
 ";
 
 /// An example of each command.
-const EXAMPLES: [(&str, &str); 14] = [
+const EXAMPLES: [(&str, &str); 15] = [
     ("replay", "./gevacq replay < examples/one_block.script"),
     (
         "explain",
@@ -186,6 +193,10 @@ const EXAMPLES: [(&str, &str); 14] = [
         "./gevacq receive 192.168.10.7 100 start:0x0124=1 stop:0x0124=0",
     ),
     ("simulate", "./gevacq simulate 127.0.0.1"),
+    (
+        "register",
+        "./gevacq register 192.168.10.7 0x0904 0x0120=5000",
+    ),
 ];
 
 /// An example of this command, if there is such a command.

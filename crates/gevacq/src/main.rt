@@ -5,7 +5,7 @@ mod help;
 
 use crate::help::{HELP, USAGE, print_help_on};
 use gev_program::gevacq_top;
-use gev_real::{RealPorts, RestingBell, StandardInput, StandardOutput};
+use gev_real::{CallFault, RealPorts, RestingBell, SentCommand, StandardInput, StandardOutput};
 use gev_status::Status;
 use std::fs::Files;
 use std::net::Net;
@@ -60,7 +60,7 @@ fn run<R: Threads + Wait + Net + Clock + Files + Sync>(
     let mut sink = StandardOutput::new(io::writer(rt));
     let mut ports = RealPorts::new(handles);
     let mut kept = None;
-    gevacq_top(
+    let status = gevacq_top(
         handles,
         rt.alloc(),
         words,
@@ -69,7 +69,29 @@ fn run<R: Threads + Wait + Net + Clock + Files + Sync>(
         &mut ports,
         &RestingBell::new(),
         &mut kept,
-    )
+    );
+    let _ = report_link(rt, status, &ports);
+    status
+}
+
+/// Prints what the ports know of a fault: which call of the system failed, with its words for the reason, or which command
+/// had no answer.
+fn report_link<R: Net + Clock + Files + Sync>(
+    rt: &HostRuntime,
+    status: Status,
+    ports: &RealPorts<'_, R>,
+) -> io::Result<()> {
+    match status {
+        Status::LinkFault => match ports.fault() {
+            Some(fault) => eprintln!(rt; "gevacq: {fault}"),
+            None => Ok(()),
+        },
+        Status::NoAnswer { req } => match ports.command(req) {
+            Some(command) => eprintln!(rt; "gevacq: {command}"),
+            None => Ok(()),
+        },
+        _ => Ok(()),
+    }
 }
 
 /// Prints the help or the version where the words ask for it: `--help`, `-h`, `help`, `--version` or `-V` alone, or

@@ -3,7 +3,7 @@
 //! ```
 //! let record = buf.rec();
 //! if record.complete {
-//!     write_picture(rt.alloc(), record.image, record.data_len, buf.bytes(), &mut sink)?;
+//!     write_picture(rt.alloc(), record, buf.bytes(), &mut sink)?;
 //! }
 //! ```
 
@@ -23,5 +23,5 @@ pub use frame_pictures::{NoPicture, Samples, pixel_bits, samples_of};
 /// buf.put(640, &row);
 /// println!(rt; "{} of {} bytes", buf.rec().filled, buf.bytes().len())?;
 /// ```
-pub use gev_types::{Buf, ImageInfo, MAX_BUFFER_SIZE, Record};
+pub use gev_types::{BlockAccount, Buf, Cause, ImageInfo, Lost, MAX_BUFFER_SIZE, Reasons, Record};
 pub use picture_report::{PictureStop, write_picture};

@@ -7,7 +7,7 @@
 //! let came = link.recv(&mut out)?;
 //! ```
 
-pub use gev_far::{FarPorts, PeekLink};
+pub use gev_far::{FarPorts, PeekLink, TimedLink};
 pub use gev_links::{Clock, Failed, Gate, Link, OpenGate, Ports, Sink, Source};
 /// `MemoryClock` is a clock that tells moments of a list.
 ///

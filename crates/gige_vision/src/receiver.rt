@@ -14,5 +14,5 @@
 ///     acq.datagram(&bytes);
 /// }
 /// ```
-pub use acq_core::{Acq, AcqConfig, Cause, Counts, Ended, Held, Need, Retired, Why};
+pub use acq_core::{Acq, AcqConfig, Counts, Ended, Held, Need, Retired, Why};
 pub use gev_types::{MAX_RECEIVED_PAYLOAD_SIZE, MIN_PAYLOAD_SIZE};

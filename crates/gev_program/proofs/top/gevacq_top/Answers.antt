@@ -2,7 +2,7 @@
 use Rattle.std.proofs.Common.{◌≡◌, ◌∙◌, ℕ, Ok, Err, refl}
 use Rattle.gev_top.specs.declared.command.Command.TheVariants.{Replay, Explain}
 use Rattle.gev_top.specs.declared.errand.Errand.{Errand}
-use Rattle.gev_top.specs.declared.errand.Errand.TheVariants.{Plain, Live, Record, Discover, Description, Simulate, Receive}
+use Rattle.gev_top.specs.declared.errand.Errand.TheVariants.{Plain, Live, Record, Discover, Description, Simulate, Receive, Register}
 use Rattle.gev_top.specs.Usage.{Said}
 use Rattle.gev_program.proofs.Errands.{said_is}
 use Rattle.gev_program.proofs.Replaying.{replay_headline, explain_headline}
@@ -44,6 +44,9 @@ returns-in-Ok-clause-discovers g c = λ address is. (does_is _ _ _ _ _ _ _ _ _ _
 
 pub returns-in-Ok-clause-describes : goal.returns-in-Ok-clause-describes
 returns-in-Ok-clause-describes g c = λ camera is. (does_is _ _ _ _ _ _ _ _ _ _ _ (Description camera) c.run_errand.ensures.does (said_is _ _ _ c.in-Ok.ensures.said is)).asks
+
+pub returns-in-Ok-clause-registers : goal.returns-in-Ok-clause-registers
+returns-in-Ok-clause-registers g c = λ asked is. (does_is _ _ _ _ _ _ _ _ _ _ _ (Register asked) c.run_errand.ensures.does (said_is _ _ _ c.in-Ok.ensures.said is)).registers
 
 pub returns-in-Ok-clause-cameras : goal.returns-in-Ok-clause-cameras
 returns-in-Ok-clause-cameras g c = λ asked is. cameras_of _ _ _ _ _ _ _ _ _ _ asked (does_is _ _ _ _ _ _ _ _ _ _ _ asked c.run_errand.ensures.does (said_is _ _ _ c.in-Ok.ensures.said is))
@@ -96,6 +99,9 @@ returns-in-Err-clause-discovers g c = λ _ is. refused _ _ _ c.in-Err.ensures.sa
 
 pub returns-in-Err-clause-describes : goal.returns-in-Err-clause-describes
 returns-in-Err-clause-describes g c = λ _ is. refused _ _ _ c.in-Err.ensures.said is
+
+pub returns-in-Err-clause-registers : goal.returns-in-Err-clause-registers
+returns-in-Err-clause-registers g c = λ _ is. refused _ _ _ c.in-Err.ensures.said is
 
 pub returns-in-Err-clause-cameras : goal.returns-in-Err-clause-cameras
 returns-in-Err-clause-cameras g c = λ _ is. refused _ _ _ c.in-Err.ensures.said is

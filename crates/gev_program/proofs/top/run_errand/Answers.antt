@@ -80,3 +80,14 @@ returns-in-Receive g c = record {
   links_steady = c.run_receive.ensures.links_steady;
   link_fault = c.run_receive.ensures.link_fault;
 }
+
+pub returns-in-Register : goal.returns-in-Register
+returns-in-Register g c = record {
+  understood = c.run_register.ensures.understood;
+  does = does_is _ _ _ _ _ _ _ _ _ _ _ _ (record { registers = c.run_register.ensures.registers; unread = record { left = refl; reads = refl }; unkept = c.requires.unkept; writes_steady = c.run_register.ensures.writes_steady; complete = c.run_register.ensures.complete }) (sym c.in-Register.is);
+  alone = nothing_kept _ _ _ c.requires.unkept;
+  own = nothing_kept _ _ _ c.requires.unkept;
+  few_binds = c.run_register.ensures.binds;
+  links_steady = c.run_register.ensures.links_steady;
+  link_fault = c.run_register.ensures.link_fault;
+}
