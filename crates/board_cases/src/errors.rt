@@ -28,6 +28,7 @@ pub fn record_info(words: &[&str]) -> Option<Answer> {
         data_len: filled,
         filled,
         image: None,
+        account: None,
     };
     Some(Answer::value(loan_info(record, long(words, 5)?)))
 }

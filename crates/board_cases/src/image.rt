@@ -17,5 +17,6 @@ pub fn write_image(buf: &mut Buf, block: u8)
         data_len: 0,
         filled: 0,
         image: None,
+        account: None,
     });
 }

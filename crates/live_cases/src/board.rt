@@ -9,7 +9,7 @@ use crate::printing::print_bytes;
 use anyhow::{Result, anyhow};
 use board_calls::TakeEnd;
 use buffer_words::{Board, Pass, Tried};
-use gev_types::Buf;
+use gev_types::{Buf, Record};
 use live_crew::prepare;
 use output_queue::take;
 use std::alloc::Global;
@@ -57,7 +57,12 @@ fn print_next<R: Wait>(rt: &HostRuntime, handles: &R, board: &Board, pass: &mut 
     match take(handles, board, pass) {
         TakeEnd::Taken(place) => {
             let buf = board.lift(pass, place);
-            print!(rt; "\n  taken {place} {:?} ", buf.rec())?;
+            // (accounts are shown by the rows of frames' lines)
+            let record = Record {
+                account: None,
+                ..buf.rec()
+            };
+            print!(rt; "\n  taken {place} {record:?} ")?;
             print_bytes(rt, buf.bytes())
         }
         TakeEnd::Empty => Ok(()),

@@ -1,7 +1,7 @@
 //! What words ask for.
 
 use super::running::list;
-use camera_words::Settings;
+use camera_words::{Access, RegisterWords, Settings};
 use gev_top::{Errand, read_errand};
 use std::alloc::Global;
 use std::io;
@@ -26,6 +26,7 @@ fn print_errand(rt: &impl Print, errand: &Errand) -> io::Result<()> {
         Errand::Description(address) => print!(rt; "Description {address:08x}"),
         Errand::Simulate(asked) => print!(rt; "{asked:?}"),
         Errand::Receive(settings) => print_settings(rt, settings),
+        Errand::Register(asked) => print_accesses(rt, asked),
     }
 }
 
@@ -67,6 +68,18 @@ fn print_writes(rt: &impl Print, settings: &Settings) -> io::Result<()> {
             " {:?} {:08x} {:08x}",
             write.stage, write.register, write.value
         )?;
+    }
+    Ok(())
+}
+
+/// Prints what `register` is asked for: the camera, and its accesses in their order.
+fn print_accesses(rt: &impl Print, asked: &RegisterWords) -> io::Result<()> {
+    print!(rt; "Register of {:08x}", asked.camera)?;
+    for access in asked.accesses.as_slice() {
+        match access {
+            Access::Read { register } => print!(rt; " {register:08x}")?,
+            Access::Write { register, value } => print!(rt; " {register:08x}={value:08x}")?,
+        }
     }
     Ok(())
 }

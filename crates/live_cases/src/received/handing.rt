@@ -9,7 +9,7 @@ use crate::printing::print_text;
 use crate::received::lines::buffer;
 use anyhow::Result;
 use buffer_words::{Board, Pass};
-use camera_words::Output;
+use camera_words::{LineDigest, Output};
 use frame_writing::{HandedOut, InputWatch, Outlet, Progress, hand_out_frames};
 use gev_links::{Clock, MeetingGate, MemoryClock, MemorySink, MemorySource};
 use std::alloc::Global;
@@ -18,7 +18,8 @@ use std::sync::Wait;
 /// What is written, by its word.
 fn output(word: &str) -> Output {
     match word {
-        "lines" => Output::Lines,
+        "lines" => Output::Lines(LineDigest::Sha256),
+        "bare" => Output::Lines(LineDigest::Omitted),
         "pictures" => Output::Pictures,
         _ => Output::Counts,
     }

@@ -35,6 +35,7 @@ fn make_whole(buf: &mut Buf) -> Result<()> {
         data_len: 3,
         filled: 3,
         image: None,
+        account: None,
     });
     Ok(())
 }

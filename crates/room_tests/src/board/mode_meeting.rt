@@ -42,6 +42,7 @@ fn fill_block<R: Wait>(rt: &R, board: &Board, pass: &mut Pass, block: u64, did: 
         data_len: 0,
         filled: 0,
         image: None,
+        account: None,
     });
     let (end, dropped) = fill_for(rt, board, pass, mode, place, buf);
     match end {

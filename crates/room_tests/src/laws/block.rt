@@ -1,6 +1,6 @@
 //! Each law of one block and of an acquisition is called once, so each can be.
 
-use missing_ranges::Reasons;
+use gev_types::Reasons;
 
 /// Those of ids that are missing, and of why.
 fn laws_of_missing_ids() {
@@ -37,6 +37,7 @@ fn laws_of_images() {
     block_image::leaders_tell_images();
     block_image::records_tell_their_length();
     block_image::records_tell_their_frame();
+    block_image::infos_are_worked();
     block_assembly::verdicts_tell();
     block_assembly::packet_ids_are_those();
     block_assembly::accounts_agree();
@@ -47,9 +48,12 @@ fn laws_of_pictures() {
     frame_pictures::laws::pixels_are_as_wide_as_their_format();
     frame_pictures::laws::plain_frames_are_their_pixels();
     frame_pictures::laws::pictures_are_their_pixels();
+    frame_pictures::laws::heads_tell_their_record();
+    frame_pictures::laws::retired_heads_tell_their_block();
     frame_pictures::laws::held_frames_are_shown();
     frame_pictures::laws::bytes_in_place_are_shown();
     frame_pictures::laws::pictures_are_worked();
+    frame_pictures::laws::formats_are_worked();
 }
 
 /// Those of the order in which blocks open and retire.

@@ -15,6 +15,8 @@ fn laws_of_registers() {
     privilege::one_primary();
     privilege::control_passes();
     privilege::privilege_is_written();
+    privilege::commands_keep_alive();
+    privilege::others_keep_nothing_alive();
 }
 
 /// Those of frames, and of the store that they are sent from again.
@@ -33,6 +35,8 @@ fn laws_of_commands() {
     camera::one_primary();
     camera::control_passes();
     camera::stranger_changes_nothing();
+    camera::one_controls();
+    camera::commands_renew_the_heartbeat();
     camera::refused_write_ends_its_command();
     camera::repeat_is_answered();
     camera::behind_command_is_dropped();
@@ -79,6 +83,7 @@ fn laws_of_clients() {
     client_machine::a_client_keeps_its_limit();
     client_machine::no_answer_comes_after_three_sends();
     client_machine::outcomes_that_end_a_command_are_exact();
+    client_machine::a_client_is_worked();
     world_machine::commands_act_once();
     world_machine::acked_commands_were_executed();
     world_machine::a_line_is_its_client_and_its_camera();

@@ -60,6 +60,7 @@ fn laws_of_traces_can_be_called(_rt: HostRuntime) {
     script_trace::scripts_are_accounted();
     script_trace::explanations_are_judged();
     script_trace::drops_are_worked();
+    script_trace::ends_are_worked();
     live_promises::traces_keep_headline();
     live_promises::runs_keep_headline();
     live_promises::blocks_hold_frames();

@@ -17,6 +17,7 @@ fn laws_of_packets() {
     gvsp_wire::laws::zero_notice_is_refused();
     gvsp_wire::laws::plain_is_one();
     gvsp_wire::laws::packets_have_spellings();
+    gvsp_wire::laws::packets_are_worked();
 }
 
 /// Those of commands and acknowledges.
@@ -51,6 +52,7 @@ fn laws_of_identifiers() {
     gvsp_std::laws::standard_is_widened();
     gvsp_std::laws::narrowed_is_standard();
     gvsp_std::laws::narrowed_is_widened();
+    gvsp_std::laws::standard_is_worked();
 }
 
 #[test]
