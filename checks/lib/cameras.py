@@ -5,6 +5,7 @@ what the formats say.
 
 It needs Linux, where each such address is this machine's. Prints a line for each thing that differs, and ends with 1
 where there is one."""
+import errno
 import itertools
 import os
 import re
@@ -89,6 +90,11 @@ def run(cameras, *words):
         for camera in cameras:
             camera.end()
     return done.returncode, done.stdout, done.stderr.decode()
+
+
+def network_failed(call, number):
+    """What is told where this call failed with this error of the system."""
+    return "gevacq: %s: %s (os error %d)\ngevacq: the network failed\n" % (call, os.strerror(number), number)
 
 
 # ---- discover
@@ -191,7 +197,7 @@ def check_description():
     refused = lambda command, answer: [acknowledge(READMEM, struct.unpack(">H", answer[6:8])[0], b"", 0x8003)]
     description("a URL that is refused", memory((where, b""), 0x10000, data, lambda a, c, s, r: refused(a, r)), b"", 10, "gevacq: refused with status 0x8003\n", reads[:1])
     description("a read that is refused", memory((where, b""), 0x10000, data, lambda a, c, s, r: refused(a, r) if a == 0x10200 else [r]), data[:512], 10, "gevacq: refused with status 0x8003\n", reads[:3])
-    description("a read that isn't answered", memory((where, b""), 0x10000, data, lambda a, c, s, r: [] if a == 0x10200 else [r]), data[:512], 9, "gevacq: no answer to request 3\n", reads[:3] + reads[2:3] * 2)
+    description("a read that isn't answered", memory((where, b""), 0x10000, data, lambda a, c, s, r: [] if a == 0x10200 else [r]), data[:512], 9, "gevacq: request 3 is READMEM 0x00010200\ngevacq: no answer to request 3\n", reads[:3] + reads[2:3] * 2)
     description("half the reads", memory((where, b""), 0x10000, data, lambda a, c, s, r: [r] if s == 1 else []), data, reads=[r for r in reads for _ in (0, 1)])
     wrong = lambda r: [r[:8] + struct.pack(">I", 0) + r[12:], r[:4] + struct.pack(">H", 4) + r[6:12], r[:4] + struct.pack(">H", len(r) - 12) + r[6:-4], b"", r[:-1]]
     description("acknowledges without what was asked for", memory((where, b""), 0x10000, data, lambda a, c, s, r: wrong(r) + [r]), data, reads=reads)
@@ -203,7 +209,7 @@ def check_description():
 def check_words():
     for words, place in ((["discover", "x"], 1), (["discover", "127.0.0.1", "127.0.0.1"], 2), (["discover", "1.2.3.256"], 1), (["discover", "01.2.3.4"], 1), (["discover", "1.2.3"], 1),
                          (["discover", "1.2.3.4.5"], 1), (["discover", ""], 1), (["description"], 1), (["description", "1.2.3"], 1), (["description", "127.0.0.1", "1"], 2),
-                         (["simulate"], 1), (["simulate", "127.0.0"], 1), (["simulate", "127.0.0.1", "1"], 2), (["simulate", "127.0.0.1", "seed=01"], 2), (["simulate", "127.0.0.1", "turns=1", "rate=3"], 3),
+                         (["simulate"], 1), (["simulate", "127.0.0"], 1), (["simulate", "127.0.0.1", "1"], 2), (["simulate", "127.0.0.1", "seed=01"], 2), (["simulate", "127.0.0.1", "turns=1", "rate=0"], 3),
                          (["simulate", "127.0.0.1", "rate=1001"], 2), (["simulate", "127.0.0.1", "turns=0"], 2), (["simulate", "127.0.0.1", "turns=4294967296"], 2), (["simulate", "127.0.0.1", "until=frames"], 2),
                          (["simulate", "127.0.0.1", "seed=1", "until=turns", "turns=1", "seed=1"], 5), (["simulate", "127.0.0.1", "seed=1", "rate=4", "turns=1", "until=turns", "rate=4"], 6)):
         status, out, err = run([], *words)
@@ -214,8 +220,8 @@ def check_words():
 # ---- simulate
 
 CCP, SCP0, SCPS0, SCDA0 = 0x0A00, 0x0D00, 0x0D04, 0x0D18
-# the line that `discover` writes of each simulated camera
-SIMULATED = 'camera 127.0.0.1 mac=02:11:22:33:44:55 mask=255.0.0.0 manufacturer="GEVACQ" model="SIMCAM" version="1.0" serial="0001" name=""\n'
+# the line that `discover` writes of the simulated camera at 127.83.3.1
+SIMULATED = 'camera 127.83.3.1 mac=02:11:22:33:44:55 mask=255.0.0.0 manufacturer="GEVACQ" model="SIMCAM" version="1.0" serial="0001" name=""\n'
 
 
 def await_camera(address):
@@ -312,13 +318,13 @@ def check_simulate():
     if (got[0].returncode, got[0].stdout.decode(), got[0].stderr) != (0, SIMULATED + "end cameras=1\n", b""):
         note("a search beside it", "%r" % got)
     simulated("another one at its address", [a, "until=stdin"], lambda: each("simulate", a), lambda want, frames, turns:
-              (want.returncode, want.stdout, want.stderr) == (6, b"", b"gevacq: the network failed\n") and frames == 0)
+              (want.returncode, want.stdout, want.stderr.decode()) == (6, b"", network_failed("bind", errno.EADDRINUSE)) and frames == 0)
     simulated("no description", [a, "until=stdin", "rate=100"], lambda: each("description", a), lambda want, frames, turns:
               (want.returncode, want.stdout) == (16, b"") and 2 <= turns <= 100)
     simulated("images", [a, "rate=50", "until=stdin", "seed=7"], lambda: streams(a, 2), lambda want, frames, turns: want == frames and 2 <= frames <= turns)
     simulated("a read behind many resend commands", [a, "rate=50", "until=stdin"], lambda: reads_behind(a, 300), lambda want, frames, turns: want)
     done = each("simulate", "192.0.2.1")
-    if (done.returncode, done.stdout, done.stderr) != (6, b"", b"gevacq: the network failed\n"):
+    if (done.returncode, done.stdout, done.stderr.decode()) != (6, b"", network_failed("bind", errno.EADDRNOTAVAIL)):
         note("no address of this machine", "%r" % done)
 
 

@@ -383,6 +383,28 @@ esac
         if asked != "".join(f"register 192.168.10.7 {it}\n" for it in ("0x1014", "0x1014", "0x1000", "0x1060", "0x101c")):
             self.faults.append(f"the program is asked {asked!r}")
 
+    def simulated(self, program):
+        """The rest of a masked register, read from the camera that the program simulates; and what the register is then."""
+        masked = '<MaskedIntReg Name="HeartbeatRegister"><Address>0x0938</Address><Length>4</Length><AccessMode>RW</AccessMode><pPort>Device</pPort>'
+        masked += "<LSB>31</LSB><MSB>24</MSB><Endianess>BigEndian</Endianess></MaskedIntReg>"
+        path = self.write("masked.xml", described(integer("Heartbeat", "HeartbeatRegister") + masked + '<Port Name="Device"/>'))
+        address, place = "127.79.3.1", {"GEVACQ": os.path.abspath(program)}
+        with subprocess.Popen([program, "simulate", address, "rate=1"], stdout=subprocess.DEVNULL) as camera:
+            try:
+                # 3000 is 0x0bb8, and 2821 is 0x0b05
+                self.reads(program, address, "register 0x00000938 value=0x00000bb8\n")
+                self.tells(["--camera", address, "Heartbeat=5"], "set:0x0938=2821", path=path, environment=place)
+                self.tells(["--camera", address, "Heartbeat=5", "--for", "register"], "0x0938=2821", path=path, environment=place)
+                self.reads(program, address, "register 0x00000938 value=0x00000b05\n", "0x0938=2821")
+            finally:
+                camera.kill()
+
+    def reads(self, program, address, wanted, *writes):
+        """What the heartbeat's register of the camera is, behind these writes."""
+        ran = subprocess.run([program, "register", address, *writes, "0x0938"], capture_output=True, text=True, timeout=60)
+        if ran.returncode or ran.stdout != wanted:
+            self.faults.append(f"register {address}: {ran.returncode}, {ran.stdout!r} {ran.stderr!r}, not {wanted!r}")
+
     def hostile(self):
         count = 0
         for data, word, why in hostile():
@@ -392,12 +414,15 @@ esac
 
 
 def main():
+    # (the tool that runs here has words of its own)
+    program = sys.argv[1]
     with tempfile.TemporaryDirectory() as room:
         check = Check(room)
         check.rows()
         check.forms()
         check.lists()
         check.present()
+        check.simulated(program)
         count = check.hostile()
     for fault in check.faults:
         print(f"checks/features: {fault}", file=sys.stderr)
@@ -405,7 +430,7 @@ def main():
         sys.exit(1)
     rows = len(TOLD) + len(REFUSED) + len(USAGE)
     formulas = len(REAL) + len(WHOLE)
-    print(f"checks/features: {rows} lists of names, {formulas} formulas and {count} hostile descriptions come to what they have to")
+    print(f"checks/features: {rows} lists of names, {formulas} formulas and {count} hostile descriptions come to what they have to, and so does a register of a camera")
 
 
 if __name__ == "__main__":

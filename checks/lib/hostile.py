@@ -47,7 +47,7 @@ TEXTS = {
     2: r"gevacq: word \d+ isn't understood\n(usage: gevacq [^\n]*\n)+",
     3: r"gevacq: line \d+: (header|word|number|hex|too long|no end|too many lines)\n",
     7: r"gevacq: out of memory\n",
-    9: r"gevacq: no answer to request \d+\n",
+    9: r"(gevacq: request \d+ is (READREG|WRITEREG|READMEM) 0x[0-9a-f]{8}\n)?gevacq: no answer to request \d+\n",
     10: r"gevacq: refused with status 0x[0-9a-f]{4}\n",
     11: r"gevacq: \d+ turns spent, \d+ frames\n",
     12: r"gevacq: record \d+: (magic|cut off|version|length|interface)\n",
@@ -504,7 +504,7 @@ def judge_record(data, status, text, error):
 
 def end_of_picture(text, at):
     """Where the picture that begins here ends."""
-    found = re.compile(r"(P5|P6)\n(\d+) (\d+)\n(255|1023|4095|16383|65535)\n").match(text, at)
+    found = re.compile(r"(P5|P6)\n# block=\d+ complete=[01] filled=\d+ missing=\d+ time=\d+\n(\d+) (\d+)\n(255|1023|4095|16383|65535)\n").match(text, at)
     wants(found, f"no head of a picture: {text[at:at + 20]!r}")
     width, height, most = (int(found[it]) for it in (2, 3, 4))
     wants(width > 0 and height > 0, "a picture without pixels")

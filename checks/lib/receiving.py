@@ -23,7 +23,7 @@ CAPABILITY, START = 0x0934, 0x0124
 WIDTH, HEIGHT, MONO8 = 64, 48, 0x01080001
 # the payload of a packet of 1500 bytes with standard identifiers
 PAYLOAD = 1500 - 36
-TAKE = r"take \d+\.\d+ block=(\d+) complete=([01]) larger=0 leader=1 len=(\d+) filled=\d+ sha256=([0-9a-f]{64}) width=(\d+) height=(\d+) pixel=0x01080001 time=\d+"
+TAKE = r"take \d+\.\d+ block=(\d+) complete=([01]) larger=0 leader=1 len=(\d+) filled=\d+ sha256=([0-9a-f]{64}) width=(\d+) height=(\d+) pixel=0x01080001 time=\d+ cause=(?:complete|displaced|stopped) missing=0 why=- ids=-"
 END = (r"receive frames=%d taken=(\d+) complete=(\d+) p=(\d+) bytes=(\d+) ids=(standard|extended|none) underrun=\d+ requests=\d+ foreign=\d+ late=\d+"
        r" repeat=\d+ misfit=\d+ starved=\d+ notice=\d+ strangers=(\d+)")
 # What a camera hears of a run with packet size 1500 and one register that starts and stops: ("read", register) or
@@ -222,6 +222,12 @@ def receive(case, address, frames, words=(), status=0, text="", heard=None, judg
         judge(out)
 
 
+def no_answer(request, command):
+    """What is told where this command had no answer."""
+    name = {"read": "READREG", "write": "WRITEREG"}[command[0]]
+    return "gevacq: request %d is %s 0x%08x\ngevacq: no answer to request %d\n" % (request, name, command[1], request)
+
+
 def check_ends():
     a, lines = "127.83.4.1", lambda taken, frames=3, **more: lambda out: judge_lines("lines", out.decode(), frames, taken, **more)
     none = lines(0, ids="none")
@@ -232,7 +238,9 @@ def check_ends():
     receive("control that is refused", a, 3, status=10, text="gevacq: register 0x00000a00 refused with status 0x8006\n", heard=SETUP[:2], judge=none, refused=[CCP])
     some = lambda case, most, **how: lambda out: judge_some(case, out.decode(), most, **how)
     receive("control that is given away", a, 1000, status=17, text=r"gevacq: the camera gave its control away, \d+ frames\n", heard=SETUP, judge=some("given away", 200, cut=True), lost=1)
-    receive("a camera that dies", a, 1000, status=9, text="gevacq: no answer to request 9\n", heard=SETUP, judge=some("dies", 20), dies=20)
+    # (request 9, or a later one where the machine is so busy that 20 images take longer than a second)
+    unheard = r"gevacq: request (\d+) is READREG 0x00000a00\ngevacq: no answer to request \1\n"
+    receive("a camera that dies", a, 1000, status=9, text=unheard, heard=SETUP, judge=some("dies", 20), dies=20)
     receive("chunks", a, 3, ["silence=300"], 14, "gevacq: no leader came, the last foreign datagram: payload-type=0x4001\ngevacq: the camera is silent, 0 frames\n", judge=none, kind=0x4001)
     receive("progress", a, 40, ["progress=200"], text=r"(gevacq: \d+\.\d s, \d+ frames, \d+\.\d/s, \d+\.\d MB/s, \d+ incomplete\n){2,99}", judge=lines(40, frames=40))
     receive("a stranger", a, 3, judge=lines(3, strangers=True), stranger="127.83.4.9")
@@ -244,7 +252,7 @@ def check_steps():
     runs = []
     for deaf in range(len(SETUP + STOP)):
         judge = lambda out, taken=0 if deaf < len(SETUP) else 3: judge_lines("deaf", out.decode(), 3, taken, ids="standard" if taken else "none")
-        how = dict(status=9, text="gevacq: no answer to request %d\n" % (deaf + 1), heard=(SETUP + STOP)[:deaf], judge=judge, deaf=deaf)
+        how = dict(status=9, text=no_answer(deaf + 1, (SETUP + STOP)[deaf]), heard=(SETUP + STOP)[:deaf], judge=judge, deaf=deaf)
         runs.append(threading.Thread(target=receive, args=("no answer behind %d commands" % deaf, "127.83.6.%d" % (deaf + 1), 3), kwargs=how))
     for run in runs:
         run.start()
@@ -254,13 +262,14 @@ def check_steps():
 
 def check_pipes():
     a = "127.83.4.2"
-    pictures = lambda blocks: b"".join(b"P5\n%d %d\n255\n" % (WIDTH, HEIGHT) + image(block) for block in blocks)
+    comment = lambda block: b"# block=%d complete=1 filled=%d missing=0 time=%d\n" % (block, WIDTH * HEIGHT, 7 * block)
+    pictures = lambda blocks: b"".join(b"P5\n%s%d %d\n255\n" % (comment(block), WIDTH, HEIGHT) + image(block) for block in blocks)
 
     def judge(out):
         first = next((it for it in range(1, 60) if out.startswith(pictures([it]))), 0)
         wants("pictures", "bytes", out, pictures(range(first, first + 5)))
 
-    receive("pictures", a, 5, ["as=pictures", "mode=0"], judge=judge)
+    receive("pictures", a, 5, ["as=pictures", "mode=0"], text=END % 5 + "\n", judge=judge)
 
     def close(run):
         read = b""
